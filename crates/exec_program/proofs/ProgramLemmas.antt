@@ -19,7 +19,7 @@ use Rattle.exec_program.specs.Asked.{Asked}
 use Rattle.exec_program.specs.Program.{Does, RunsAt}
 use Rattle.exec_program.specs.Runs.{RunsOn}
 
--- a run over a fresh disk in memory
+-- a session over a fresh disk in memory
 pub runs_in_memory : {F L A S R W H : Type 0} (refuses : Bool) (asked : Asked F L A S R W H) (tend : A → ChildrenView) (gives : S → Source)
     (left : R → Option (List ℕ)) (contents : W → Option (List ℕ)) (look : F → View) (o : Options) (log : L) (place : JournalPlace)
     (disk : RamDisk Global) (ended : Result Unit Fault) → place ≡ Memory → IsFresh (record { a = []; b = [] }) disk

@@ -1,4 +1,4 @@
--- What may be asked for, from the arguments down to what a part of the program asks.
+-- What the program may ask for, from its arguments down to the requests of its parts.
 use Rattle.std.proofs.Common.{◌≡◌, ◌∙◌, ⊎_elim, ℕ, List, Option, Some, None, ap, inl, inr, refl, subst, sym, Bor}
 use Rattle.ocf_types.specs.State.{State}
 use Rattle.disk_model.specs.View.{View}
@@ -15,26 +15,26 @@ use Rattle.exec_program.specs.Requests.{Allows, IsAskedFor, IsFoundIn, IsFoundOn
 use Rattle.exec_program.specs.Requests.{AskSite, AwaitOrphans, LeaveWord, MakeAgents, OpenFiles, OpenLog, OpenReader, OpenWriter}
 use Rattle.exec_program.specs.Requests.{PrintText, RunOnce, ShowJournal, WatchPaths, WriteLine}
 
--- where the arguments ask for a journal, what its subcommand asks for may be asked for
+-- where the arguments ask for a journal, the requests of its subcommand are allowed
 pub allows_journal : {F L A S R W H : Type 0} (asked : Asked F L A S R W H) (look : F → View) (named : Option (List ℕ)) (words : List (List ℕ))
     (may : Request L → Type 0) (w : Wanted) (o : Options) → AsksFor named words w → w ≡ wanted.Journal o
     → Allows may (IsAskedFor asked look named words) → Allows may (IsOfSubcommand asked look o o.subcommand)
 allows_journal asked look named words may w o asks is allows r h =
     allows r (inl (o, subst (λ (x : Wanted). AsksFor named words x) is asks, h))
 
--- where they ask for an action that is run once, it may be run
+-- where they ask for one action by itself, that request is allowed
 pub allows_once : {F L A S R W H : Type 0} (asked : Asked F L A S R W H) (look : F → View) (named : Option (List ℕ)) (words : List (List ℕ))
     (may : Request L → Type 0) (w : Wanted) (o : OnceOptions) → AsksFor named words w → w ≡ wanted.Once o
     → Allows may (IsAskedFor asked look named words) → may (RunOnce o)
 allows_once asked look named words may w o asks is allows =
     allows (RunOnce o) (inr (inl (o, subst (λ (x : Wanted). AsksFor named words x) is asks, refl)))
 
--- of a subcommand that is known
+-- the same of a subcommand that is known
 pub allows_as : {F L A S R W H : Type 0} (asked : Asked F L A S R W H) (look : F → View) (may : Request L → Type 0) (o : Options)
     (s t : Subcommand) → s ≡ t → Allows may (IsOfSubcommand asked look o s) → Allows may (IsOfSubcommand asked look o t)
 allows_as asked look may o s t is allows = subst (λ (x : Subcommand). Allows may (IsOfSubcommand asked look o x)) is allows
 
--- what is asked of the directory that the options name, at some of these states, is asked of it at all of them
+-- the requests about the journal's directory at some of these states are requests about it at all of them
 more_found : {L : Type 0} (found more : State → Type 0) (o : Options)
     → ((folder : List ℕ) (s : State) → folder_of o.journal ≡ Some folder → found s → more s)
     → (r : Request L) → IsOfFolder found o r → IsOfFolder more o r
@@ -52,7 +52,7 @@ more_found found more o holds (ShowJournal given place) h = absurd h
 more_found found more o holds (RunOnce once) h = absurd h
 more_found found more o holds (PrintText text) h = absurd h
 
--- and so of a run: one that may ask for more may ask for less
+-- a session that may ask for more may ask for less
 more_in_run : {F L A S R W H : Type 0} (asked : Asked F L A S R W H) (found more : State → Type 0) (o : Options)
     → ((folder : List ℕ) (s : State) → folder_of o.journal ≡ Some folder → found s → more s)
     → (r : Request L) → IsOfRun found asked o r → IsOfRun more asked o r
@@ -63,7 +63,7 @@ allows_less : {F L A S R W H : Type 0} (asked : Asked F L A S R W H) (may : Requ
     → Allows may (IsOfRun more asked o) → Allows may (IsOfRun found asked o)
 allows_less asked may found more o holds allows r h = allows r (more_in_run asked found more o holds r h)
 
--- a run over files that were asked for, and one in memory, which has no directory
+-- a session over files that were asked for, and one in memory, which has no directory
 pub allows_on_files : {F L A S R W H : Type 0} (asked : Asked F L A S R W H) (look : F → View) (may : Request L → Type 0) (o : Options)
     (folder : Bor (List ℕ)) (disk : F) → o.journal ≡ Folder folder → asked.files folder.now o.any_owner disk
     → Allows may (IsOfRun (IsFoundIn asked look o) asked o) → Allows may (IsOfRun (IsFoundOn look disk) asked o)

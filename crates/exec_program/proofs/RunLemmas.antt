@@ -1,4 +1,4 @@
--- How a run begins.
+-- How a session begins.
 use Rattle.std.proofs.Common.{◌≡◌, ◌∙◌, ap, ℕ, List, [], Option, Result, subst}
 use Rattle.disk_model.specs.View.{View}
 use Rattle.child_model.specs.Children.{ChildrenView}
@@ -13,7 +13,7 @@ use Rattle.exec_session.specs.Rules.{Rules}
 use Rattle.exec_session.specs.Spots.{at_of}
 use Rattle.exec_trace.specs.Edges.{EdgeView}
 
--- an edge of which nothing was asked yet, and what a client has received, by its parts
+-- an edge of which nothing was asked yet, and a client's view, by their fields
 abbrev pub edge_with : {D : Type 0} → Option (List ℕ) → Heard D → EdgeView D
 edge_with left heard = record { left = left; heard = heard; events = [] }
 
@@ -25,14 +25,14 @@ heard_is : {D : Type 0} (opened x : Sight D) (told : List Said) (written held : 
 heard_is opened x told written held e f h =
     ap (λ (a : Sight _). heard_with a told written) e ∙ (ap (λ (t : List Said). heard_with x t written) f ∙ ap (λ (w : Option (List ℕ)). heard_with x [] w) h)
 
--- the edge of a run over this executor begins so
+-- the edge of a session over this executor begins like this
 pub edge_begins : {D : Type 0} (from : EdgeView D) (left : Option (List ℕ)) (opened x : Sight D) (told : List Said)
     (written held : Option (List ℕ)) → from ≡ edge_with left (heard_with opened told written) → opened ≡ x → told ≡ [] → written ≡ held
     → from ≡ edge_with left (heard_with x [] held)
 edge_begins from left opened x told written held is e f h =
     is ∙ ap (λ (a : Heard _). edge_with left a) (heard_is opened x told written held e f h)
 
--- how a run ended that began so, with metadata from there
+-- how a session ended that began like this, with metadata from this source
 pub ended_from : {D C N S : Type 0} (look : D → View) (tend : C → ChildrenView) (gives : S → Source) (s source : S) (rules : Rules)
     (report : Report N) (x : Sight D) (from begins edge : EdgeView D) (ended : Result Unit Fault) (disk : D) (children : C)
     → s ≡ source → from ≡ begins → Ended look tend (gives s) rules report (at_of x from) edge ended disk children

@@ -1,4 +1,4 @@
--- Why a program ends as it does.
+-- Why the program ends as it does.
 use Rattle.std.proofs.Common.{inl, inr, ⊎_elim, ◌||◌, ℕ, List, Result, Ok, Err, Option, ap, refl, subst, sym, ◌≡◌, is_some, Bool, IsTrue, true}
 use Rattle.disk_model.specs.View.{View}
 use Rattle.child_model.specs.Children.{ChildrenView}
@@ -24,7 +24,7 @@ use Rattle.exec_session.specs.Ends.{Ended, EndsAs}
 use Rattle.journal_folder.specs.Ends.{IsFolderEnd}
 use Rattle.exec_program.specs.Starts.{EndsFor, IsEndOf, IsToldAs, StartEndsFor, opening_fault, with_status}
 
--- a run does not end by its arguments
+-- a session does not end because of its arguments
 ends : {D N T : Type 0} (look : D → View) (source : Source) (rules : Rules) (report : Report N)
     (p q : Position D) (r : Result T Fault)
     → EndsAs look source rules report p q r → IsRunEnd r
@@ -54,7 +54,7 @@ pub run_ends : {D C N : Type 0} (look : D → View) (tend : C → ChildrenView) 
 run_ends look tend source rules report p edge ended disk children ends_so =
     ends look source rules report p (position (spot ends_so.last edge.heard edge.events) edge.left) ended ends_so.ends
 
--- a run whose report nobody reads does not end by its arguments, and neither does one whose end is that of a run
+-- a session whose report nobody reads does not end because of its arguments, and neither does one that ended as sessions do
 pub unheard_ends : (T : Type 0) (f : Fault) → f ≡ fault.InputOrOutput → IsRunEnd {T = T} (Err f)
 unheard_ends T f is = subst (λ x. IsRunEnd {T = T} (Err x)) (sym is) tt
 
@@ -69,7 +69,7 @@ opening_end T opening.Memory = tt
 opening_end T opening.Foreign = tt
 opening_end T opening.Full = tt
 
--- and it wants memory only where its opening did
+-- its cause is want of memory only where that was the opening's
 pub opening_cause : (refuses : Bool) (why : OpenError) → (why ≡ opening.Memory → IsTrue refuses) → HasCause refuses (opening_fault why)
 opening_cause refuses opening.Disk cause = tt
 opening_cause refuses (opening.Damaged damage) cause = tt
@@ -77,7 +77,7 @@ opening_cause refuses opening.Memory cause = cause refl
 opening_cause refuses opening.Foreign cause = tt
 opening_cause refuses opening.Full cause = tt
 
--- a run whose report nobody reads wants no memory
+-- a session whose report nobody reads does not end for want of memory
 pub unheard_cause : (refuses : Bool) (f : Fault) → f ≡ fault.InputOrOutput → HasCause refuses f
 unheard_cause refuses f is = subst (λ (x : Fault). HasCause refuses x) (sym is) tt
 
@@ -128,15 +128,14 @@ folder_ends named words o r gives is_in =
     ⊎_elim (journal_ends named words o r gives)
     (⊎_elim (λ is. subst (λ x. EndsFor named words x) (sym is) (o, gives, is_in)) (λ is. subst (λ x. EndsFor named words x) (sym is) (o, gives, is_in)))
 
--- arguments that ask for what ends so
+-- arguments whose options allow this end
 pub options_end : {T : Type 0} (home : Option (List ℕ)) (words : List (List ℕ)) (o : Options) (r : Result T Fault) → Gives home words o
     → IsEndOf o r → EndsFor home words r
 options_end {T} home words o r gives =
     ⊎_elim (journal_ends home words o r gives)
     (⊎_elim (λ is. subst (λ x. EndsFor home words x) (sym is.0) (o, gives, is.1)) (λ is. folder_ends home words o r gives is.0 is.1))
 
--- why a program ends as it does that is given these arguments: they ask for a journal, for an action that is run once, or for
--- nothing
+-- why the program ends as it does with these arguments: they ask for a journal, for one action by itself, or for nothing
 pub starts_journal : (home : Option (List ℕ)) (words : List (List ℕ)) (o : Options) (r : Result (Unit {0}) Fault) (ended : Result ℕ Fault)
     → Gives home words o → IsEndOf o r → ended ≡ with_status r → StartEndsFor home words ended
 starts_journal home words o r ended gives ends is = inr (r, is, options_end home words o r gives ends)
@@ -161,7 +160,7 @@ pub starts_asked_once : (home : Option (List ℕ)) (words : List (List ℕ)) (w 
 starts_asked_once home words w o ended asks is =
     starts_once home words o ended (subst (λ (x : Wanted). AsksFor home words x) is asks)
 
--- how a run of a journal, or a look at one, ends: on its disk, in its directory, or since its log is not opened
+-- how a session over a journal, or a view of one, ends: on its disk, in its directory, or because its log is not opened
 pub ends_on_disk : {T : Type 0} (o : Options) (r : Result T Fault) → IsRunEnd r → IsEndOf o r
 ends_on_disk o r ends = inl ends
 

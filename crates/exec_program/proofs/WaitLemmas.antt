@@ -1,4 +1,4 @@
--- How is waited for what is left of interrupted actions.
+-- The wait for what is left of interrupted actions.
 use Rattle.std.proofs.Common.{◌≡◌, ℕ, List, Some, inl, subst, sym, Bor}
 use Rattle.ocf_env.specs.Places.{SiteView}
 use Rattle.ocf_types.specs.State.{State}
@@ -13,7 +13,7 @@ use Rattle.exec_program.specs.Asked.{Asked}
 use Rattle.exec_program.specs.Starts.{site_of}
 use Rattle.exec_program.specs.Waits.{WaitsAt, WaitsFor}
 
--- a journal of a directory was read, and what is left was waited for at the site of the options
+-- a journal in a directory was read, and the program waited for what is left, at the site of the options
 pub waits_in : {F L A S R W H D : Type 0} (asked : Asked F L A S R W H) (look : D → View) (o : Options) (old under new : D) (left : List Left)
     (place : JournalPlace) (folder : Bor (List ℕ)) (p : Place) (s : State) (site : SiteView)
     → place ≡ Folder folder → OpensAt p s (look old) (look under) → new ≡ under → site ≡ site_of o

@@ -1,4 +1,4 @@
--- What the system is asked for.
+-- What the system was asked for.
 use Rattle.std.specs.Prelude.{ℕ, Bool, List, [], Option, None, Result}
 use Rattle.clap.specs.declared.error.Error.{Error}
 use Rattle.ocf_env.specs.Places.{SiteView}
@@ -9,10 +9,10 @@ use Rattle.exec_options.specs.declared.once.OnceOptions.{OnceOptions}
 use Rattle.exec_options.specs.declared.options.Options.{Options}
 use Rattle.exec_output.specs.declared.fault.Fault.{Fault}
 
--- What a system was asked for, with what it gave: each relation holds of what one method was given and gave. Texts are bytes, times
--- milliseconds.
+-- What a system was asked for, with its answers: each relation holds of the arguments and the answer of one method. Texts are bytes,
+-- times are milliseconds.
 pub record Asked (Files Log Agents Source Reader Writer Watch : Type 0) : Type 1 where
-  -- the files of the journal in a directory, of any owner or not; why there are none
+  -- the files of the journal in a directory, of any owner or not; why they were not opened
   pub files : List ℕ → Bool → Files → Type 0
   pub no_files : List ℕ → Bool → Fault → Type 0
   -- where agents write, by the file and the directory that are named; that it was not opened
@@ -26,21 +26,21 @@ pub record Asked (Files Log Agents Source Reader Writer Watch : Type 0) : Type 1
   pub moment : ℕ → Type 0
   -- whether SIGCHLD is ignored. POSIX, sigaction
   pub ignored : Bool → Type 0
-  -- the wait for what is left of a state's actions: of the journal of a directory, for so long, leaving it alive or not, at
-  -- a site; what lives on, or that nobody reads of it
+  -- the wait for what is left of a state's actions: the directory of the journal, the limit, whether to leave alive what outlives it, and
+  -- the site; the processes that live on, or `None` where nobody reads the report
   pub orphans : List ℕ → ℕ → Bool → SiteView → State → Option (List Left) → Type 0
   -- the record of an executor in a directory
   pub word : List ℕ → Type 0
-  -- the paths of the journal of a directory, and that they lead elsewhere
+  -- the paths of a directory's journal as they are watched, and that they lead elsewhere
   pub watch : Option (List ℕ) → Watch → Type 0
   pub moved : Watch → Type 0
   -- a line on standard output
   pub line : List ℕ → Type 0
-  -- what the options ask to see of the journal of a directory, or of one in memory
+  -- the answer of `show` and its kin, for the journal of a directory or for one in memory
   pub shown : Options → Option (List ℕ) → Result Unit Fault → Type 0
   pub once : OnceOptions → ℕ → Type 0
   pub printed : Error → Type 0
 
--- agents of which none was started, with a book of this many answers, at any site
+-- no agent process yet, with a book of this many answers, at any site
 abbrev pub fresh_agents : ℕ → ChildrenView
 fresh_agents book = record { book = []; log = []; room = book; last_run = 0; live = []; site = None }

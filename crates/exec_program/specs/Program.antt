@@ -23,13 +23,13 @@ use Rattle.exec_program.specs.Asked.{Asked}
 use Rattle.exec_program.specs.Runs.{RunsOn}
 use Rattle.exec_program.specs.Starts.{IsToldAs, with_status}
 
--- what a look at a journal prints is what the options ask for of that directory, or of memory, and it ends as that did
+-- a view of a journal shows what the options ask for, of that directory or of memory, and ends as that did
 abbrev pub Looks : {F L A S R W H : Type 0} → Asked F L A S R W H → Options → JournalPlace → Result Unit Fault → Type 0
 Looks asked o (Folder folder) ended = asked.shown o (Some folder.now) ended
 Looks asked o Memory ended = asked.shown o None ended
 
--- how the program ends where agents are started, which write to this log: over the files of that directory, which are not always
--- there, or over a fresh disk in memory; over a disk by want of memory only where the allocator refuses growths
+-- How the program ends in `run` and `serve`, with agents that write to this log: over the files of the directory, which may not be there,
+-- or over a fresh disk in memory. Over a disk it ends for want of memory only where the allocator refuses growths.
 abbrev pub RunsAt : {F L A S R W H : Type 0} → Bool → Asked F L A S R W H → (A → ChildrenView) → (S → Source)
     → (R → Option (List ℕ)) → (W → Option (List ℕ)) → (F → View) → Options → L → JournalPlace → Result Unit Fault → Type 0
 RunsAt {F} refuses asked tend gives left contents look o log (Folder folder) ended =
@@ -39,7 +39,7 @@ RunsAt refuses asked tend gives left contents look o log Memory ended =
     (disk : RamDisk Global) × IsFresh (record { a = []; b = [] }) disk × RunsOn asked tend gives left contents view_of o log disk ended
     × IfErr ended (HasCause refuses)
 
--- the same where the end of an agent would be seen, and where agents write as the options say
+-- the same where the end of an agent process would be seen, and agents write where the options say
 abbrev pub RunsFor : {F L A S R W H : Type 0} → Bool → Asked F L A S R W H → (A → ChildrenView) → (S → Source)
     → (R → Option (List ℕ)) → (W → Option (List ℕ)) → (F → View) → Options → Result Unit Fault → Type 0
 RunsFor {L = L} refuses asked tend gives left contents look o ended =
@@ -56,15 +56,15 @@ DoesAs refuses asked tend gives left contents look o subcommand.Run ended = Runs
 DoesAs refuses asked tend gives left contents look o subcommand.Serve ended = RunsFor refuses asked tend gives left contents look o ended
 DoesAs refuses asked tend gives left contents look o _ ended = Looks asked o o.journal ended
 
--- the text is printed that answers arguments which give no options, where there is one
+-- where arguments give no options and a text answers them, that text is printed
 abbrev pub Prints : {F L A S R W H : Type 0} → Asked F L A S R W H → WordsFault → Type 0
 Prints asked (words_fault.Help text) = asked.printed text
 Prints asked (words_fault.Usage text) = asked.printed text
 Prints asked _ = ⊤
 
--- The program does what its arguments ask for, where the environment names this directory for a journal, and ends so: with
--- a journal; by an action that is run once, whose status is its own; or with a text or a fault, where they give no options: with want of
--- memory only where the allocator refuses growths.
+-- What the program does with these arguments, where the environment names this directory for a journal, and how it ends: with a journal;
+-- by one action, whose exit status it takes; or, where they give no options, with a text or a fault. The fault is want of memory only
+-- where the allocator refuses growths.
 abbrev pub Does : {F L A S R W H : Type 0} → Bool → Asked F L A S R W H → (A → ChildrenView) → (S → Source)
     → (R → Option (List ℕ)) → (W → Option (List ℕ)) → (F → View) → Option (List ℕ) → List (List ℕ) → Result ℕ Fault → Type 0
 Does refuses asked tend gives left contents look named words ended =

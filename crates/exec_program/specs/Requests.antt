@@ -1,4 +1,4 @@
--- What may be asked of the system: what the arguments call for, and nothing else.
+-- What the system may be asked for: what the arguments call for, and nothing else.
 use Rattle.std.specs.Prelude.{◌≡◌, ◌⊎◌, ℕ, ⊤, Bool, true, List, Option, Some, option_map, is_some}
 use Rattle.clap.specs.declared.error.Error.{Error}
 use Rattle.ocf_env.specs.Places.{SiteView}
@@ -19,32 +19,32 @@ use Rattle.exec_program.specs.Limits.{book_room}
 use Rattle.exec_program.specs.Runs.{disk_line, served_folder}
 use Rattle.exec_program.specs.Starts.{site_of}
 
--- A request to open, start, await, read, write or show something, with what it is given. Texts are bytes, times milliseconds.
+-- A request to open, spawn, await, read, write or show something, with its arguments. Texts are bytes, times are milliseconds.
 pub data Request (Log : Type 0) : Type 0 where
   -- the files of the journal in a directory
   OpenFiles : Options → List ℕ → Request Log
-  -- the wait for what is left of a state's actions, as `Asked` has it; the record of an executor in a directory
+  -- the wait for what is left of a state's actions, as in `Asked`; the record of an executor in a directory
   AwaitOrphans : List ℕ → ℕ → Bool → SiteView → State → Request Log
   LeaveWord : List ℕ → Request Log
-  -- where agents write; agents that write there, with a book of this many answers; the metadata of those of a site
+  -- where agents write; agents that write there, with a book of this many answers; the metadata of the agents of a site
   OpenLog : Option (List ℕ) → Option (List ℕ) → Request Log
   MakeAgents : Log → ℕ → Request Log
   AskSite : SiteView → Request Log
-  -- standard input, and standard output and the paths of the journal of a directory, if it is served; a line on standard output
+  -- standard input; standard output and the watched paths of the journal, if it is served; a line on standard output
   OpenReader : Request Log
   OpenWriter : Option (List ℕ) → Request Log
   WatchPaths : Option (List ℕ) → Request Log
   WriteLine : List ℕ → Request Log
-  -- what the options ask to see of the journal of a directory, or of one in memory; an action that is run once; a text
+  -- a view of the journal of a directory, or of one in memory; one action by itself; a text
   ShowJournal : Options → Option (List ℕ) → Request Log
   RunOnce : OnceOptions → Request Log
   PrintText : Error → Request Log
 
--- all these requests may be made
+-- all these requests are allowed
 abbrev pub Allows : {L : Type 0} → (Request L → Type 0) → (Request L → Type 0) → Type 0
 Allows {L} may asks = (r : Request L) → asks r → may r
 
--- a state that the journal on this disk was opened at
+-- a state at which the journal on this disk opens
 abbrev pub IsFoundOn : {D : Type 0} → (D → View) → D → State → Type 0
 IsFoundOn {D} look disk state = (p : Place) × ((new : D) × OpensAt p state (look disk) (look new))
 
@@ -53,7 +53,7 @@ abbrev pub IsFoundIn : {F L A S R W H : Type 0} → Asked F L A S R W H → (F �
 IsFoundIn {F} asked look o state =
     (folder : List ℕ) × ((disk : F) × (folder_of o.journal ≡ Some folder) × asked.files folder o.any_owner disk × IsFoundOn look disk state)
 
--- what a run asks of the directory of its journal, at which these states are found
+-- the requests of a session about the directory of its journal, which opens at these states
 abbrev pub IsOfFolder : {L : Type 0} → (State → Type 0) → Options → Request L → Type 0
 IsOfFolder found o (OpenFiles given folder) = (given ≡ o) × (folder_of o.journal ≡ Some folder)
 IsOfFolder found o (AwaitOrphans folder limit leave site state) =
@@ -61,7 +61,7 @@ IsOfFolder found o (AwaitOrphans folder limit leave site state) =
 IsOfFolder found o (LeaveWord folder) = folder_of o.journal ≡ Some folder
 IsOfFolder found o _ = ⊥
 
--- of agents, which write to the log that the options name
+-- its requests about agents, which write to the log that the options name
 abbrev pub IsOfAgents : {F L A S R W H : Type 0} → Asked F L A S R W H → Options → Request L → Type 0
 IsOfAgents asked o (OpenLog file folder) = (file ≡ option_map (λ s. s.now) o.log) × (folder ≡ option_map (λ s. s.now) o.logs)
 IsOfAgents asked o (MakeAgents log book) =
@@ -69,7 +69,7 @@ IsOfAgents asked o (MakeAgents log book) =
 IsOfAgents asked o (AskSite site) = site ≡ site_of o
 IsOfAgents asked o _ = ⊥
 
--- of the standard streams: a line by itself only where the journal that is served is gone
+-- its requests about the standard streams: a line by itself only where the served journal is gone
 abbrev pub IsOfStreams : {F L A S R W H : Type 0} → Asked F L A S R W H → Options → Request L → Type 0
 IsOfStreams asked o OpenReader = ⊤
 IsOfStreams asked o (OpenWriter served) = served ≡ served_folder o
@@ -78,14 +78,16 @@ IsOfStreams {H = H} asked o (WriteLine line) = (line ≡ disk_line) × (is_some 
     × ((watch : H) × asked.watch (served_folder o) watch × asked.moved watch)
 IsOfStreams asked o _ = ⊥
 
+-- the requests of a session
 abbrev pub IsOfRun : {F L A S R W H : Type 0} → (State → Type 0) → Asked F L A S R W H → Options → Request L → Type 0
 IsOfRun found asked o r = IsOfFolder found o r ⊎ (IsOfAgents asked o r ⊎ IsOfStreams asked o r)
 
+-- the request of a view of a journal
 abbrev pub IsOfLook : {L : Type 0} → Options → Request L → Type 0
 IsOfLook o (ShowJournal given place) = (given ≡ o) × (folder_of o.journal ≡ place)
 IsOfLook o _ = ⊥
 
--- what a subcommand asks for, by these options
+-- the requests of a subcommand, by these options
 abbrev pub IsOfSubcommand : {F L A S R W H : Type 0} → Asked F L A S R W H → (F → View) → Options → Subcommand → Request L → Type 0
 IsOfSubcommand asked look o subcommand.Run r = IsOfRun (IsFoundIn asked look o) asked o r
 IsOfSubcommand asked look o subcommand.Serve r = IsOfRun (IsFoundIn asked look o) asked o r
@@ -96,8 +98,8 @@ abbrev pub IsOfFault : {L : Type 0} → WordsFault → Request L → Type 0
 IsOfFault fault (PrintText text) = (fault ≡ words_fault.Help text) ⊎ (fault ≡ words_fault.Usage text)
 IsOfFault fault _ = ⊥
 
--- These arguments call for this request, where the environment names this directory for a journal: as the options of a subcommand say,
--- to run an action once, or to print a text.
+-- These arguments call for this request, where the environment names this directory for a journal: by the options of a subcommand, to run
+-- one action, or to print a text.
 abbrev pub IsAskedFor : {F L A S R W H : Type 0} → Asked F L A S R W H → (F → View) → Option (List ℕ) → List (List ℕ) → Request L → Type 0
 IsAskedFor asked look named words r =
     ((o : Options) × Gives named words o × IsOfSubcommand asked look o o.subcommand r)

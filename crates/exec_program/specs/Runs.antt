@@ -1,4 +1,4 @@
--- A run over a disk, and how it ends.
+-- A session over a disk, and how it ends.
 use Rattle.std.specs.Prelude.{◌≡◌, ◌⊎◌, ℕ, ⊤, true, codes, List, [], Option, Some, None, option_map, Result, Err, is_some}
 use Rattle.std.specs.declared.alloc.Global.{Global}
 use Rattle.disk_model.specs.View.{View}
@@ -30,39 +30,39 @@ use Rattle.exec_program.specs.Limits.{book_room, most_turns}
 use Rattle.exec_program.specs.Starts.{opening_fault, site_of}
 use Rattle.exec_program.specs.Waits.{IsUnheard, WaitsFor}
 
--- how a run goes that a subcommand asks for
+-- the mode of the session that a subcommand asks for
 abbrev pub way_of : Subcommand → Way
 way_of subcommand.Serve = way.Serve
 way_of _ = way.Run
 
--- the directory whose journal a run serves, which may rest for long without a call of its device
+-- the directory whose journal is served; long times may pass without a call of its device
 abbrev pub served_at : Subcommand → JournalPlace → Option (List ℕ)
 served_at subcommand.Serve (Folder folder) = Some folder.now
 served_at _ _ = None
 
+-- the same, by the options
 abbrev pub served_folder : Options → Option (List ℕ)
 served_folder o = served_at o.subcommand o.journal
 
--- what a run that serves says of itself: its version, the directory of its journal, if it has one, and which processes live on of
+-- what a session in `serve` says of itself: the version, the directory of its journal, if it has one, and the processes that live on from
 -- interrupted actions
 pub record ServiceView : Type 0 where
   pub version : List ℕ
   pub journal : Option (List ℕ)
   pub left : List Left
 
--- the same, as the lines of this form say it: nothing where they are short
+-- the same, as lines of this form give it: nothing where they are short
 abbrev pub service_in : NoticeForm → Option ServiceView
 service_in Short = None
 service_in (Timed s) =
     Some (record { version = s.version.now; journal = option_map (λ folder. folder.now) s.journal; left = s.left.now })
 
--- a client that is served is sent the version of the program, the directory that the options name, as they name it, and which processes
--- live on
+-- A client of `serve` is sent the program's version, the directory as the options name it, and the processes that live on.
 abbrev pub service_of : Options → List Left → Way → Option ServiceView
 service_of o left way.Run = None
 service_of o left way.Serve = Some (record { version = VERSION.now; journal = served_folder o; left = left })
 
--- a run is held to what these options ask for, where these processes live on
+-- a session keeps to these options, where these processes live on
 pub record IsHeldTo (o : Options) (left : List Left) (rules : Rules) : Type 0 where
   pub way : rules.way ≡ way_of o.subcommand
   pub form : service_in rules.form ≡ service_of o left (way_of o.subcommand)
@@ -74,18 +74,18 @@ abbrev pub LeavesWord : {F L A S R W H : Type 0} → Asked F L A S R W H → Jou
 LeavesWord asked (Folder folder) = asked.word folder.now
 LeavesWord asked Memory = ⊤
 
--- the last line of a run that serves and ends by its disk
+-- the last line of a session in `serve` that its disk ends
 abbrev pub disk_line : List ℕ
 disk_line = codes "{\"end\":\"disk\"}\n"
 
--- how the program ends by how its run did: so too, or by its disk where the run broke off and the journal that it serves is gone
+-- how the program ends after its session: in the same way, or by its disk where the session broke off and the served journal is gone
 abbrev pub EndsBy : {F L A S R W H : Type 0} → Asked F L A S R W H → Options → H → Result Unit Fault → Result Unit Fault → Type 0
 EndsBy asked o watch ran ended =
     (ended ≡ ran)
     ⊎ ((ran ≡ Err fault.InputOrOutput) × (ended ≡ Err fault.Disk) × (is_some (served_folder o) ≡ true) × asked.moved watch × asked.line disk_line)
 
--- what a run is given before its executor is opened: its agents, which write to this log, with a book as a turn wants; the
--- wait for what is left, over which its disk comes from one state to another; and the moment of the opening
+-- What a session is given before its executor is opened: its agents, which write to this log, with a book of the capacity that a turn
+-- needs; the wait for what is left, which takes its disk from one state to another; and the time of the opening.
 pub record Stands {F L A S R W H D : Type 0} (asked : Asked F L A S R W H) (tend : A → ChildrenView) (look : D → View) (o : Options)
     (log : L) (old new : D) (agents : A) (left : List Left) (now : ℕ) : Type 0 where
   pub logs : asked.agents log agents
@@ -93,8 +93,8 @@ pub record Stands {F L A S R W H D : Type 0} (asked : Asked F L A S R W H) (tend
   pub waited : WaitsFor asked look o old new left o.journal
   pub shown : asked.moment now
 
--- An executor was opened over this disk, at the site that the options name, and the run that was begun then ended so: its
--- report is that of the opening, and the first that standard output was sent (`Ended`: `Runs`).
+-- An executor was opened over this disk, at the site that the options name, and the session that began then ended like this. Its report
+-- is the opening's, and is the first output (`Ended`: `Runs`).
 pub record Runs {F L A S R W H D : Type 0} (asked : Asked F L A S R W H) (tend : A → ChildrenView) (gives : S → Source)
     (left : R → Option (List ℕ)) (contents : W → Option (List ℕ)) (look : D → View) (o : Options) (log : L) (begun : D)
     (ended : Result Unit Fault) : Type 0 where
@@ -141,8 +141,8 @@ pub record RunsNot {F L A S R W H D : Type 0} (asked : Asked F L A S R W H) (ten
   pub refused : NotOpened (look disk) (look last_disk) (tend agents) (tend last_agents) now why
   pub ends : ended ≡ Err (opening_fault why)
 
--- How the program ends over a disk: by a run; since no executor was opened; since there was no memory before its disk was asked for
--- anything; or since nobody reads what is left of interrupted actions.
+-- How the program ends over a disk: with a session; because no executor was opened; for want of memory before the disk was asked for
+-- anything; or because nobody reads which processes live on.
 abbrev pub RunsOn : {F L A S R W H D : Type 0} → Asked F L A S R W H → (A → ChildrenView) → (S → Source)
     → (R → Option (List ℕ)) → (W → Option (List ℕ)) → (D → View) → Options → L → D → Result Unit Fault → Type 0
 RunsOn asked tend gives left contents look o log begun ended =

@@ -1,4 +1,4 @@
--- From the arguments to a run.
+-- From the arguments to a session.
 use Rattle.std.specs.Prelude.{◌≡◌, ◌⊎◌, ◌||◌, ℕ, ⊤, true, List, Option, is_some, option_map, Result, Ok, Err}
 use Rattle.ocf_env.specs.Places.{SiteView}
 use Rattle.exec_options.specs.Faults.{AsksForText, IsFault, IsMisused}
@@ -14,24 +14,25 @@ use Rattle.executor.specs.declared.opening.OpenError.{OpenError}
 use Rattle.executor.specs.declared.opening.OpenError.TheVariants as opening
 use Rattle.journal_folder.specs.Ends.{IsFolderEnd}
 
--- the exit status: the one that is asked for, or that of the fault
+-- the exit status: the one that was asked for, or that of the fault
 abbrev pub status_of_end : Result ℕ Fault → ℕ
 status_of_end (Ok status) = status
 status_of_end (Err f) = status_of f
 
--- a run or a look that ends well ends with status 0
+-- a success is status 0
 abbrev pub with_status : {T : Type 0} → Result T Fault → Result ℕ Fault
 with_status (Ok done) = Ok 0
 with_status (Err f) = Err f
 
--- where these options say that agents are
+-- the site of these options
 abbrev pub site_of : Options → SiteView
 site_of o = record { root = o.root.now; path = o.path.now; via = option_map (λ s. s.now) o.via; meta = o.meta_variables }
 
+-- the site of one action by itself
 abbrev pub once_site_of : OnceOptions → SiteView
 once_site_of o = record { root = o.root.now; path = o.path.now; via = option_map (λ s. s.now) o.via; meta = o.meta_variables }
 
--- what an executor that was not opened ends the program with; fresh children are never of another journal
+-- the fault of an executor that was not opened; fresh agents are never of another journal
 abbrev pub opening_fault : OpenError → Fault
 opening_fault opening.Disk = fault.Disk
 opening_fault (opening.Damaged damage) = fault.Damaged damage
@@ -39,7 +40,7 @@ opening_fault opening.Memory = fault.Memory
 opening_fault opening.Foreign = fault.Disk
 opening_fault opening.Full = fault.Full
 
--- how arguments end that give no options: a text that was asked for is written, or output fails
+-- how the program ends where arguments give no options: a text that was asked for is written, or output fails
 abbrev pub IsToldAs : {T : Type 0} → WordsFault → Result T Fault → Type 0
 IsToldAs (words_fault.Help text) (Ok done) = ⊤
 IsToldAs (words_fault.Help text) (Err f) = f ≡ fault.InputOrOutput
@@ -52,7 +53,7 @@ IsToldAs words_fault.Since ended = ended ≡ Err fault.Usage
 IsToldAs words_fault.Timeout ended = ended ≡ Err fault.Usage
 IsToldAs words_fault.Memory ended = ended ≡ Err fault.Memory
 
--- the arguments ask to run or to show a journal, where the environment names this directory
+-- the arguments ask for a session over a journal or a view of one, where the environment names this directory
 abbrev pub AsksForJournal : Option (List ℕ) → List (List ℕ) → Type 0
 AsksForJournal named words = (o : Options) × Gives named words o
 
@@ -60,18 +61,18 @@ AsksForJournal named words = (o : Options) × Gives named words o
 abbrev pub IsInFolder : Option (List ℕ) → List (List ℕ) → Type 0
 IsInFolder named words = (o : Options) × Gives named words o × (is_some (folder_of o.journal) ≡ true)
 
--- the arguments name a file or a directory for what agents write
+-- the arguments name a file or a directory for the output of agents
 abbrev pub AsksForLog : Option (List ℕ) → List (List ℕ) → Type 0
 AsksForLog named words = (o : Options) × Gives named words o × ((is_some o.log || is_some o.logs) ≡ true)
 
--- how a run of a journal, or a look at one, ends that these options ask for: as on any disk, since the file for what agents write is not
--- opened, or since the files of the journal are not, or hold none
+-- how a session over a journal, or a view of one, ends with these options: as on any disk; because the file for the output of agents is
+-- not opened; or because the files of the journal are not, or hold none
 abbrev pub IsEndOf : {T : Type 0} → Options → Result T Fault → Type 0
 IsEndOf o ended =
     IsRunEnd ended
     ⊎ (((ended ≡ Err fault.Log) × ((is_some o.log || is_some o.logs) ≡ true)) ⊎ ((is_some (folder_of o.journal) ≡ true) × IsFolderEnd ended))
 
--- why a program ends so whose arguments ask for a journal, or for nothing
+-- why the program ends like this: the arguments ask for a journal, or for nothing
 abbrev pub EndsFor : {T : Type 0} → Option (List ℕ) → List (List ℕ) → Result T Fault → Type 0
 EndsFor named words (Ok done) = AsksForText named words ⊎ AsksForJournal named words
 EndsFor named words (Err fault.Usage) = IsMisused named words
@@ -87,7 +88,7 @@ EndsFor named words (Err fault.NoJournal) = IsInFolder named words
 EndsFor named words (Err fault.InputOrOutput) = AsksForText named words ⊎ AsksForJournal named words
 EndsFor named words (Err _) = AsksForJournal named words
 
--- why a program that is given these arguments ends so: an action that is run once ends with a status of its own
+-- why the program ends like this with these arguments; one action by itself ends with a status of its own
 abbrev pub StartEndsFor : Option (List ℕ) → List (List ℕ) → Result ℕ Fault → Type 0
 StartEndsFor named words ended =
     ((o : OnceOptions) × GivesOnce words o) ⊎ ((r : Result (Unit {0}) Fault) × (ended ≡ with_status r) × EndsFor named words r)

@@ -1,4 +1,4 @@
--- How is waited for what is left of interrupted actions, before an executor is opened.
+-- The wait for what is left of interrupted actions, before an executor is opened.
 use Rattle.std.specs.Prelude.{◌≡◌, ◌⊎◌, ℕ, List, [], Option, Some, None}
 use Rattle.ocf_types.specs.State.{State}
 use Rattle.disk_model.specs.View.{View}
@@ -12,8 +12,8 @@ use Rattle.exec_options.specs.declared.options.Options.{Options}
 use Rattle.exec_program.specs.Asked.{Asked}
 use Rattle.exec_program.specs.Starts.{site_of}
 
--- The journal of a directory was read, from one view of its disk to another, and what is left of the actions that run at
--- its state was waited for, as the options say: this lives on, or nobody reads of it.
+-- The journal of a directory was read, which took its disk from one view to another, and the program waited for what is left of the
+-- actions that run at its state, as the options say. These processes live on, or nobody reads which do.
 pub record WaitsAt {F L A S R W H : Type 0} (asked : Asked F L A S R W H) (o : Options) (folder : List ℕ) (old new : View)
     (left : Option (List Left)) : Type 0 where
   pub place : Place
@@ -26,12 +26,12 @@ abbrev pub WaitsIn : {F L A S R W H : Type 0} → Asked F L A S R W H → Option
 WaitsIn asked o folder old new left =
     WaitsAt asked o folder old new (Some left) ⊎ ((f : JournalFault) × FailsToOpen f old new × (left ≡ []))
 
--- the same of the journal at this place, over which its disk comes from one state to another: in memory there is nothing to wait for
+-- the same of the journal here, where its disk goes from one state to another: in memory there is nothing to wait for
 abbrev pub WaitsFor : {F L A S R W H D : Type 0} → Asked F L A S R W H → (D → View) → Options → D → D → List Left → JournalPlace → Type 0
 WaitsFor asked look o old new left (Folder folder) = WaitsIn asked o folder.now (look old) (look new) left
 WaitsFor asked look o old new left Memory = (new ≡ old) × (left ≡ [])
 
--- it was waited for what is left in a directory, over this disk, and nobody reads of it
+-- the program waited for what is left in a directory, over this disk, and nobody reads the report
 abbrev pub IsUnheard : {F L A S R W H D : Type 0} → Asked F L A S R W H → (D → View) → Options → D → JournalPlace → Type 0
 IsUnheard {D = D} asked look o old (Folder folder) = (disk : D) × WaitsAt asked o folder.now (look old) (look disk) None
 IsUnheard asked look o old Memory = ⊥

@@ -1,4 +1,4 @@
-//! How a run ends.
+//! How a session ends.
 ghost use Rattle.std.specs.Prelude.{◌≡◌, IfErr};
 ghost use Rattle.exec_output.specs.Faults.{HasCause, IsRunEnd};
 ghost use Rattle.exec_program.specs.Requests.{Allows, IsOfStreams};
@@ -14,10 +14,10 @@ use file_disk::TellsError;
 use growth::Grows;
 use std::alloc::Global;
 
-// The last line of a run that serves and ends by its disk.
+// The last line of a session in `serve` that its disk ends.
 const DISK_LINE: &[u8] = b"{\"end\":\"disk\"}\n";
 
-/// What an executor that was not opened ends the program with.
+/// The fault of an executor that was not opened.
 pub fn opening_fault(why: OpenError) -> Fault
     ensures { result ≡ opening_fault why }
 {
@@ -25,13 +25,13 @@ pub fn opening_fault(why: OpenError) -> Fault
         OpenError::Disk => Fault::Disk,
         OpenError::Damaged(damage) => Fault::Damaged(damage),
         OpenError::Memory => Fault::Memory,
-        // the children are fresh at each opening, and never of another journal
+        // agents are fresh at each opening, and never of another journal
         OpenError::Foreign => Fault::Disk,
         OpenError::Full => Fault::Full,
     }
 }
 
-/// How it ended on this disk. A fault of the device is said here, since the disk knows more of it than the fault says.
+/// Reports a fault of the device, of which the disk knows more than the fault holds, and returns the end unchanged.
 pub fn told<H: Host, D: TellsError>(
     host: &H,
     options: Options,
@@ -46,8 +46,8 @@ pub fn told<H: Host, D: TellsError>(
     ended
 }
 
-/// How the program ends whose run ended so over watched paths: by its device, with the line of such an end, if it broke off since
-/// they lead elsewhere.
+/// How the program ends after a session over watched paths: if it broke off because they lead elsewhere, by its device, with the line of
+/// such an end.
 pub fn ended_over<H: Host>(
     host: &H,
     options: Options,

@@ -1,4 +1,4 @@
-//! The system as the program asks it.
+//! The system that the program runs on.
 ghost use Rattle.std.specs.Prelude.{◌≡◌, ◌≤◌, ◌||◌, true, is_some, option_map, IfErr, IfOk, IsTrue, OnErr, None, Some};
 ghost use Rattle.exec_output.specs.Faults.{IsRunEnd};
 ghost use Rattle.journal_folder.specs.Ends.{IsFolderEnd, IsNotOpened};
@@ -21,23 +21,23 @@ use std::alloc::{AllocError, Global};
 use std::io::{self, Write};
 use std::rt::Clock;
 
-/// How is waited for what is left of the actions that a journal finds interrupted.
+/// How to wait for what is left of the actions that a journal finds interrupted.
 #[derive(Clone, Copy)]
 pub struct Wait<'a> {
     /// The directory of the journal.
     pub folder: &'a str,
-    /// How long at most, in milliseconds.
+    /// The limit, in milliseconds.
     pub limit: u64,
-    /// Whether what outlives the wait lives on. It is ended otherwise.
+    /// Whether to leave alive what outlives the wait, and not to kill it.
     pub leave: bool,
 }
 
-/// The system as the program asks it, with a method for each thing that it gives.
+/// The system that the program runs on, with a method for each thing that it gives.
 ///
-/// A clause cannot say what a system does. So `asked` leaves open what it means to have asked for something, a relation for each
-/// method: a program that is proved for all such relations has asked for just what its contract says, since there is no other way to
-/// them. What was asked once stays asked. And `may` leaves open what may be asked for: each method that opens, starts, awaits, reads, writes
-/// or shows something requires that its request is in this set. So a program that is proved for all such sets, of which it is given the
+/// A clause cannot say what a system does. So `asked` leaves open what it means to have asked for something, a relation for each method.
+/// A program that is proved for all such relations has asked for exactly what its contract says, since nothing else gives such a fact.
+/// What was asked once stays asked. And `may` leaves open what may be asked for: each method that opens, spawns, awaits, reads, writes or
+/// shows something requires that its request is in this set. So a program that is proved for all such sets, and is given only the
 /// requests of its contract, makes no others.
 pub trait Host {
     /// The files of a journal.
@@ -46,7 +46,7 @@ pub trait Host {
     /// Where agents write.
     type Log: Drop;
 
-    /// Agents.
+    /// Agents: they spawn and reap agent processes.
     type Agents: Children + Drop;
 
     /// The metadata of agents.
@@ -74,14 +74,14 @@ pub trait Host {
     /// The allocator.
     fn alloc(&self) -> Global;
 
-    /// The files of the journal in this directory, of any owner or not as the options say. Why there are none is said by the host.
+    /// The files of the journal in this directory, of any owner or not as the options say. The host reports why they were not opened.
     fn files(&self, options: Options, folder: &str) -> Result<Self::Files, Fault>
         requires { may self.now (OpenFiles options folder.now) }
         ensures files { IfOk result ((asked self.now).files folder.now options.entry.any_owner) }
         ensures none { IfErr result ((asked self.now).no_files folder.now options.entry.any_owner) }
         ensures fault { IsNotOpened result };
 
-    /// Where agents write: in the files of a directory, if one is named, else in one file. Why it was not opened is said by the host.
+    /// Where agents write: in the files of a directory, if one is named, else in one file. The host reports why it was not opened.
     fn log(&self, log: Option<&str>, logs: Option<&str>) -> Result<Self::Log, Fault>
         requires { may self.now (OpenLog (option_map (λ s. s.now) log) (option_map (λ s. s.now) logs)) }
         ensures log { IfOk result
@@ -91,7 +91,7 @@ pub trait Host {
         ensures fault { IfErr result
             (λ f. (f ≡ Fault.Log) × ((is_some log.entry || is_some logs.entry) ≡ true)) };
 
-    /// Agents, none yet, that write there, with a book of this many answers.
+    /// Agents that write there, with no agent process yet and a book of this many answers.
     fn agents(&self, log: Self::Log, book: usize) -> Result<Self::Agents, AllocError>
         requires { may self.now (MakeAgents log book) }
         ensures agents { IfOk result ((asked self.now).agents log) }
@@ -103,7 +103,7 @@ pub trait Host {
         requires { may self.now (AskSite site) }
         ensures { (asked self.now).source site result };
 
-    /// Asks no agent any more.
+    /// Stops asking agents for metadata.
     fn give_up(&self, source: Self::Source);
 
     /// Standard input.
@@ -112,7 +112,7 @@ pub trait Host {
         ensures reader { IfOk result (asked self.now).reader }
         ensures memory { OnErr result (IsTrue ⟦<Global as Grows>⟧.refuses) };
 
-    /// Standard output, which counts as read only while the journal of this directory, if one is named, is where it was.
+    /// Standard output. If a directory is named, it counts as read only while the journal of that directory is where it was.
     fn writer(&self, served: Option<&str>) -> Self::Writer
         requires { may self.now (OpenWriter (option_map (λ s. s.now) served)) }
         ensures { (asked self.now).writer (option_map (λ s. s.now) served.entry) result };
@@ -126,25 +126,25 @@ pub trait Host {
     /// The clocks of the system.
     fn ticker(&self) -> Self::Ticker;
 
-    /// The moment that the system's clock shows, in milliseconds since 1970.
+    /// The time of the system's clock, in milliseconds since 1970.
     fn moment(&self) -> u64
         ensures { (asked self.now).moment result };
 
-    /// Whether the end of an agent would not be seen, since SIGCHLD is ignored.
+    /// Whether SIGCHLD is ignored, so that the end of an agent process would not be seen.
     fn children_ignored(&self) -> bool
         ensures { (asked self.now).ignored result };
 
-    /// Says which signals are ignored.
+    /// Reports which signals are ignored.
     fn tell_ignored(&self);
 
-    /// Waits for what is left of the actions that run at this state, of agents at this site. What lives on, with its run; `None`
-    /// once nobody can read what would be reported.
+    /// Waits for what is left of the actions that run at this state, of agents at this site. Gives the processes that live on, with their
+    /// runs; `None` once nobody can read the report.
     fn await_orphans(&self, wait: Wait<'_>, site: &Site, state: &State) -> Option<Vec<Left>>
         requires { may self.now (AwaitOrphans wait.folder.now wait.limit wait.leave site.now state.now.state) }
         ensures { (asked self.now).orphans wait.entry.folder.now wait.entry.limit wait.entry.leave site.now
             state.now.state (option_map (λ v. v.items) result) };
 
-    /// Records in this directory the executor whose clock shows this moment.
+    /// Records in this directory the executor whose clock shows this time.
     fn leave_word(&self, folder: &str, moment: u64)
         requires { may self.now (LeaveWord folder.now) }
         ensures { (asked self.now).word folder.now };
@@ -154,7 +154,7 @@ pub trait Host {
         requires { may self.now (WatchPaths (option_map (λ s. s.now) served)) }
         ensures { (asked self.now).watch (option_map (λ s. s.now) served.entry) result };
 
-    /// It is an error if such a path leads to another file by now, or to none.
+    /// Fails if one of these paths now leads to another file, or to none.
     fn check(&self, watch: &Self::Watch) -> Result<(), FileError>
         ensures { OnErr result ((asked self.now).moved watch.now) };
 
@@ -175,28 +175,28 @@ pub trait Host {
         ensures shown { (asked self.now).shown options.entry None result }
         ensures ends { IsRunEnd result };
 
-    /// Runs an action once; the exit status that says how it ended.
+    /// Runs one action by itself, and gives the exit status for its result.
     fn once(&self, options: &OnceOptions<'_>) -> u8
         requires { may self.now (RunOnce options.now) }
         ensures { (asked self.now).once options.now result };
 
-    /// Prints a text of the command line: one that was asked for to standard output, another one to standard error.
+    /// Prints a text of the command line: to standard output if it was asked for, else to standard error.
     fn print(&self, text: &Error) -> io::Result<()>
         requires { may self.now (PrintText text.now) }
         ensures { (asked self.now).printed text.now };
 
-    /// Says a line on standard error.
+    /// Writes a line to standard error.
     fn say(&self, line: &str);
 
-    /// Says that a text that was asked for could not be written, and why.
+    /// Reports that a text that was asked for could not be written, and why.
     fn tell_unwritten(&self, error: io::Error);
 
-    /// Says that nobody reads any more what would be reported.
+    /// Reports that nobody can read the report any more.
     fn tell_unheard(&self);
 
-    /// Says that the journal's device failed, and what it answered.
+    /// Reports that the journal's device failed, and its error.
     fn tell_device(&self, options: Options, met: Option<FileError>);
 
-    /// Says why a run ended before its input did, where standard input or output failed.
+    /// Reports why a session ended before its input did, where standard input or output failed.
     fn tell_run(&self, ended: Result<(), Fault>);
 }

@@ -1,4 +1,4 @@
-//! The program as one function over the system that it asks.
+//! The program as one function over the system.
 #![tactic(auto)]
 
 mod ends;

@@ -1,4 +1,4 @@
-//! What a run is held to by its options.
+//! What the options set for a session.
 ghost use Rattle.std.specs.Prelude.{◌≡◌, option_map};
 ghost use Rattle.exec_program.specs.Runs.{IsHeldTo, served_folder, service_in, service_of, way_of};
 ghost use Rattle.exec_session.specs.Rules.{rules_of};
@@ -11,7 +11,7 @@ use exec_options::{JournalPlace, Options, Subcommand, VERSION};
 use exec_session::{Pace, RunContext, Way};
 use std::alloc::Global;
 
-// How a run goes that this subcommand asks for.
+// The mode of the session that this subcommand asks for.
 fn way_of(subcommand: Subcommand) -> Way
     ensures { result ≡ way_of subcommand }
 {
@@ -25,7 +25,7 @@ fn way_of(subcommand: Subcommand) -> Way
     }
 }
 
-/// The directory whose journal a run serves, which may rest for long without a device call.
+/// The directory whose journal is served; long times may pass without a call of its device.
 pub fn served_folder<'a>(options: Options<'a>) -> Option<&'a str>
     ensures { option_map (λ s. s.now) result ≡ served_folder options.entry }
 {
@@ -35,8 +35,8 @@ pub fn served_folder<'a>(options: Options<'a>) -> Option<&'a str>
     }
 }
 
-// What a notice says, and what a run says of itself: a client that is served need not ask when an action began and ended, which process
-// lives on of it, and of which version and which journal the run is.
+// The form of notices, and what a session says of itself. A client of `serve` need not ask when an action began and ended and which
+// process of it lives on, nor for the version and the journal of the session.
 fn form_of<'a>(options: Options<'a>, left: &'a [Left]) -> NoticeForm<'a>
     ensures { service_in result ≡ service_of options.entry left.now (way_of options.entry.subcommand) }
 {
@@ -50,7 +50,7 @@ fn form_of<'a>(options: Options<'a>, left: &'a [Left]) -> NoticeForm<'a>
     }
 }
 
-/// What a run is given besides its executor and its edge, where these processes live on.
+/// The context of a session, where these processes live on.
 pub fn context_of<'a, M>(
     alloc: Global,
     options: Options<'a>,
@@ -71,7 +71,7 @@ pub fn context_of<'a, M>(
     }
 }
 
-/// Which lines of results the options ask for: with their priority where standard error goes to the system's journal.
+/// The lines about results that the options ask for; they have a priority where standard error goes to the system's journal.
 pub fn events_of<H: Host>(host: &H, options: Options) -> Events {
     if !options.events {
         Events::None

@@ -1,4 +1,4 @@
-//! A run over a journal: its executor, its standard streams, and how it ends.
+//! A session over a journal: its executor, its standard streams, and how it ends.
 ghost use Rattle.std.specs.Prelude.{◌≡◌, ℕ, List, Some, IfErr, IfOk, IsTrue, OnErr, option_map};
 ghost use Rattle.exec_options.specs.Words.{folder_of};
 ghost use Rattle.exec_output.specs.Faults.{HasCause, IsRunEnd};
@@ -29,7 +29,7 @@ use ocf_env::Site;
 use std::alloc::{AllocError, Global};
 use std::rt::Clock;
 
-// The agents of a run; twice where they are, for its executor and for their metadata; and room for its lines.
+// The agents of a session; their site twice, for its executor and for their metadata; and the buffer for its lines.
 fn prepared<H: Host>(
     host: &H,
     options: Options,
@@ -49,7 +49,7 @@ fn prepared<H: Host>(
     Ok((agents, own, site, room))
 }
 
-// Records this executor beside its journal, if that is in files, with the moment that its clock shows.
+// Records this executor beside its journal, if that is in files, with the time of its clock.
 fn leave_own_word<H: Host>(host: &H, options: Options, clock: &impl Clock)
     requires may { (folder : List ℕ) → folder_of options.journal ≡ Some folder
         → H.may host.now (LeaveWord folder) }

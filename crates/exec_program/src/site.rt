@@ -7,7 +7,7 @@ use growth::{Grows, text_of};
 use ocf_env::{Site, Text};
 use std::alloc::{AllocError, Global};
 
-// What options of either kind say of a site.
+// The site in options of either kind.
 #[derive(Clone, Copy)]
 struct Place<'a> {
     root: &'a str,
@@ -42,7 +42,7 @@ fn site_at(alloc: Global, place: Place) -> Result<Site, AllocError>
     Ok(Site::new(root, path, via).with_meta(place.meta_variables))
 }
 
-/// Where the options say that agents are. It fails only where memory is refused.
+/// The site that the options name. It fails only where memory is refused.
 pub fn site_of(alloc: Global, options: Options) -> Result<Site, AllocError>
     ensures site { IfOk result (λ s. s ≡ site_of options.entry) }
     ensures memory { OnErr result (IsTrue ⟦<Global as Grows>⟧.refuses) }
@@ -56,7 +56,7 @@ pub fn site_of(alloc: Global, options: Options) -> Result<Site, AllocError>
     site_at(alloc, place)
 }
 
-/// The same of an action that is run once.
+/// The site for one action by itself.
 pub fn site_of_once(alloc: Global, options: &OnceOptions) -> Result<Site, AllocError>
     ensures site { IfOk result (λ s. s ≡ once_site_of options.now) }
     ensures memory { OnErr result (IsTrue ⟦<Global as Grows>⟧.refuses) }

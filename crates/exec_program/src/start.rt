@@ -1,4 +1,4 @@
-//! From the arguments to a run.
+//! From the arguments to a session.
 ghost use Rattle.std.specs.Prelude.{◌≡◌, map, option_map, string_bytes};
 ghost use Rattle.exec_program.specs.Program.{Does, DoesAs, Looks, Prints, RunsFor};
 ghost use Rattle.exec_program.specs.Requests.{Allows, IsAskedFor, IsFoundIn, IsOfFault, IsOfLook, IsOfRun, IsOfSubcommand};
@@ -13,7 +13,7 @@ use growth::Grows;
 use std::alloc::Global;
 use std::io::ErrorKind;
 
-// What ends well ends with status 0.
+// A success is status 0.
 fn with_status(ended: Result<(), Fault>) -> Result<u8, Fault>
     ensures { result ≡ with_status ended }
 {
@@ -23,7 +23,7 @@ fn with_status(ended: Result<(), Fault>) -> Result<u8, Fault>
     }
 }
 
-// How the program ends where its arguments give no options. A text that was asked for is printed, and so is that of a usage fault.
+// How the program ends where its arguments give no options. A text that was asked for is printed, and so is the text of a usage fault.
 fn refuse<H: Host>(host: &H, fault: &WordsFault) -> Result<(), Fault>
     requires may { Allows (H.may host.now) (IsOfFault fault.now) }
     ensures told { IsToldAs fault.now result }
@@ -32,7 +32,7 @@ fn refuse<H: Host>(host: &H, fault: &WordsFault) -> Result<(), Fault>
     match fault {
         WordsFault::Help(text) => match host.print(text) {
             Ok(()) => Ok(()),
-            // who asked has read enough
+            // the reader has read enough
             Err(error) if error.kind() == ErrorKind::BrokenPipe => Ok(()),
             Err(error) => {
                 host.tell_unwritten(error);
@@ -59,8 +59,8 @@ fn refuse<H: Host>(host: &H, fault: &WordsFault) -> Result<(), Fault>
     }
 }
 
-/// Does what these arguments ask for, the program's name first, where the environment names this directory for a journal; the
-/// exit status that it ends with.
+/// Does what these arguments ask for, the program's name first, where the environment names this directory for a journal. Gives the exit
+/// status.
 #[tactic(auto, using(crate::proofs::StartLemmas::starts_journal, crate::proofs::StartLemmas::starts_once, crate::proofs::StartLemmas::starts_nothing))]
 pub fn program<H: Host>(host: &H, named: Option<&str>, words: &[String]) -> Result<u8, Fault>
     requires may { Allows (H.may host.now) (IsAskedFor (H.asked host.now) H.Files.view
@@ -92,7 +92,7 @@ fn on_journal<H: Host>(host: &H, options: Options) -> Result<(), Fault>
     }
 }
 
-// Shows of a journal what these options ask for.
+// Shows a view of a journal, as these options ask.
 #[tactic(auto, using(crate::proofs::StartLemmas::ends_on_disk, crate::proofs::StartLemmas::ends_in_folder))]
 fn look<H: Host>(host: &H, options: Options) -> Result<(), Fault>
     requires may { Allows (H.may host.now) (IsOfLook options) }
@@ -105,7 +105,7 @@ fn look<H: Host>(host: &H, options: Options) -> Result<(), Fault>
     }
 }
 
-// Starts agents as these options ask for.
+// Opens a session over a journal, as these options ask.
 #[tactic(auto, using(crate::proofs::StartLemmas::ends_on_disk, crate::proofs::StartLemmas::ends_in_folder, crate::proofs::StartLemmas::ends_without_log))]
 fn start_agents<H: Host>(host: &H, options: Options) -> Result<(), Fault>
     requires may { Allows (H.may host.now) (IsOfRun

@@ -12,8 +12,8 @@ use exec_options::{JournalPlace, Options};
 use exec_output::Fault;
 use ocf_env::Site;
 
-/// Waits for what is left of the actions that a journal finds interrupted, before their interruption is recorded; what lives on.
-/// Why a journal cannot be read is found once more when it is opened. It fails once nobody can read what would be reported.
+/// Waits for what is left of the actions that a journal finds interrupted, before their interruption is recorded, and gives the processes
+/// that live on. A journal that cannot be read is reported when it is opened again. It fails once nobody can read the report.
 pub fn await_interrupted<H: Host, D: Disk + Drop>(
     host: &H,
     options: Options,

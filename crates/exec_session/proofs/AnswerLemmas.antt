@@ -1,4 +1,4 @@
--- What a line is answered, as the relations say it.
+-- The reply to a line, as the relations give it.
 use Rattle.std.proofs.Common.{◌≡◌, ◌+◌, ◌↔◌, ℕ, Bool, true, false, [], ◌∷◌, Result, Ok, inl, inr, refl, sym, ap, subst, true≢false, ◌∙◌}
 use Rattle.ocf_types.specs.Kinds.{Reply, Request}
 use Rattle.ocf_types.specs.declared.refusal.Refusal.{Refusal}
@@ -29,7 +29,7 @@ use Rattle.exec_session.proofs.StepLemmas.{step_after}
 
 module _ {D : Type 0} (look : D → View) (source : Source) (rules : Rules) where
   module _ (tells_so : Telling D) where
-    -- what an open executor answers
+    -- the reply of an open executor
     pub open_answered : (found : Result Line Refusal) (reply : LineReply) (p noticed q : Spot D) → p.executor.is_open ≡ true
         → IsOpenReply look source rules p noticed found reply → tells_so noticed q (Answered reply ∷ [])
         → AnswersSo tells_so look source rules found p q
@@ -40,7 +40,7 @@ module _ {D : Type 0} (look : D → View) (source : Source) (rules : Rules) wher
       tells = tells;
     }
 
-    -- what a closed one answers
+    -- the reply of a closed one
     pub closed_answered : (found : Result Line Refusal) (reply : LineReply) (p q : Spot D) → p.executor.is_open ≡ false
         → IsClosedReply source found reply → tells_so p q (Answered reply ∷ []) → AnswersSo tells_so look source rules found p q
     closed_answered found reply p q closed is tells = record {
@@ -50,7 +50,7 @@ module _ {D : Type 0} (look : D → View) (source : Source) (rules : Rules) wher
       tells = tells;
     }
 
-    -- a request, at the moment that the clock showed
+    -- a request, at the clock reading
     pub request_answered : (now : ℕ) (request : Request) (x r y : Sight D) (e : EdgeView D) (p m : Position D) (q : Spot D) (given : Reply)
         → m ≡ noted p (Shown now) → at_of x e ≡ m → p.at.executor.is_open ≡ true → MakesRoom look rules now x r
         → (r.is_open ≡ true → Serves look now request r y given) → (r.is_open ≡ false → (given ≡ Refused refusal.Disk) × (y ≡ r))
@@ -70,7 +70,7 @@ module _ {D : Type 0} (look : D → View) (source : Source) (rules : Rules) wher
           closes = closes;
         }) tells
 
-  -- the reply of a send that was made, or broke off, after what was kept
+  -- the reply after what was kept, sent whole or in part
   pub answers_step : {T E : Type 0} (r : Result T E) (found : Result Line Refusal) (reply : LineReply) (p m q : Position D) → Keeps p m
       → ((tells_so : Telling D) → tells_so m.at q.at (Answered reply ∷ []) → AnswersSo tells_so look source rules found p.at q.at)
       → Sends rules.form (Answered reply ∷ []) m q r
@@ -78,7 +78,7 @@ module _ {D : Type 0} (look : D → View) (source : Source) (rules : Rules) wher
   answers_step r found reply p m q keeps answers sends =
       step_after p m q r keeps sends (λ tells. answers (Tells rules.form) tells) (λ tells. inl (answers (TellsPart rules.form) tells))
 
-  -- a drain or a watch, of which this is an open executor's answer
+  -- a drain or a watch, whose reply is an open executor's
   pub drain_step : {T E : Type 0} (r : Result T E) (found : Result Line Refusal) (ends_idle : Bool) (limit : ℕ) (p q : Position D)
       → p.at.executor.is_open ≡ true
       → ((noticed : Spot D) (reply : LineReply) → DrainsFor look ends_idle limit rules p.at noticed reply
@@ -102,7 +102,7 @@ module _ {D : Type 0} (look : D → View) (rules : Rules) (ends_idle : Bool) (li
   abbrev Held : ℕ → Terms
   Held most = record { ends_idle = ends_idle; until = start + most; most = rules.most_turns }
 
-  -- a drain from the moment that the clock showed
+  -- a drain from the clock reading on
   pub drains_for : (end : DrainEnd) → n ≡ limit → m ≡ noted p (Shown start) → Drains look rules (Held n) start m.at q.at end
       → DrainsFor look ends_idle limit rules p.at q.at (answer.Drain end)
   drains_for end same is drains = (

@@ -1,4 +1,4 @@
--- How a run ends, or breaks off.
+-- How a session ends, or breaks off.
 use Rattle.std.proofs.Common.{◌≡◌, [], ◌∷◌, Result, Ok, Err, IsErr, inl, inr, refl, subst}
 use Rattle.ocf_types.specs.declared.reply.TurnEnd.TheVariants.{Disk}
 use Rattle.disk_model.specs.View.{View}
@@ -21,7 +21,7 @@ ends_err look source rules p q (Ok x) bad breaks = let none : ⊥ = cc in absurd
 ends_err look source rules p q (Err e) bad breaks = breaks
 
 module _ {D : Type 0} (look : D → View) (source : Source) (rules : Rules) (p q : Position D) (m : Spot D) where
-  -- that a disk fault ends the run was sent, or its sending broke off
+  -- the line that a disk fault ends the session was sent, or it broke off
   pub fault_told : {E : Type 0} (w : Position D) (r : Result Unit E) → w.at ≡ m → ReachesFault look source rules p m
       → Sends rules.form (ended Disk ∷ []) w q r → EndsOrBreaks look source rules p q r
   fault_told w (Ok done) same fault sends =
@@ -41,7 +41,7 @@ module _ {D : Type 0} (look : D → View) (source : Source) (rules : Rules) (p q
     cause = sends.cause;
   }
 
-  -- the run was asked to end, and ended in order or broke off
+  -- the session was asked to end, and ended in order or broke off
   pub left_so : {E : Type 0} (w : Position D) (r : Result Unit E) → w.at ≡ m → ReachesLeave look source rules p m
       → Steps (LeavesFrom look rules w.at) (LeaveBreaks look rules w.at) w q r → EndsOrBreaks look source rules p q r
   left_so w (Ok done) same asked leaves =
@@ -56,7 +56,7 @@ module _ {D : Type 0} (look : D → View) (source : Source) (rules : Rules) (p q
     cause = leaves.cause;
   }
 
--- how a run ends, from where it began and to where it is
+-- how a session ends, from where it began to where it is
 pub ends_from : {D N T : Type 0} (look : D → View) (source : Source) (rules : Rules) (report : Report N) (p p' q q' : Position D)
     (r : Result T Fault) → p ≡ p' → q ≡ q' → EndsAs look source rules report p q r → EndsAs look source rules report p' q' r
 ends_from look source rules report p p' q q' r same same' ends =

@@ -1,4 +1,4 @@
--- What is done with lines is done by calls of the executor, and what is sent of it is backed by what they recorded.
+-- A session serves lines by calls of the executor, and what it sends is backed by what these recorded.
 use Rattle.std.proofs.Common.{◌≡◌, ℕ, ◌+◌, Bool, true, false, not, List, [], ◌∷◌, ◌++◌, map, length, refl, sym, ap, subst, ◌∙◌}
 use Rattle.std.proofs.Common.{Result, Ok, Err, append_assoc}
 use Rattle.std.proofs.lemmas.List.{append-nil}
@@ -41,7 +41,7 @@ use Rattle.exec_session.proofs.LeaveLemmas.{finish_told}
 use Rattle.exec_session.proofs.TellLemmas.{Plain, cleared_room, closed_plain, is_plain, refused_stand, request_stands, status_plain}
 use Rattle.exec_session.proofs.TellLemmas.{together_stand, turn_behind_room}
 
--- room is made by a call, or by none, and nothing is sent
+-- a tidy by a call, or none, and no message
 room_stands : {D : Type 0} (look : D → View) (rules : Rules) (now : ℕ) (x y : Sight D) → x.is_open ≡ true
     → MakesRoom look rules now x y → StandsBehind look x y []
 room_stands look rules now x y is_open room = by (is_tidy_due rules x now room.pace) refl
@@ -54,7 +54,7 @@ module _ {D : Type 0} (look : D → View) where
   abbrev Goes : Spot D → Spot D → Type 0
   Goes p q = GoesByCalls look p q
 
-  -- no call, one after the other, and calls of which this is sent
+  -- no call; one step after another; and calls with the messages that were sent of them
   here_still : (p : Spot D) → Goes p p
   here_still p = record {
     said = [];
@@ -78,23 +78,23 @@ module _ {D : Type 0} (look : D → View) where
   told_go : (p q : Spot D) (more : List Said) → IsTold p.heard q.heard more → StandsBehind look p.executor q.executor more → Goes p q
   told_go p q more told stands = record { said = more; told = told; stands = stands }
 
-  -- nothing is sent
+  -- no message
   quiet_go : (p q : Spot D) → q.heard ≡ p.heard → StandsBehind look p.executor q.executor [] → Goes p q
   quiet_go p q same stands =
       told_go p q [] (subst (λ (h : Heard D). IsTold p.heard h []) (sym same) (refl, sym (append-nil p.heard.told))) stands
 
-  -- nothing is done: something was asked at most
+  -- no call: one question at most
   unmoved : (p q : Spot D) → q.executor ≡ p.executor → q.heard ≡ p.heard → Goes p q
   unmoved p q same heard = quiet_go p q heard (none_stands look p.executor q.executor [] same nothing)
 
-  -- a reply is sent that says nothing of what is recorded
+  -- a reply that acknowledges no command
   plain_go : (form : NoticeForm) (s q : Spot D) (reply : LineReply) → Plain s.executor reply → Tells form s q (Answered reply ∷ [])
       → Goes s q
   plain_go form s q reply plain tells =
       told_go s q (Answered reply ∷ []) tells.hears.told
       (none_stands look s.executor q.executor (Answered reply ∷ []) tells.executor (says_none (Answered reply) plain.0))
 
-  -- something is sent of an executor that went on by calls
+  -- messages of an executor that went on by calls
   tells_go : (form : NoticeForm) (p s q : Spot D) (more : List Said) → s.heard ≡ p.heard → StandsBehind look p.executor s.executor more
       → Tells form s q more → Goes p q
   tells_go form p s q more same stands tells =
@@ -115,7 +115,7 @@ module _ {D : Type 0} (look : D → View) where
       (unmoved m q (ap (λ (s : Spot D). s.executor) shown) (ap (λ (s : Spot D). s.heard) shown))
 
   module _ (rules : Rules) where
-    -- a request, where room was made first
+    -- a request, after a due tidy
     request_goes : (request : Request) (p s : Spot D) (reply : LineReply) → p.executor.is_open ≡ true
         → ServesNow look rules request p s reply → StandsBehind look p.executor s.executor (Answered reply ∷ [])
     request_goes request p s reply is_open serves =
@@ -134,7 +134,7 @@ module _ {D : Type 0} (look : D → View) where
             subst (λ (z : Sight D). StandsBehind look p.executor z (answered serves.given ∷ [])) (sym same)
             (refused_stand look p.executor serves.middle 1 (serves.given ∷ []) (ap (λ (r : Reply). r ∷ []) refused) room)
 
-    -- commands that were answered together
+    -- a group commit
     together_goes : (commands : List Command) (p q : Spot D) → p.executor.is_open ≡ true → AnswersTogether look rules commands p q
         → Goes p q
     together_goes commands p q is_open together =
@@ -174,7 +174,7 @@ module _ {D : Type 0} (look : D → View) where
             quiet_go p q (ap (λ (s : Spot D). s.heard) same)
             (subst (λ (z : Sight D). StandsBehind look p.executor z []) (sym (ap (λ (s : Spot D). s.executor) same)) room)
 
-    -- turns that go on, each from an executor that is still open
+    -- turns after which it goes on, each from an executor that is still open
     pub turns_go : (t : Terms) (start : ℕ) (p : Spot D) (turns now : ℕ) (q : Spot D)
         → p.executor.is_open ≡ true → GoesOn look rules t start p turns now q
         → Goes p q × (q.executor.is_open ≡ true)
@@ -195,7 +195,7 @@ module _ {D : Type 0} (look : D → View) where
         (both_go drains.last drains.told q (turn_goes drains.now drains.last drains.told drains.turn_end so_far.1 drains.made)
         (rests_go start drains.now drains.told q drains.after drains.rests))
 
-    -- what an open executor answers to a line, and the reply after it
+    -- what an open executor does with a line, and then the reply
     open_goes : (source : Source) (p s q : Spot D) (found : Result Line Refusal) (reply : LineReply)
         → p.executor.is_open ≡ true → IsOpenReply look source rules p s found reply → Tells rules.form s q (Answered reply ∷ [])
         → Goes p q
@@ -243,7 +243,7 @@ module _ {D : Type 0} (look : D → View) where
             (plain_go rules.form given.noticed q given.reply (closed_plain given.noticed.executor source found given.reply replies)
             given.tells)
 
-    -- how an own turn ended, which is sent where it is news
+    -- how an own turn ended, which is sent if it is news
     news_go : (before end : TurnEnd) (p q : Spot D) → NewsSo (Tells rules.form) before end p q → Goes p q
     news_go before end p q (news is tells) = plain_go rules.form p q (answer.Drain (Turn end)) (refl, tt) tells
     news_go before end p q (no_news none same) = stays p q same

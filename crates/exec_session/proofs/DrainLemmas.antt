@@ -16,7 +16,7 @@ use Rattle.exec_session.specs.Spots.{MayBreakOff, Pauses, Position, Spot, noted}
 use Rattle.exec_session.specs.declared.drain.Terms.{Terms}
 use Rattle.exec_session.proofs.EventLemmas.{longer, shown_last, unasked}
 
--- it does so after a turn that is done
+-- its last turn is done
 done : (t : Terms) (turns now : ℕ) (end : TurnEnd) (idle : Bool) → end_behind t turns now end idle ≡ None → end ≡ turn_end.Done
 done t turns now turn_end.Done idle e = refl
 done t turns now turn_end.Closed idle e = absurd cc
@@ -32,7 +32,7 @@ pub still_open : (t : Terms) (turns now : ℕ) (end : TurnEnd) (idle is_open : B
 still_open t turns now end idle true closes e = refl
 still_open t turns now end idle false closes e = let is = sym (done t turns now end idle e) ∙ closes.0 refl in absurd cc
 
--- a turn that closed the executor ended for the disk, as room was made or in the turn itself
+-- a turn that closed the executor ended for the disk, in the tidy or in the turn itself
 pub closes : {D : Type 0} (look : D → View) (rules : Rules) (now : ℕ) (p q : Spot D)
     (end : TurnEnd)
     → MakesTurn look rules now p q end → (q.executor.is_open ≡ false) ↔ (end ≡ turn_end.Disk)
@@ -42,12 +42,12 @@ closes {D} look rules now p q end made = by made.middle.is_open refl
     by true is_open = (made.takes is_open).closes
     by false closed = let fails = made.fails closed in (λ _. fails.0, λ _. ap (λ (s : Spot D). s.executor.is_open) fails.1 ∙ closed)
 
--- what was sent of its end, of an executor that was asked whether it is idle
+-- the end of a drain, by the executor's own answer whether it is idle
 pub told_end : (t : Terms) (turns now : ℕ) (end : TurnEnd) (idle asked : Bool) (told given : Option DrainEnd)
     → told ≡ end_behind t turns now end asked → asked ≡ idle → told ≡ given → end_behind t turns now end idle ≡ given
 told_end t turns now end idle asked told given is was same = ap (λ b. end_behind t turns now end b) (sym was) ∙ sym is ∙ same
 
--- a pause that is short since a moment is so since an earlier one
+-- a pause that is short since one time is short since an earlier one
 pub short_since : (before since now micros : ℕ) → before ≤ since → IsShort since now micros → IsShort before now micros
 short_since before since now micros le (inl short) = inl short
 short_since before since now micros le (inr (long, part)) = inr (long, omega (arith, le, part))
@@ -60,7 +60,7 @@ module _ {D : Type 0} where
   pub at_moment : (since now now' : ℕ) (heard : Bool) (p q : Spot D) → now ≡ now' → Pauses since now heard p q → Pauses since now' heard p q
   at_moment since now now' heard p q same paused = subst (λ (n : ℕ). Pauses since n heard p q) same paused
 
-  -- a pause, somebody still reads, and a reading of the clock
+  -- a pause, a client that still reads, and a clock reading
   pub rests : (start since now : ℕ) (told : Spot D) (mid q : Position D) (heard : Bool) (after : ℕ) → start ≤ since → heard ≡ true
       → Pauses since now heard told mid.at → q ≡ noted mid (Shown after) → Rests start now told q.at after
   rests start since now told mid q heard after le hears paused is = (
@@ -79,13 +79,13 @@ module _ {D : Type 0} where
   pub rests_shown : (start now : ℕ) (told q : Spot D) (after : ℕ) → Rests start now told q after → last_shown q.events ≡ Some after
   rests_shown start now told q after (m, paused, is) = ap (λ (s : Spot D). last_shown s.events) is ∙ shown_last m.events after
 
-  -- a pause asks something at least
+  -- a pause adds an event
   pub paused_longer : (since now : ℕ) (heard : Bool) (p q : Spot D) → Pauses since now heard p q → length p.events + 1 ≤ length q.events
   paused_longer since now heard p q (micros, short, is) =
       subst (λ (s : Spot D). length p.events + 1 ≤ length s.events) (sym is)
       (let one = longer p.events (rest_events micros) in omega (arith, one, length-append (p.events ++ rest_events micros) (Asked heard ∷ [])))
 
-  -- where nobody reads any more, that is the last event
+  -- where nobody reads the output any more, that is the last event
   pub unheard_cause : (since now : ℕ) (heard : Bool) (p q : Spot D) → heard ≡ false → Pauses since now heard p q → MayBreakOff q.events
   unheard_cause since now heard p q gone (micros, short, is) =
       unasked (p.events ++ rest_events micros) q.events
@@ -101,7 +101,7 @@ module _ {D : Type 0} where
   heard_pause before since now heard p q le hears paused =
       earlier before since now true p q le (subst (λ (b : Bool). Pauses since now b p q) hears paused)
 
-  -- what was sent of its end is that of the executor after the turn
+  -- the end of a drain is that of the executor after the turn
   pub told_end_at : (t : Terms) (turns now : ℕ) (end : TurnEnd) (told q : Spot D) (asked : Bool) (given found : Option DrainEnd)
       → q.executor ≡ told.executor → given ≡ end_behind t turns now end asked → asked ≡ not (any_busy q.executor.state) → given ≡ found
       → end_at t turns now end told.executor ≡ found

@@ -1,4 +1,4 @@
--- What was asked grows, and what stays meanwhile.
+-- The log of questions grows; what stays meanwhile.
 use Rattle.std.proofs.Common.{◌≡◌, ◌≤◌, ℕ, Bool, true, false, List, [], ◌∷◌, ◌++◌, length, Some, Result, Ok, Err, OnErr, OnOk, inl, refl, sym, ap, subst, ◌∙◌, arith, append_assoc, length-append}
 use Rattle.std.proofs.lemmas.List.{append-nil}
 use Rattle.std.specs.Prelude.{is_ok}
@@ -12,7 +12,7 @@ use Rattle.exec_trace.specs.declared.event.IoEvent.{IoEvent}
 use Rattle.exec_trace.specs.declared.event.IoEvent.TheVariants.{Asked, Looked, Peeked, Read, Rested, Sent, Shown}
 use Rattle.exec_session.specs.Spots.{Keeps, Lasts, MayBreakOff, Pauses, Position, Spot, Tells, TellsPart, at_of, noted, paused, spot}
 
--- a reading is the last one
+-- a clock reading at the end is the last one
 pub shown_last : (es : List IoEvent) (now : ℕ) → last_shown (es ++ Shown now ∷ []) ≡ Some now
 shown_last [] now = refl
 shown_last (Shown moment ∷ es) now = ap (later_of moment) (shown_last es now)
@@ -34,7 +34,7 @@ pub unasked : (es es' : List IoEvent) → es' ≡ es ++ Asked false ∷ [] → M
 unasked es es' is = inl (record { before = es; last = Asked false; is_last = is; fails = refl })
 
 module _ {D : Type 0} where
-  -- only the executor was changed
+  -- only the executor changed
   pub moved_keeps : (x y : Sight D) (e : EdgeView D) (p : Position D) → at_of x e ≡ p → Keeps p (at_of y e)
   moved_keeps x y e p is =
       subst (λ (P : Position D). Keeps P (at_of y e)) is
@@ -59,7 +59,7 @@ module _ {D : Type 0} where
   pub same_keeps : (p q r : Position D) → q ≡ r → Keeps p r → Keeps p q
   same_keeps p q r is keeps = subst (λ (s : Position D). Keeps p s) (sym is) keeps
 
-  -- something was asked
+  -- one more event
   pub noted_keeps : (p : Position D) (event : IoEvent) → Keeps p (noted p event)
   noted_keeps p event = (record { opened = refl; later = event ∷ []; grows = refl }, refl)
 
@@ -83,7 +83,7 @@ module _ {D : Type 0} where
   pub part_lasts : (form : NoticeForm) (p q : Spot D) (said : List Said) → TellsPart form p q said → Lasts p q
   part_lasts form p q said tells = record { opened = tells.hears.told.0; later = Sent false ∷ []; grows = tells.events }
 
-  -- what a client is sent by an edge, from this view of the executor
+  -- the messages of an edge to its client, from this view of the executor
   module _ (form : NoticeForm) (said : List Said) (x : Sight D) (e e' : EdgeView D) where
     abbrev Old : Spot D
     Old = spot x e.heard e.events
@@ -110,7 +110,7 @@ module _ {D : Type 0} where
     send_keeps r p y is told left events =
         subst (λ (P : Position D). Keeps P (at_of x e')) is (record { opened = told; later = Sent r ∷ []; grows = events }, left)
 
--- what holds of a value, or of an error
+-- a fact about any value, or about any error
 pub ok_map : {T E : Type 0} (r : Result T E) (A B : Type 0) → (A → B) → OnOk r A → OnOk r B
 ok_map (Ok x) A B f a = f a
 ok_map (Err e) A B f a = tt

@@ -31,13 +31,13 @@ line_at_once way is (Ok line.Status) = tt
 line_at_once way is (Ok (line.Direct direct)) = tt
 line_at_once way is (Err why) = tt
 
--- a run by lines alone answers each so
+-- in `run` each line is answered as soon as it is read
 pub found_at_once : (way : Way) → way ≡ Run → (found : Found) → MayTakeAtOnce way found
 found_at_once way is (found.Line line) = line_at_once way is line
 found_at_once way is found.Empty = tt
 found_at_once way is found.End = tt
 
--- an open executor answered a held line with what was given
+-- an open executor replied to a held line with what the source gave
 pub answered_held : {D : Type 0} (tells_so : Telling D) (look : D → View) (source : Source) (rules : Rules)
     (provider agent : List ℕ) (limit : Option ℕ) (given : Result (Vec ℕ) MetaFault) (p q : Spot D) → p.executor.is_open ≡ true
     → source provider agent limit given → tells_so p q (Answered (answer.Meta given) ∷ [])

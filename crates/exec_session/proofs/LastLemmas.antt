@@ -1,4 +1,4 @@
--- What stays while a run goes on, step by step, and how many reads and looks were made up to then.
+-- What stays while a session goes on, step by step, and the numbers of reads and polls up to then.
 use Rattle.std.proofs.Common.{◌≡◌, ℕ, ◌+◌, ◌≤◌, ◌<◌, Bool, true, false, List, [], ◌∷◌, ◌++◌, length, refl, sym, ap, subst, ◌∙◌, arith, append_assoc, length-append, inl, inr}
 use Rattle.std.proofs.lemmas.List.{append-nil}
 use Rattle.exec_trace.specs.declared.event.IoEvent.{IoEvent}
@@ -6,7 +6,7 @@ use Rattle.exec_trace.specs.declared.event.IoEvent.TheVariants.{Looked, Read}
 use Rattle.exec_session.specs.Looks.{HasLooked, Lines, misses_in, misses_of, reads_in, reads_of}
 use Rattle.exec_session.specs.Spots.{Lasts, Position, Spot, behind, noted}
 
--- reads and looks add up
+-- reads and polls add up
 pub reads_join : (xs ys : List IoEvent) → reads_in (xs ++ ys) ≡ reads_in xs + reads_in ys
 reads_join [] ys = let none : reads_in ys ≡ 0 + reads_in ys = omega arith in none
 reads_join (x ∷ xs) ys =
@@ -21,7 +21,7 @@ misses_join (x ∷ xs) ys =
     let sum : misses_of x + misses_in (xs ++ ys) ≡ (misses_of x + misses_in xs) + misses_in ys = omega (arith, rest) in
     sum
 
--- once a run has looked, it has still after more was asked, and since earlier on
+-- once a session has polled, it has also after more events, and since earlier ones
 pub looked_later : (lines : Lines) (reads misses reads' misses' : ℕ) (es es' : List IoEvent) → reads' ≤ reads → misses' ≤ misses
     → reads_in es ≤ reads_in es' → misses_in es ≤ misses_in es' → HasLooked reads misses lines es → HasLooked reads' misses' lines es'
 looked_later (line ∷ lines) reads misses reads' misses' es es' le le' more more' looked = tt
@@ -40,7 +40,7 @@ module _ {D : Type 0} where
     grows = two.grows ∙ ap (λ (es : List IoEvent). es ++ two.later) one.grows ∙ append_assoc p.events one.later two.later;
   }
 
-  -- no fewer reads and looks
+  -- no fewer reads and polls
   pub lasts_reads : (p q : Spot D) → Lasts p q → reads_in p.events ≤ reads_in q.events
   lasts_reads p q lasts =
       let same = ap (λ (es : List IoEvent). reads_in es) lasts.grows in omega (arith, same, reads_join p.events lasts.later)
@@ -49,7 +49,7 @@ module _ {D : Type 0} where
   lasts_misses p q lasts =
       let same = ap (λ (es : List IoEvent). misses_in es) lasts.grows in omega (arith, same, misses_join p.events lasts.later)
 
-  -- after a read more was asked
+  -- after a read there are more events
   pub read_longer : (p q : Spot D) → Lasts p q → reads_in p.events < reads_in q.events → length p.events < length q.events
   read_longer p q lasts read = by lasts.later lasts.grows
     where
@@ -59,7 +59,7 @@ module _ {D : Type 0} where
           let more : length p.events < length (p.events ++ event ∷ events) = omega (arith, length-append p.events (event ∷ events)) in
           omega (arith, ap length grows, more)
 
-  -- one thing was asked
+  -- one more event
   pub longer_event : (p q : Spot D) (event : IoEvent) → q ≡ behind p event → length p.events < length q.events
   longer_event p q event same =
       subst (λ (s : Spot D). length p.events < length s.events) (sym same) (omega (arith, length-append p.events (event ∷ [])))
@@ -74,7 +74,7 @@ module _ {D : Type 0} where
   pub lasts_noted : (p q : Position D) (event : IoEvent) → q ≡ noted p event → Lasts p.at q.at
   lasts_noted p q event same = lasts_event p.at q.at event (ap (λ (w : Position D). w.at) same)
 
-  -- a read
+  -- one more read
   pub one_read : (p q : Spot D) (done : Bool) → q ≡ behind p (Read done) → reads_in p.events < reads_in q.events
   one_read p q done same =
       let one : reads_in (Read done ∷ []) ≡ 1 = refl in
@@ -84,7 +84,7 @@ module _ {D : Type 0} where
   pub read_then : (p m q : Spot D) → reads_in p.events < reads_in m.events → Lasts m q → reads_in p.events < reads_in q.events
   read_then p m q one two = omega (arith, one, lasts_reads m q two)
 
-  -- a look that found nothing
+  -- one more poll that found nothing
   pub one_miss : (p q : Position D) (millis : ℕ) (ready : Bool) → q ≡ noted p (Looked millis ready) → ready ≡ false
       → misses_in p.at.events < misses_in q.at.events
   one_miss p q millis true same is = absurd cc

@@ -11,7 +11,7 @@ use Rattle.exec_client.proofs.Growing.{both_stand, cleared_stands, finish_stands
 use Rattle.exec_session.specs.Leaving.{FinishHeard, WindsOne}
 use Rattle.exec_session.specs.Spots.{Spot, Telling}
 
--- what a turn that begins nothing sent is backed by what it recorded
+-- the notices of a turn that begins nothing are backed by what it recorded
 pub finish_told : {D : Type 0} (look : D → View) (now : ℕ) (x y z : Sight D) (end : TurnEnd) → y ≡ with_empty_book x → x.is_open ≡ true
     → FinishesTurn look now y z end → StandsBehind look x z (noticed z)
 finish_told look now x y z end cleared is_open takes =
@@ -25,7 +25,7 @@ finish_taken {D} look now x y z end cleared is_open does =
     let still : y.is_open ≡ true = subst (λ (c : Sight D). c.is_open ≡ true) (sym cleared) is_open in
     subst (λ (c : Sight D). FinishesTurn look now c z end) cleared (subst (λ (b : Bool). FinishesWhile b look now y z end) still does)
 
--- so while an action runs
+-- the same while an action runs
 pub winds_one : {D : Type 0} (tells_so : Telling D) (look : D → View) (p q : Spot D) → p.executor.is_open ≡ true
     → any_running p.executor.state ≡ true → FinishHeard tells_so look p q → WindsOne tells_so look p q
 winds_one tells_so look p q is_open runs heard = record { is_open = is_open; runs = runs; heard = heard }

@@ -1,4 +1,4 @@
--- What is noted of a line that was read, and that a run is ready.
+-- The tag of a line that was read, and the line that a session is ready.
 use Rattle.std.proofs.Common.{◌≡◌, ◌∙◌, ℕ, Bool, IsTrue, List, Option, Some, None, Result, Ok, Err, ap, inl, inr, refl, subst, sym}
 use Rattle.ocf_types.specs.declared.refusal.Refusal.{Refusal}
 use Rattle.ocf_types.specs.declared.refusal.Refusal.TheVariants.{Memory}
@@ -15,14 +15,14 @@ use Rattle.exec_session.specs.declared.lines.Found.{Found}
 use Rattle.exec_session.specs.declared.lines.Found.TheVariants as found
 use Rattle.exec_session.proofs.EventLemmas.{here_keeps}
 
--- what was found stays as it was
+-- the line stays as it was found
 pub noted_same : (refuses : Bool) (way : Way) (f g : Found) → g ≡ f → IsNotedAs refuses way f g
 noted_same refuses Run f g same = same
 noted_same refuses Serve (found.Line line) g same = inl same
 noted_same refuses Serve found.Empty g same = same
 noted_same refuses Serve found.End g same = same
 
--- no memory was there to note a line
+-- no memory was there for the tag
 pub noted_refused : (refuses : Bool) (way : Way) (line : Result Line Refusal) (f g : Found) → way ≡ Serve → f ≡ found.Line line
     → g ≡ found.Line (Err Memory) → IsTrue refuses → IsNotedAs refuses way f g
 noted_refused refuses way line f g serves is refused none =
@@ -34,7 +34,7 @@ line_refused : (left now : Option (List ℕ)) (line : Result Line Refusal) → R
 line_refused None now line reads = tt
 line_refused (Some xs) now line (some, is, reads) = (some, is, λ other. absurd (other refl))
 
--- what comes next in the input is read so, also where memory is refused to note it
+-- the line is read as said, also where memory is refused for its tag
 pub noted_reads : (refuses : Bool) (way : Way) (left now : Option (List ℕ)) (f g : Found) → ReadsInput way left now f
     → IsNotedAs refuses way f g → ReadsInput way left now g
 noted_reads refuses Run left now f g reads same = subst (λ (h : Found). ReadsInput Run left now h) (sym same) reads
@@ -47,13 +47,13 @@ noted_reads refuses Serve left now found.Empty g reads same =
 noted_reads refuses Serve left now found.End g reads same =
     subst (λ (h : Found). ReadsInput Serve left now h) (sym same) reads
 
--- a run by lines alone sends nothing
+-- in `run` nothing is sent
 pub ready_none : {D T E : Type 0} (way : Way) (form : NoticeForm) (p : Position D) (x : T) → way ≡ Run
     → Steps {E = E} (TellsReady way form p.at) (ReadyBreaks way form p.at) p p (Ok x)
 ready_none Run form p x is = record { keeps = here_keeps p; done = refl; breaks = tt; cause = tt }
 ready_none Serve form p x is = let none : ⊥ = cc in absurd none
 
--- the executor is as it was
+-- the executor stays as it was
 pub ready_still : {D : Type 0} (way : Way) (form : NoticeForm) (p q : Spot D) → TellsReady way form p q → q.executor ≡ p.executor
 ready_still Run form p q same = ap (λ (s : Spot _). s.executor) same
 ready_still Serve form p q tells = tells.executor

@@ -1,4 +1,4 @@
--- Whether a monitor is due within some time, as the first of them shows.
+-- Whether a monitor is due within some time, by the first of them.
 use Rattle.std.proofs.Common.{◌≡◌, ℕ, ◌-◌, ◌≤◌, ◌<◌, Bool, true, false, List, Some, sym, ap, ◌∙◌, arith, ⊎_elim}
 use Rattle.std.specs.Prelude.{nat_le}
 use Rattle.std.specs.List.{list_any}

@@ -1,4 +1,4 @@
--- A round of a run that serves: the lines that are there, a turn, and a wait.
+-- A round in `serve`: the lines that are there, a turn, and a wait.
 use Rattle.std.proofs.Common.{◌≡◌, ◌≢◌, ℕ, ◌+◌, ◌*◌, ◌≤◌, ◌<◌, Bool, true, false, List, [], ◌∷◌, ◌++◌, length, map, Option, Some, None, MatchOption, Result, Ok, Err, IsErr}
 use Rattle.std.proofs.Common.{refl, sym, ap, subst, ◌∙◌, inl, inr, arith}
 use Rattle.std.proofs.lemmas.List.{append-nil}
@@ -72,12 +72,12 @@ pub serve_begins : {D : Type 0} (way : Way) (s : Midway D) → way ≡ Serve →
 serve_begins way s serve is_open none =
     record { stays = none_stays way s none (λ run. absurd cc); serves = λ _. (is_open, none) }
 
--- where a run is, by its parts
+-- where a session is, by its fields
 pub position_is : {D : Type 0} (q : Position D) (s : Spot D) (left : Option (List ℕ)) → q.at ≡ s → q.left ≡ left → q ≡ position s left
 position_is {D} q s left same same' =
     ap (λ (t : Spot D). position t q.left) same ∙ ap (λ (l : Option (List ℕ)). position s l) same'
 
--- no longer than may be waited
+-- at most as long as the wait may be
 pub pause_less : {D : Type 0} (since now : ℕ) (x : Sight D) (es : List IoEvent) (less micros : ℕ) → less ≤ micros
     → MayPause since now x es micros → MayPause since now x es less
 pause_less since now x es less micros le (inl (inl short)) = inl (inl (omega (arith, le, short)))
@@ -95,7 +95,7 @@ pub not_busy : (b : Bool) → true ≡ not b → b ≡ false
 not_busy true is = absurd cc
 not_busy false is = refl
 
--- until the first monitor is due, or as long as may be where there is none
+-- until the first monitor is due, or the longest wait where there is none
 pub due_some : {D : Type 0} (x : Sight D) (es : List IoEvent) (now due micros : ℕ) → any_busy x.state ≡ false → last_shown es ≡ Some now
     → micros ≤ 1000 * 1000 → 1000 * now + micros ≤ 1000 * due → IsFirstMoment (all_pairs x.monitors) (Some due) → IsUntilDue x es micros
 due_some x es now due micros idle shown brief until (call, at, least) =
@@ -143,7 +143,7 @@ module _ {D : Type 0} (since now : ℕ) where
           (sym (same ∙ ap at is
           ∙ ap (λ (es : List IoEvent). position (spot m.at.executor m.at.heard es) m.left) (append-nil m.at.events))) waits
 
--- a look that may have been made
+-- a poll that a wait may make
 pub wait_looked : {D : Type 0} (way : Way) (p q : Position D) (pending : Pending) → LooksOnce p q → MayWait way (midway p pending)
     → MayWait way (midway q pending)
 wait_looked way p q pending (inl same) may =
@@ -164,7 +164,7 @@ module _ {D : Type 0} (look : D → View) (source : Source) (rules : Rules) (p :
   Come most place commands held kept =
       HasCome look source rules p own most (record { place = place; commands = commands; held = held; kept = kept })
 
-  -- a look that may have been made
+  -- one poll, or none
   pub looked_once : (most : ℕ) (commands : List Command) (held : Option Held) (kept : List ℕ) (place place' : Position D)
       → rules.way ≡ Serve → LooksOnce place place' → Come most place commands held kept → Come most place' commands held kept
   looked_once most commands held kept place place' way (inl same) come =
@@ -172,7 +172,7 @@ module _ {D : Type 0} (look : D → View) (source : Source) (rules : Rules) (p :
   looked_once most commands held kept place place' way (inr (ready, same)) come =
       looked look source rules p own most commands held kept place place' (Looked 0 ready) (turns_serve rules.way way, refl) same come
 
-  -- a wait
+  -- waits, as steps of a session
   pub waits_come : (most : ℕ) (commands : List Command) (held : Option Held) (kept : List ℕ) (place : Position D) (place' : Position D)
       → commands ≡ [] → MayRest (held_lines held) → Waits own.since own.now place place' → Come most place commands held kept
       → Come most place' commands held kept
@@ -187,7 +187,7 @@ module _ {D : Type 0} (look : D → View) (source : Source) (rules : Rules) (p :
   none_but_held count commands held q none reached =
       subst (λ (cs : List Command). At count (map of_command cs ++ held_lines held) q) none reached
 
-  -- a line asked a run to end
+  -- a line asked for the end of the session
   pub come_leave : rules.way ≡ Serve → (most : ℕ) (commands : List Command) (o : Option Held) (kept : List ℕ) (place : Position D)
       → commands ≡ [] → o ≡ Some held.Leave → Come most place commands o kept → ReachesLeave look source rules p place.at
   come_leave way most commands o kept place none is come = record {
@@ -247,7 +247,7 @@ module _ {D : Type 0} (look : D → View) (source : Source) (rules : Rules) (p :
     cause = cause;
   }
 
-  -- a turn of its own may be made
+  -- an own turn may be made
   abbrev pub Turning : Option Held → Position D → Type 0
   Turning held place = MayRest (held_lines held) × HasLooked own.reads own.misses (own.lines ++ held_lines held) place.at.events
 
@@ -260,7 +260,7 @@ module _ {D : Type 0} (look : D → View) (source : Source) (rules : Rules) (p :
     looked = looked;
   }
 
-  -- so this turn, since which nothing has ended or begun
+  -- this turn is made, since which nothing has ended or begun
   abbrev pub Turned : Option Held → Position D → Position D → ℕ → ℕ → TurnEnd → Type 0
   Turned held place place' now since end =
       Turning held place × MakesOwnTurn look rules own.end now place.at place'.at end
@@ -275,7 +275,7 @@ module _ {D : Type 0} (look : D → View) (source : Source) (rules : Rules) (p :
       (none_but_held come.count commands held (position place.at come.left) none come.reached)
       (may_turn way most commands held kept place may come) made quiet
 
-  -- which leaves the executor open, or closes it, or breaks off
+  -- it leaves the executor open, or closes it, or breaks off
   pub turn_made : rules.way ≡ Serve → (most : ℕ) (commands : List Command) (held : Option Held) (kept : List ℕ) (place place' : Position D)
       (now since : ℕ) (end : TurnEnd) → commands ≡ [] → place'.left ≡ place.left → Come most place commands held kept
       → Turned held place place' now since end → place'.at.executor.is_open ≡ true
@@ -319,7 +319,7 @@ module _ {D : Type 0} (look : D → View) (source : Source) (rules : Rules) (p :
     cause = cause;
   }
 
-  -- a run that ends does so with more lines allowed, too
+  -- a session that ends does so with more lines allowed, too
   pub ends_more : (n m : ℕ) (commands : List Command) (held : Option Held) (kept : List ℕ) (place : Position D) (step : Taken) → n ≤ m
       → ComesOrEnds look source rules p own n (record { place = place; commands = commands; held = held; kept = kept }) step
       → ComesOrEnds look source rules p own m (record { place = place; commands = commands; held = held; kept = kept }) step
@@ -328,7 +328,7 @@ module _ {D : Type 0} (look : D → View) (source : Source) (rules : Rules) (p :
   ends_more n m commands held kept place taken.Closed le come = come
   ends_more n m commands held kept place taken.Leaves le come = come
 
-  -- a round that ends the run
+  -- a round that ends the session
   pub round_ends : (E : Type 0) (quiet : ℕ) (end : TurnEnd) (most : ℕ) (s : Midway D) (step : Taken) → step ≢ taken.More
       → ComesOrEnds look source rules p own most s step → GoesRound {E = E} look source rules p quiet end s (Ok step)
   round_ends E quiet end most s taken.More ends come = absurd (ends refl)
@@ -336,7 +336,7 @@ module _ {D : Type 0} (look : D → View) (source : Source) (rules : Rules) (p :
   round_ends E quiet end most s taken.Closed ends come = come
   round_ends E quiet end most s taken.Leaves ends come = come
 
-  -- a round of a run by lines alone
+  -- a round in `run`
   pub round_read : {E : Type 0} → rules.way ≡ Run → (quiet : ℕ) (end : TurnEnd) (most : ℕ) (s : Midway D) (r : Result Taken E)
       → IsSince own quiet end (held_lines s.held) s.place.at → Comes look source rules p own most s r
       → GoesRound look source rules p quiet end s r
@@ -347,13 +347,13 @@ module _ {D : Type 0} (look : D → View) (source : Source) (rules : Rules) (p :
   round_read way quiet end most s (Ok taken.Leaves) since come = come
   round_read way quiet end most s (Err e) since breaks = breaks
 
--- a line is held, or a look found nothing
+-- a line is held, or a poll found nothing
 pub looked_held : (held : Option Held) (reads misses : ℕ) (es : List IoEvent) → (held ≡ None → misses < misses_in es)
     → HasLooked reads misses (held_lines held) es
 looked_held None reads misses es missed = inl (missed refl)
 looked_held (Some h) reads misses es missed = tt
 
--- a line is held, or as many reads were made as are made between two turns
+-- a line is held, or as many reads were made as there are between two turns
 pub looked_read : (held : Option Held) (reads misses : ℕ) (es : List IoEvent) → reads + 64 ≤ reads_in es
     → HasLooked reads misses (held_lines held) es
 looked_read None reads misses es read = inr read
@@ -371,7 +371,7 @@ pub looked_none : (held held' : Option Held) (reads misses : ℕ) (es : List IoE
 looked_none held held' reads misses es is looked =
     subst (λ (o : Option Held). HasLooked reads misses (held_lines o ++ held_lines held') es) (sym is) looked
 
--- a turn of this end is the last one still
+-- a turn that ended like this is still the last one
 pub since_later : {D : Type 0} (own : OwnTurn) (quiet : ℕ) (end : TurnEnd) (lines lines' : Lines) (q q' : Spot D) → lines' ≡ lines
     → Lasts q q' → IsSince own quiet end lines q → IsSince own quiet end lines' q'
 since_later own quiet end lines lines' q q' same lasts since = record {
@@ -382,7 +382,7 @@ since_later own quiet end lines lines' q q' same lasts since = record {
   misses = omega (arith, since.misses, lasts_misses q q' lasts);
 }
 
--- what was looked for in a round was since the turn before it
+-- a poll of this round is after the turn before it
 pub looked_since : {D : Type 0} (own : OwnTurn) (quiet : ℕ) (end : TurnEnd) (before lines : Lines) (q q' : Spot D)
     → IsSince own quiet end before q → HasLooked (reads_in q.events) (misses_in q.events) (before ++ lines) q'.events
     → HasLooked own.reads own.misses (own.lines ++ lines) q'.events
@@ -391,13 +391,13 @@ looked_since own quiet end before lines q q' since looked =
     (looked_later (before ++ lines) (reads_in q.events) (misses_in q.events) own.reads own.misses q'.events q'.events since.reads
     since.misses (omega arith) (omega arith) looked)
 
--- nothing has ended or begun since a moment that is not before that of the turn
+-- nothing has ended or begun since a time that is not before that of the turn
 pub quiet_later : (own : OwnTurn) (book : List Entry) (now quiet since : ℕ) → own.since ≤ quiet → IsQuietSince book now quiet since
     → IsQuietSince book now own.since since
 quiet_later own book now quiet since le (inl began) = inl began
 quiet_later own book now quiet since le (inr (runs, later)) = inr (runs, omega (arith, le, later))
 
--- a round that ends the run, in which the last step lasted so
+-- a round that ends the session, whose last step kept this
 pub round_over : {D E : Type 0} (look : D → View) (source : Source) (rules : Rules) (s t : Stage D) (step : Taken) → step ≢ taken.More
     → Lasts s.at.place.at t.at.place.at
     → ((p : Position D) → HasComeRound look source rules p s.quiet s.end s.at
@@ -405,7 +405,7 @@ pub round_over : {D E : Type 0} (look : D → View) (source : Source) (rules : R
 round_over look source rules s t step ends lasts goes =
     record { lasts = lasts; longer = λ is. absurd (ends is); begins = λ is. absurd (ends is); goes = goes }
 
--- one that breaks off
+-- a round that breaks off
 pub round_fails : {D E : Type 0} (look : D → View) (source : Source) (rules : Rules) (s t : Stage D) (r : Result Taken E) → IsErr r
     → Lasts s.at.place.at t.at.place.at
     → ((p : Position D) → HasComeRound look source rules p s.quiet s.end s.at → BreaksOff look source rules p t.at.place.at)
@@ -425,13 +425,13 @@ pub round_err : {D E : Type 0} (look : D → View) (source : Source) (rules : Ru
 round_err look source rules p quiet end s (Ok x) bad breaks = let none : ⊥ = cc in absurd none
 round_err look source rules p quiet end s (Err e) bad breaks = breaks
 
--- a round of a run that serves begins after a turn
+-- a round in `serve` begins after a turn
 pub round_begins : {D : Type 0} (look : D → View) (source : Source) (rules : Rules) (p : Position D) (quiet : ℕ) (end : TurnEnd)
     (s : Midway D) → rules.way ≡ Serve → (come : HasComeRound look source rules p quiet end s) → HasCome look source rules p come.own 0 s
 round_begins look source rules p quiet end s way come =
     subst (λ (n : ℕ). HasCome look source rules p come.own n s) (zero_round rules.way way come.most come.round) come.come
 
--- the next one begins after one that ended so
+-- the next round begins after a turn that ended like this
 pub round_again : {D : Type 0} (look : D → View) (source : Source) (rules : Rules) (p : Position D) (now quiet : ℕ) (end : TurnEnd)
     (q : Spot D) (s : Midway D) → Lasts q s.place.at → HasCome look source rules p (turned now quiet end (held_lines s.held) q) 0 s
     → HasComeRound look source rules p quiet end s

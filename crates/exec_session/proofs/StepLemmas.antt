@@ -5,7 +5,7 @@ use Rattle.exec_session.specs.Steps.{Steps, StepsTo}
 use Rattle.exec_session.proofs.EventLemmas.{both_keep, err_map, ok_map}
 
 module _ {D T E : Type 0} where
-  -- one that gave an error
+  -- after one that gave an error
   pub step_fails : {does breaks_off : Spot D → Type 0} (p q : Position D) (r : Result T E) → IsErr r → Keeps p q → breaks_off q.at
       → MayBreakOff q.at.events → Steps does breaks_off p q r
   step_fails p q (Ok x) bad keeps broke cause = let none : ⊥ = cc in absurd none
@@ -16,7 +16,7 @@ module _ {D T E : Type 0} where
   step_to_fails p q (Ok x) bad keeps broke cause = let none : ⊥ = cc in absurd none
   step_to_fails p q (Err e) bad keeps broke cause = record { keeps = keeps; done = tt; breaks = broke; cause = cause }
 
-  -- one after what was kept, of which more is known
+  -- after one that kept what was known, and gave more
   pub step_after : {does breaks_off does' breaks_off' : Spot D → Type 0} (p m q : Position D) (r : Result T E) → Keeps p m
       → Steps does breaks_off m q r → (does q.at → does' q.at) → (breaks_off q.at → breaks_off' q.at) → Steps does' breaks_off' p q r
   step_after p m q r keeps step to to' = record {

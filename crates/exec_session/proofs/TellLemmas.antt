@@ -1,4 +1,4 @@
--- What may be sent of what a run did.
+-- The messages that a session may send.
 use Rattle.std.proofs.Common.{◌≡◌, ◌↔◌, ℕ, zero, suc, Bool, true, false, List, [], ◌∷◌, map, Result, Ok, Err, inl, inr, refl, sym, subst}
 use Rattle.std.specs.Prelude.{replicate}
 use Rattle.std.specs.List.{AllByRecursion}
@@ -36,14 +36,14 @@ each_refused : (n : ℕ) → Behind (map answered (replicate n (Refused Disk))) 
 each_refused zero = nothing
 each_refused (suc n) = says_else (answered (Refused Disk)) (map answered (replicate n (Refused Disk))) [] refl (each_refused n)
 
--- a reply that says nothing of what is recorded, and nothing of the state
+-- a reply that acknowledges no command, with a status or a count, if any, of this executor's state
 abbrev pub Plain : {D : Type 0} → Sight D → LineReply → Type 0
 Plain x given = (claims (Answered given) ≡ false) × MayReply x given
 
 pub is_plain : {D : Type 0} (x : Sight D) (r s : LineReply) → r ≡ s → Plain x s → Plain x r
 is_plain x r s same plain = subst (λ (t : LineReply). Plain x t) (sym same) plain
 
--- what a closed executor answers
+-- the replies of a closed executor
 pub closed_plain : {D : Type 0} (x : Sight D) (source : Source) (found : Result Line Refusal) (given : LineReply)
     → IsClosedReply source found given → Plain x given
 closed_plain x source (Ok (line.Meta provider agent limit)) given (meta, gives, is) = is_plain x given (answer.Meta meta) is (refl, tt)
@@ -57,17 +57,17 @@ closed_plain x source (Ok (line.Request request)) given is = is_plain x given _ 
 closed_plain x source (Ok (line.Direct direct)) given is = is_plain x given _ is (refl, tt)
 closed_plain x source (Err why) given is = is_plain x given _ is (refl, tt)
 
--- what an open executor answers to a question for the status of all resources
+-- the reply of an open executor to a question for the status of all resources
 pub status_plain : {D : Type 0} (x : Sight D) (given : LineReply) → x.is_open ≡ true → IsStatusReply x given → Plain x given
 status_plain x given is_open (inl (statuses, is, same)) = is_plain x given (answer.Status statuses) is (refl, (is_open, same))
 status_plain x given is_open (inr (is, refuses)) = is_plain x given _ is (refl, tt)
 
 module _ {D : Type 0} (look : D → View) where
-  -- one more thing is sent, which says nothing of what is recorded
+  -- one more message, which acknowledges no command and reports no result
   pub one_more : (x y : Sight D) (s : Said) → claims s ≡ false → StandsBehind look x y [] → StandsBehind look x y (s ∷ [])
   one_more x y s none stands = both_stand look x y y [] (s ∷ []) stands (none_stands look y y (s ∷ []) refl (says_none s none))
 
-  -- a request, after room was made
+  -- a request, after a due tidy
   pub request_stands : (now : ℕ) (request : Request) (x m y : Sight D) (r : Reply) → StandsBehind look x m []
       → Serves look now request m y r → ((y.is_open ≡ false) ↔ (r ≡ Refused Disk)) → StandsBehind look x y (answered r ∷ [])
   request_stands now request x m y r room serves closes =
@@ -84,7 +84,7 @@ module _ {D : Type 0} (look : D → View) where
   request_says now request x y r is_open serves =
       open_says now request x y r is_open (subst (λ (b : Bool). ServesWhile b look now request x y r) is_open serves)
 
-  -- commands that arrived together, after room was made
+  -- a group commit, after a due tidy
   pub together_stand : (now : ℕ) (commands : List Command) (x m y : Sight D) (rs : List Reply) → StandsBehind look x m []
       → TakesCommands look now commands m y rs → StandsBehind look x y (map answered rs)
   together_stand now commands x m y rs room takes =
@@ -105,7 +105,7 @@ module _ {D : Type 0} (look : D → View) where
   pub refused_say : (y : Sight D) (n : ℕ) (rs : List Reply) → rs ≡ replicate n (Refused Disk) → AllByRecursion (MayAnswer y) rs
   refused_say y n rs same = subst (λ (ts : List Reply). AllByRecursion (MayAnswer y) ts) (sym same) (refused_plain y n)
 
-  -- room that was made after the book was emptied, and a turn after that
+  -- a tidy after the book was emptied, and then a turn
   pub cleared_room : (x c m : Sight D) → c ≡ with_empty_book x → StandsBehind look c m [] → StandsBehind look x m []
   cleared_room x c m cleared room = both_stand look x c m [] [] (cleared_stands look x c cleared) room
 
@@ -120,7 +120,7 @@ module _ {D : Type 0} (look : D → View) where
       subst (λ (o : Sight D). StandsBehind look o x heard.told) (sym opened)
       (subst (λ (ss : List Said). StandsBehind look x x ss) (sym untold) (none_stands look x x [] refl nothing))
 
-  -- this was sent of an executor that went on by calls
+  -- messages of an executor that went on by calls
   pub after_told : (heard heard' : Heard D) (x y : Sight D) (said : List Said) → AllStand look heard x → StandsBehind look x y said
       → IsTold heard heard' said → AllStand look heard' y
   after_told heard heard' x y said stands more told =
@@ -128,7 +128,7 @@ module _ {D : Type 0} (look : D → View) where
       (subst (λ (ss : List Said). StandsBehind look heard.opened y ss) (sym told.1)
       (both_stand look heard.opened x y heard.told said stands more))
 
-  -- what an opening reports says nothing of what was recorded since
+  -- the report of an opening acknowledges nothing that was recorded since
   reported : (ns : List Notice) → Behind (map Reported ns) []
   reported [] = nothing
   reported (n ∷ ns) = says_else (Reported n) (map Reported ns) [] refl (reported ns)

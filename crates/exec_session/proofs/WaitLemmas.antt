@@ -1,4 +1,4 @@
--- A run between two lines, step by step.
+-- A session between two lines, step by step.
 use Rattle.std.proofs.Common.{◌≡◌, ◌≢◌, ℕ, ◌+◌, ◌≤◌, Bool, true, false, List, [], ◌∷◌, ◌++◌, length, map, Option, Some, None, Result, Ok, Err, IfOk, IsErr}
 use Rattle.std.proofs.Common.{refl, sym, ap, subst, ◌∙◌, inl, inr, arith, length-append, take_all}
 use Rattle.std.proofs.lemmas.List.{append-nil, map-append}
@@ -36,7 +36,7 @@ use Rattle.exec_session.specs.declared.lines.Taken.{Taken}
 use Rattle.exec_session.specs.declared.lines.Taken.TheVariants as taken
 use Rattle.exec_session.specs.declared.pending.Pending.{Pending}
 
--- a run by lines alone takes any line, one that serves 64 after a turn
+-- in `run` any line may be taken, in `serve` 64 after a turn
 pub may_run : (way : Way) (most : ℕ) → way ≡ Run → MayTakeBehind way most
 may_run Run most is = λ n le. tt
 may_run Serve most is = absurd cc
@@ -45,7 +45,7 @@ pub may_serve : (way : Way) (most : ℕ) → way ≡ Serve → most + 1 ≤ 64 �
 may_serve Run most is le = absurd cc
 may_serve Serve most is le = λ n few. omega (arith, le, few)
 
--- a run by lines alone goes on in any case, and makes no turns, and any run goes on while its executor is open
+-- in `run` a session goes on in any case and makes no turns, and any session goes on while its executor is open
 pub go_run : {D : Type 0} (way : Way) (x : Sight D) → way ≡ Run → MayGoOn way x
 go_run Run x is = tt
 go_run Serve x is = absurd cc
@@ -69,7 +69,7 @@ none_there s none some = absurd (some none)
 pub none_stays : {D : Type 0} (way : Way) (s : Midway D) → s.commands ≡ [] → (way ≡ Run → s.held ≡ None) → MayStay way s
 none_stays way s none free = record { waits = none_waits way s none free; there = none_there s none }
 
--- it was asked whether something is there, and it was
+-- a poll found input
 pub peeked_there : {D : Type 0} (p q : Position D) (has_line : Bool) → q ≡ noted p (Peeked has_line) → has_line ≡ true → IsThere q.at.events
 peeked_there p q has_line same is =
     record { before = p.at.events; last = Peeked has_line; is_last = ap (λ (w : Position _). w.at.events) same; there = is }
@@ -79,7 +79,7 @@ pub looked_there : {D : Type 0} (p q : Position D) (millis : ℕ) (ready : Bool)
 looked_there p q millis ready same is =
     record { before = p.at.events; last = Looked millis ready; is_last = ap (λ (w : Position _). w.at.events) same; there = is }
 
--- what holds of any value
+-- a fact about any value
 pub ok_always : {A E : Type 0} (P : A → Type 0) (r : Result A E) → ((x : A) → P x) → IfOk r P
 ok_always P (Ok x) always = always x
 ok_always P (Err e) always = tt
@@ -96,7 +96,7 @@ may_read_free commands held events free there =
     subst (λ (h : Option Held). MayRead (map of_command commands ++ held_lines h) events) (sym free)
     (subst (λ (ls : Lines). MayRead ls events) (sym (append-nil (map of_command commands))) (may_read commands events there))
 
--- while some wait the executor is open
+-- the executor is open while commands wait
 pub open_while : {D : Type 0} (way : Way) (s : Midway D) → MayWait way s → s.commands ≢ [] → s.place.at.executor.is_open ≡ true
 open_while way s may some = by s.place.at.executor.is_open refl
   where
@@ -104,13 +104,13 @@ open_while way s may some = by s.place.at.executor.is_open refl
     by true is_open = is_open
     by false closed = absurd (some (may.while_open closed))
 
--- an error of a step is that of a run that broke off
+-- an error of a step is that of a session that broke off
 pub comes_err : {D E : Type 0} (look : D → View) (source : Source) (rules : Rules) (p : Position D) (own : OwnTurn) (most : ℕ) (s : Midway D)
     (r : Result Taken E) → IsErr r → BreaksOff look source rules p s.place.at → Comes look source rules p own most s r
 comes_err look source rules p own most s (Ok x) bad breaks = let none : ⊥ = cc in absurd none
 comes_err look source rules p own most s (Err e) bad breaks = breaks
 
--- while no line is held a part of the next one was read
+-- while no line is held, a part of the next one was read
 pub mid_before : (held : Option Held) → held ≡ None → (left : Option (List ℕ)) (kept : List ℕ) (now : Option (List ℕ))
     → IsReadTo held left kept now → IsMidLine left kept now
 mid_before held free left kept now read = subst (λ (h : Option Held). IsReadTo h left kept now) free read
@@ -153,7 +153,7 @@ module _ {D : Type 0} (look : D → View) (source : Source) (rules : Rules) (p :
     goes_on = come.goes_on;
   }
 
-  -- a look, and a wait
+  -- a poll, and a wait
   pub looked : (most : ℕ) (commands : List Command) (held : Option Held) (kept : List ℕ) (place place' : Position D) (event : IoEvent)
       → IsLook rules.way (map of_command commands ++ held_lines held) place.at.events event
       → place' ≡ position (behind place.at event) place.left → Come most place commands held kept
@@ -184,7 +184,7 @@ module _ {D : Type 0} (look : D → View) (source : Source) (rules : Rules) (p :
         goes_on = come.goes_on;
       })
 
-  -- what was asked failed, or the loops have gone round
+  -- the last question failed, or the loops have gone round as often as they can
   pub event_breaks : (most : ℕ) (commands : List Command) (held : Option Held) (kept : List ℕ) (place : Position D) (q : Spot D)
       (event : IoEvent) → is_failure event ≡ true → q ≡ behind place.at event → Come most place commands held kept
       → BreaksOff look source rules p q
@@ -276,7 +276,7 @@ module _ {D : Type 0} (look : D → View) (source : Source) (rules : Rules) (p :
         goes_on = goes_on;
       }
 
-  -- then there was a look
+  -- then there was a poll
   pub found_looked : (most : ℕ) (commands : List Command) (what : Found) (q q' : Position D) (event : IoEvent)
       → IsLook rules.way (map of_command commands ++ found_lines what) q.at.events event
       → q' ≡ position (behind q.at event) q.left → Finds most commands what q → Finds most commands what q'
@@ -291,7 +291,7 @@ module _ {D : Type 0} (look : D → View) (source : Source) (rules : Rules) (p :
         goes_on = finds.goes_on;
       })
 
-  -- it is held
+  -- the line is held
   pub found_held : (most : ℕ) (commands : List Command) (held : Option Held) (kept : List ℕ) (h : Held) (what : Found) (q : Position D)
       → what ≡ found.Line (Ok (asks h)) → held ≡ Some h → kept ≡ [] → Finds most commands what q
       → Come (most + 1) q commands held kept
@@ -309,7 +309,7 @@ module _ {D : Type 0} (look : D → View) (source : Source) (rules : Rules) (p :
         goes_on = it.goes_on;
       }
 
-  -- it waits, as it is a command
+  -- the line waits, as it is a command
   pub one_waits : (most : ℕ) (commands commands' : List Command) (held : Option Held) (kept : List ℕ) (command : Command) (q : Position D)
       → held ≡ None → kept ≡ [] → commands' ≡ commands ++ command ∷ [] → Finds most commands (found.Line (of_command command)) q
       → Come (most + 1) q commands' held kept
@@ -343,7 +343,7 @@ module _ {D : Type 0} (look : D → View) (source : Source) (rules : Rules) (p :
         (may (count + length others) (omega (arith, few))) answered,
   )
 
-  -- that broke off
+  -- their answer broke off
   row_broken : (count : ℕ) (commands : List Command) (lines : Lines) (at s : Spot D) (left : Option (List ℕ))
       → (commands ≢ [] → at.executor.is_open ≡ true) → At count (map of_command commands ++ lines) (position at left)
       → RowBreaks look rules commands at s → MayBreakOff s.events → BreaksOff look source rules p s
@@ -370,7 +370,7 @@ module _ {D : Type 0} (look : D → View) (source : Source) (rules : Rules) (p :
   found_row_breaks most commands what q s is_open finds broke cause =
       row_broken finds.count commands (found_lines what) q.at s finds.left is_open finds.reached broke cause
 
-  -- as the run goes on
+  -- the session goes on after it
   pub come_answered : (most : ℕ) → ((n : ℕ) → n + 1 ≤ most → MayTake rules.way n) → (commands commands' : List Command)
       (held : Option Held) (kept : List ℕ) (place place' : Position D) (step : Taken) → (commands ≢ [] → place.at.executor.is_open ≡ true)
       → commands' ≡ [] → place'.left ≡ place.left → Come most place commands held kept
@@ -407,7 +407,7 @@ module _ {D : Type 0} (look : D → View) (source : Source) (rules : Rules) (p :
         is_closed = closed;
       }
 
-  -- the same before what was read is answered
+  -- the same before the line that was read is answered
   pub found_answered : (most : ℕ) → ((n : ℕ) → n + 1 ≤ most → MayTake rules.way n) → (commands : List Command) (what : Found)
       (q q' : Position D) → (commands ≢ [] → q.at.executor.is_open ≡ true) → q'.left ≡ q.left → Finds most commands what q
       → AnswersAll look rules commands q.at q'.at → MayGoOn rules.way q'.at.executor → Finds most [] what q'
@@ -440,7 +440,7 @@ module _ {D : Type 0} (look : D → View) (source : Source) (rules : Rules) (p :
         is_closed = closed;
       }
 
-  -- a run that does not go on after them ends where it is
+  -- a session that does not go on after them ends where it is
   pub step_ends : (most : ℕ) → ((n : ℕ) → n + 1 ≤ most → MayTake rules.way n) → (commands commands' : List Command) (held : Option Held)
       (kept : List ℕ) (what : Found) (q q' : Position D) (step : Taken) → (commands ≢ [] → q.at.executor.is_open ≡ true)
       → Finds most commands what q → AnswersAll look rules commands q.at q'.at → step ≢ taken.More
@@ -453,7 +453,7 @@ module _ {D : Type 0} (look : D → View) (source : Source) (rules : Rules) (p :
   step_ends most may commands commands' held kept what q q' taken.Closed is_open finds answered ends (serves, closed) =
       found_closed most may commands what q q' is_open finds answered serves closed
 
-  -- what was read was answered, or it was no line
+  -- the line that was read was answered, or there was no line
   pub found_taken : (E : Type 0) (most : ℕ) → MayTakeBehind rules.way most → (commands : List Command) (held : Option Held) (kept : List ℕ)
       (what : Found) (q q' : Position D) (has_ended : Bool) (step : Taken) → commands ≡ [] → held ≡ None → kept ≡ []
       → q'.left ≡ q.left → Finds most [] what q → TakesFound {E = E} look source rules what q.at q'.at (Ok has_ended)

@@ -1,4 +1,4 @@
--- What a worker does, as its relations say it: from what its executor and its edge were to what they are.
+-- A worker's steps as relations: between the views of its executor and edge before and after.
 use Rattle.std.proofs.Common.{◌≡◌, ℕ, Bool, true, false, List, [], ◌∷◌, ◌==◌, length, Some, map, Result, OnErr, OnOk, refl, sym, ap, subst, true≢false, ◌∙◌, arith, eqb-true}
 use Rattle.ocf_types.specs.Kinds.{Command, Reply}
 use Rattle.ocf_types.specs.declared.reply.TurnEnd.{TurnEnd}
@@ -22,15 +22,15 @@ use Rattle.exec_session.specs.Together.{AnswersAll, ServesTogether, TogetherHear
 use Rattle.exec_session.specs.Broken.{RowBreaks}
 
 module _ {D : Type 0} where
-  -- where a worker was, of which this is known, as its parts say it
+  -- a fact about a worker's view, by its fields
   pub parts : (P : Position D → Type 0) (x : Sight D) (e : EdgeView D) (p : Position D) → at_of x e ≡ p → P p → P (at_of x e)
   parts P x e p is known = subst P (sym is) known
 
-  -- and the other way
+  -- the other way
   pub whole : (P : Position D → Type 0) (x : Sight D) (e : EdgeView D) (p : Position D) → at_of x e ≡ p → P (at_of x e) → P p
   whole P x e p is known = subst P is known
 
-  -- it is open still where something was asked
+  -- the executor is still open after one more event
   pub open_noted : (x : Sight D) (e : EdgeView D) (p m : Position D) (event : IoEvent) → at_of x e ≡ m → m ≡ noted p event
       → p.at.executor.is_open ≡ true → x.is_open ≡ true
   open_noted x e p m event is is_noted is_open = ap (λ (P : Position D). P.at.executor.is_open) (is ∙ is_noted) ∙ is_open
@@ -47,7 +47,7 @@ module _ {D : Type 0} where
       )
 
   module _ (look : D → View) where
-    -- all that was sent is recorded, also what was sent since
+    -- all that was sent is recorded, with the messages since
     pub stands_part : (x : Sight D) (e : EdgeView D) (p : Position D) → at_of x e ≡ p → AllStand look e.heard x → AllStand look p.at.heard p.at.executor
     stands_part x e p is stands = whole (λ (P : Position D). AllStand look P.at.heard P.at.executor) x e p is stands
 
@@ -66,7 +66,7 @@ module _ {D : Type 0} where
           fails = λ closed. absurd (true≢false (sym is_open ∙ closed));
         })
 
-    -- where the executor closed as room was made
+    -- the executor closed in the tidy
     pub turn_failed : (rules : Rules) (now : ℕ) (x c m : Sight D) (e : EdgeView D) (p : Position D)
         → at_of x e ≡ p → last_shown p.at.events ≡ Some now → c ≡ with_empty_book x → MakesRoom look rules now c m → m.is_open ≡ false
         → TurnHeard tells_so look rules now p.at (spot m e.heard e.events) Disk
@@ -80,7 +80,7 @@ module _ {D : Type 0} where
           fails = λ _. (refl, refl);
         })
 
-    -- a turn that begins nothing, at the moment that the clock showed
+    -- a turn that begins nothing, at the clock reading
     pub finish_heard : (now : ℕ) (x y : Sight D) (e : EdgeView D) (p m : Position D) (q : Spot D) (end : TurnEnd)
         → m ≡ noted p (Shown now) → at_of x e ≡ m → q.executor ≡ y → FinishesTurn look now (with_empty_book x) y end
         → tells_so (spot y e.heard e.events) q (noticed y) → FinishHeard tells_so look p.at q
@@ -97,7 +97,7 @@ module _ {D : Type 0} where
               (subst (λ (z : Sight D). tells_so (spot z e.heard e.events) q (noticed z)) (sym same) tells);
         }
 
-    -- commands that arrived together
+    -- a group commit
     pub together_heard : (rules : Rules) (now : ℕ) (commands : List Command) (x y : Sight D) (e : EdgeView D) (p m : Position D) (q : Spot D)
         (given : List Reply) → m ≡ noted p (Shown now) → at_of x e ≡ m → q.executor ≡ y
         → ServesTogether look rules now commands x y given → tells_so (spot y e.heard e.events) q (map answered given)

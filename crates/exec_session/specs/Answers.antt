@@ -1,4 +1,4 @@
--- What a line is answered.
+-- The reply to a line.
 use Rattle.std.specs.Prelude.{◌≡◌, ◌≢◌, ◌↔◌, ◌⊎◌, ℕ, ◌+◌, Bool, List, [], ◌∷◌, true, false, IsTrue, Option, Result, Ok, Err}
 use Rattle.std.specs.Global.{Vec}
 use Rattle.ocf_types.specs.Kinds.{Reply, Request}
@@ -32,28 +32,32 @@ use Rattle.exec_session.specs.Spots.{Spot, Telling, behind, moved}
 use Rattle.exec_session.specs.declared.context.Way.{Way}
 use Rattle.exec_session.specs.declared.context.Way.TheVariants.{Run, Serve}
 
--- A line of these bytes is read as the definition says, but that memory may be refused in reading it; a run that serves reads it by a
--- definition of its own.
+-- A line of these bytes is read as the definition says, except that memory may be refused in reading it. In `serve` lines have a
+-- definition of their own.
 abbrev pub IsReadAs : Way → List ℕ → Result Line Refusal → Type 0
 IsReadAs Run bytes (Ok found) = line_read bytes ≡ Ok found
 IsReadAs Run bytes (Err why) = why ≢ refusal.Memory → line_read bytes ≡ Err why
 IsReadAs Serve bytes found = IsServedAs bytes found
 
--- a source of metadata: what it may answer for the agent of a provider and a type that is given this many milliseconds, its
--- metadata or why it has none
+-- A source of metadata: its possible answers for the agent of a provider and a type that may take this many milliseconds; the metadata,
+-- or why there are none.
 abbrev pub Source : Type 1
 Source = List ℕ → List ℕ → Option ℕ → Result (Vec ℕ) MetaFault → Type 0
 
+-- a refusal as a reply
 abbrev pub refused : Refusal → LineReply
 refused why = answer.Request (Refused why)
 
+-- the reply of a closed executor to a drain or a watch
 abbrev pub closed_drain : LineReply
 closed_drain = answer.Drain (Turn turn_end.Closed)
 
+-- its reply to a tidy
 abbrev pub closed_tidy : LineReply
 closed_tidy = answer.Tidy tidy_end.Closed
 
--- how all resources are at the state of this executor, or that memory was refused for that: only where its allocator refuses growths
+-- the status of all resources at the executor's state, or that memory was refused for it: only where the executor's allocator refuses
+-- growths
 abbrev pub IsStatusReply : {D : Type 0} → Sight D → LineReply → Type 0
 IsStatusReply x reply =
     ((statuses : Statuses) × (reply ≡ answer.Status statuses) × (statuses_in statuses ≡ statuses_of x.state))
@@ -64,8 +68,8 @@ abbrev pub IsMetaReply : Source → List ℕ → List ℕ → Option ℕ → Lin
 IsMetaReply source provider agent limit reply =
     (given : Result (Vec ℕ) MetaFault) × source provider agent limit given × (reply ≡ answer.Meta given)
 
--- what a closed executor answers: the metadata that were asked for, to a drain, a watch and a tidy that it is closed, and
--- else 17, also to a line that was refused
+-- The reply of a closed executor: the metadata that were asked for; to a drain, a watch and a tidy, that it is closed; and else 17, also
+-- to a line that was refused.
 abbrev pub IsClosedReply : Source → Result Line Refusal → LineReply → Type 0
 IsClosedReply source (Ok (line.Meta provider agent limit)) reply = IsMetaReply source provider agent limit reply
 IsClosedReply source (Ok (line.Drain limit)) reply = reply ≡ closed_drain
@@ -78,14 +82,14 @@ IsClosedReply source (Ok (line.Request request)) reply = reply ≡ refused refus
 IsClosedReply source (Ok (line.Direct direct)) reply = reply ≡ refused refusal.Closed
 IsClosedReply source (Err why) reply = reply ≡ refused refusal.Closed
 
--- a drain from the moment that the clock shows, for at most this many milliseconds and turns
+-- a drain from the next clock reading on, for at most this many milliseconds and turns
 abbrev pub DrainsFor : {D : Type 0} → (D → View) → Bool → ℕ → Rules → Spot D
     → Spot D → LineReply → Type 0
 DrainsFor look ends_idle limit rules p q reply =
     (now : ℕ) × (end : DrainEnd) × (reply ≡ answer.Drain end)
     × Drains look rules (record { ends_idle = ends_idle; until = now + limit; most = rules.most_turns }) now (behind p (Shown now)) q end
 
--- A drain, and then the client is sent how it ended, which it receives so.
+-- A drain, and then a reply that says how it ended, which is sent like this.
 pub record DrainTold {D : Type 0} (tells_so : Telling D) (look : D → View) (ends_idle : Bool) (limit : ℕ) (rules : Rules)
     (p q : Spot D) : Type 0 where
   pub reply : LineReply
@@ -93,8 +97,8 @@ pub record DrainTold {D : Type 0} (tells_so : Telling D) (look : D → View) (en
   pub drains : DrainsFor look ends_idle limit rules p noticed reply
   pub tells : tells_so noticed q (Answered reply ∷ [])
 
--- What an open executor does with a request, at the moment that the clock shows: room is made, and then it is served. Where a disk fault
--- closed the executor as room was made, it is refused for that and nothing else is done.
+-- An open executor serves a request: the clock is read, a due tidy is made, and then the request is served. If a disk fault closed the
+-- executor in the tidy, the request is refused for that and nothing else is done.
 pub record ServesNow {D : Type 0} (look : D → View) (rules : Rules) (request : Request)
     (p q : Spot D) (reply : LineReply) : Type 0 where
   pub now : ℕ
@@ -112,7 +116,7 @@ abbrev pub TidiesNow : {D : Type 0} → (D → View) → Spot D → Spot D → L
 TidiesNow look p q reply =
     (end : TidyEnd) × (reply ≡ answer.Tidy end) × Tidies look p.executor q.executor end × (q ≡ moved p q.executor)
 
--- what an open executor answers to a line: from the spot of its start to that at which the reply is sent
+-- the reply of an open executor to a line: from the spot at which the line is taken to that at which the reply is sent
 abbrev pub IsOpenReply : {D : Type 0} → (D → View) → Source → Rules → Spot D
     → Spot D → Result Line Refusal → LineReply → Type 0
 IsOpenReply look source rules p q (Ok (line.Request request)) reply = ServesNow look rules request p q reply
@@ -127,7 +131,7 @@ IsOpenReply look source rules p q (Ok (line.Meta provider agent limit)) reply =
 IsOpenReply look source rules p q (Ok (line.Direct direct)) reply = (reply ≡ answer.Direct direct) × (q ≡ p)
 IsOpenReply look source rules p q (Err why) reply = (reply ≡ refused why) × (q ≡ p)
 
--- the same while the executor is open or closed
+-- the reply of an executor, open or closed
 pub record IsReply {D : Type 0} (look : D → View) (source : Source) (rules : Rules)
     (p q : Spot D) (found : Result Line Refusal) (reply : LineReply) : Type 0 where
   pub while_open : p.executor.is_open ≡ true → IsOpenReply look source rules p q found reply

@@ -1,4 +1,4 @@
--- Where a run breaks off: its input or its output failed, nobody reads what is sent, or there was no memory for a reply or a
+-- Where a session breaks off: its input or output failed, nobody reads the output any more, or there was no memory for a reply or a
 -- notice.
 use Rattle.std.specs.Prelude.{◌≡◌, ℕ, true, false, List, [], ◌∷◌, ◌++◌, ◌⊎◌, map, Result, Ok, Err}
 use Rattle.ocf_types.specs.Kinds.{Command}
@@ -24,28 +24,28 @@ use Rattle.exec_session.specs.Runs.{Finishes, MakesTurns, MayGoOn, MayTurn, News
 use Rattle.exec_session.specs.Spots.{MayBreakOff, Position, Spot, TellsPart, behind}
 use Rattle.exec_session.specs.Steps.{Steps}
 
--- A run broke off in an own turn, of whose notices the client received a prefix, or of the line that says how it ended.
+-- A session broke off in an own turn: the client received a prefix of its notices, or of the line that says how it ended.
 pub data OwnTurnBreaks {D : Type 0} (look : D → View) (rules : Rules) (before : TurnEnd) (p q : Spot D) : Type 0 where
   in_notices : (now : ℕ) (end : TurnEnd) → TurnHeard (TellsPart rules.form) look rules now (behind p (Shown now)) q end
       → OwnTurnBreaks look rules before p q
   in_end : (now : ℕ) (end : TurnEnd) (noticed : Spot D) → MakesTurn look rules now (behind p (Shown now)) noticed end
       → NewsSo (TellsPart rules.form) before end noticed q → OwnTurnBreaks look rules before p q
 
--- a run broke off in answering a line: in its reply, or, of an open executor, before that
+-- a session broke off in answering a line: in the reply, or, if the executor is open, before it
 abbrev pub AnswerBreaks : {D : Type 0} → (D → View) → Source → Rules → Result Line Refusal → Spot D → Spot D → Type 0
 AnswerBreaks look source rules found p q =
     AnswersSo (TellsPart rules.form) look source rules found p q
     ⊎ ((p.executor.is_open ≡ true) × ReplyBreaks look rules p q found)
 
--- a line is answered, or that breaks off
+-- a line is answered, or its answer breaks off
 abbrev pub AnswersLine : {D E : Type 0} → (D → View) → Source → Rules → Result Line Refusal → Position D → Position D
     → Result Unit E → Type 0
 AnswersLine look source rules found p q result =
     Steps (Answers look source rules found p.at) (AnswerBreaks look source rules found p.at) p q result
 
--- After a place that a run has come to, with these lines unanswered, it did at most one more thing, of which the client received a
--- prefix: it asked something that failed, or answered the next line, or a drain's turns up to one of them, or a row of commands,
--- or it made a turn, or sent that a disk fault ends it, or made an orderly end.
+-- After a position that a session has reached, with these lines unanswered, it did at most one thing more, of which the client received a
+-- prefix: it asked something that failed; or it answered the next line, or a drain's turns up to one of them, or a group commit; or it
+-- made a turn, or sent that a disk fault ends it, or made an orderly end.
 pub data BreaksIn {D : Type 0} (look : D → View) (source : Source) (rules : Rules) (own : OwnTurn) (lines : Lines)
     (m : Position D) (q : Spot D) : Type 0 where
   at_once : q ≡ m.at → BreaksIn look source rules own lines m q
@@ -61,8 +61,8 @@ pub data BreaksIn {D : Type 0} (look : D → View) (source : Source) (rules : Ru
   in_leave : MakesTurns rules.way → lines ≡ Ok line.Leave ∷ [] → m.at.executor.is_open ≡ true → LeaveBreaks look rules m.at q
       → BreaksIn look source rules own lines m q
 
--- Line after line was answered as said, up to a place after which the run broke off: what was asked last failed, or as much
--- was asked as its loops go round.
+-- Line after line was answered, up to a position after which the session broke off: the last question failed, or the loops have gone
+-- round as often as they can.
 pub record BreaksOff {D : Type 0} (look : D → View) (source : Source) (rules : Rules) (p : Position D) (q : Spot D) : Type 0 where
   pub own : OwnTurn
   pub count : ℕ
@@ -72,12 +72,12 @@ pub record BreaksOff {D : Type 0} (look : D → View) (source : Source) (rules :
   pub breaks : BreaksIn look source rules own lines last q
   pub cause : MayBreakOff q.events
 
--- a run finished, or broke off before
+-- a session finished, or broke off before
 abbrev pub EndsOrBreaks : {D E : Type 0} → (D → View) → Source → Rules → Position D → Position D → Result Unit E → Type 0
 EndsOrBreaks look source rules p q (Ok done) = Finishes look source rules p q
 EndsOrBreaks look source rules p q (Err fault) = BreaksOff look source rules p q.at
 
--- A run broke off while it sent the report, or that it is ready, or after that.
+-- A session broke off while it sent the report, or that it is ready, or after that.
 pub data RunBreaks {D N : Type 0} (look : D → View) (source : Source) (rules : Rules) (report : Report N)
     (p : Position D) (q : Spot D) : Type 0 where
   in_report : ReportBreaks rules.form report p.at q → RunBreaks look source rules report p q

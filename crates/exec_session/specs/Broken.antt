@@ -1,4 +1,4 @@
--- Where a run breaks off in an answer: what it asked failed in a drain, or while it sent replies.
+-- Where a session breaks off in an answer: a question failed in a drain, or while replies were sent.
 use Rattle.std.specs.Prelude.{◌⊎◌, ℕ, ◌+◌, Bool, true, false, List, [], ◌∷◌, Result, Ok}
 use Rattle.ocf_types.specs.Kinds.{Command}
 use Rattle.ocf_types.specs.declared.refusal.Refusal.{Refusal}
@@ -14,12 +14,12 @@ use Rattle.exec_session.specs.Rules.{Rules}
 use Rattle.exec_session.specs.Spots.{Pauses, Spot, TellsPart, behind}
 use Rattle.exec_session.specs.Together.{TogetherHeard}
 
--- a turn at this moment broke off in its notices
+-- a turn at this time broke off in its notices
 abbrev pub TurnBreaks : {D : Type 0} → (D → View) → Rules → ℕ → Spot D → Spot D → Type 0
 TurnBreaks look rules now p q = (end : TurnEnd) × TurnHeard (TellsPart rules.form) look rules now p q end
 
--- A drain broke off in a turn, of whose notices a prefix is written, or after one, where nobody read any more what was
--- sent; or it had made as many turns as its loop goes round.
+-- A drain broke off in a turn, of whose notices a prefix was written, or after one, where nobody read the output any more; or its loop
+-- has gone round as often as it can.
 pub data DrainBreaks {D : Type 0} (look : D → View) (rules : Rules) (t : Terms) (start : ℕ) (p q : Spot D) : Type 0 where
   in_turn : (turns now : ℕ) (m : Spot D) (end : TurnEnd) → GoesOn look rules t start p turns now m
       → TurnHeard (TellsPart rules.form) look rules now m q end → DrainBreaks look rules t start p q
@@ -27,23 +27,23 @@ pub data DrainBreaks {D : Type 0} (look : D → View) (rules : Rules) (t : Terms
       → MakesTurn look rules now m told end → Pauses start now false told q → DrainBreaks look rules t start p q
   spent : (turns now : ℕ) → GoesOn look rules t start p turns now q → DrainBreaks look rules t start p q
 
--- so one that was to take at most this many milliseconds, from the moment that the clock showed
+-- the same of a drain of at most this many milliseconds from the next clock reading on
 abbrev pub DrainBreaksFor : {D : Type 0} → (D → View) → Bool → ℕ → Rules → Spot D → Spot D → Type 0
 DrainBreaksFor look ends_idle limit rules p q =
     (now : ℕ) × DrainBreaks look rules (record { ends_idle = ends_idle; until = now + limit; most = rules.most_turns }) now (behind p (Shown now)) q
 
--- the same, or in telling how it ended
+-- the same, or its reply broke off
 abbrev pub DrainEndsEarly : {D : Type 0} → (D → View) → Bool → ℕ → Rules → Spot D → Spot D → Type 0
 DrainEndsEarly look ends_idle limit rules p q =
     DrainTold (TellsPart rules.form) look ends_idle limit rules p q ⊎ DrainBreaksFor look ends_idle limit rules p q
 
--- An open executor broke off in answering a line before its reply was sent: a drain or a watch, and no other.
+-- An open executor broke off in answering a line before the reply was sent: only a drain or a watch can.
 abbrev pub ReplyBreaks : {D : Type 0} → (D → View) → Rules → Spot D → Spot D → Result Line Refusal → Type 0
 ReplyBreaks look rules p q (Ok (line.Drain limit)) = DrainBreaksFor look true limit rules p q
 ReplyBreaks look rules p q (Ok (line.Watch limit)) = DrainBreaksFor look false limit rules p q
 ReplyBreaks look rules p q _ = ⊥
 
--- commands that arrived together were answered, and of their replies a prefix is written
+-- a group commit was answered, and a prefix of its replies was written
 abbrev pub RowBreaks : {D : Type 0} → (D → View) → Rules → List Command → Spot D → Spot D → Type 0
 RowBreaks look rules [] p q = ⊥
 RowBreaks look rules (first ∷ others) p q = TogetherHeard (TellsPart rules.form) look rules (first ∷ others) p q

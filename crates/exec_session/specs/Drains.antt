@@ -1,4 +1,4 @@
--- What a drain does, turn by turn.
+-- Drains, turn by turn.
 use Rattle.std.specs.Prelude.{◌≡◌, ℕ, ◌+◌, Bool, true, false, not, ◌&&◌, nat_le, Option, Some, None, if◌then◌else◌}
 use Rattle.ocf_types.specs.Boot.{any_busy}
 use Rattle.ocf_types.specs.declared.reply.TurnEnd.{TurnEnd}
@@ -15,9 +15,8 @@ use Rattle.exec_session.specs.Rules.{Rules, MakesRoom}
 use Rattle.exec_session.specs.Spots.{Pauses, Spot, Telling, Tells, behind, moved}
 use Rattle.exec_session.specs.declared.drain.Terms.{Terms}
 
--- A turn at this moment, which the clock showed last: the book is emptied and room is made, then the turn is made, and its notices
--- are sent, which the client receives so. Where a disk fault closed the executor as room was made, no turn is made and nothing is
--- sent.
+-- A turn at this time, the last clock reading: the book is emptied, a due tidy is made, then the turn, and its notices are sent like
+-- this. If a disk fault closed the executor in the tidy, no turn is made and nothing is sent.
 pub record TurnHeard {D : Type 0} (tells_so : Telling D) (look : D → View) (rules : Rules) (now : ℕ) (p q : Spot D)
     (end : TurnEnd) : Type 0 where
   pub shown : last_shown p.events ≡ Some now
@@ -31,25 +30,25 @@ pub record TurnHeard {D : Type 0} (tells_so : Telling D) (look : D → View) (ru
 abbrev pub MakesTurn : {D : Type 0} → (D → View) → Rules → ℕ → Spot D → Spot D → TurnEnd → Type 0
 MakesTurn look rules now p q end = TurnHeard (Tells rules.form) look rules now p q end
 
--- After a turn at the second moment, in a drain that began at the first: a short pause, then the client still reads, and
--- then the clock shows the third.
+-- After a turn at the second time, in a drain since the first: a short pause, then the client still reads, and then the clock shows the
+-- third time.
 abbrev pub Rests : {D : Type 0} → ℕ → ℕ → Spot D → Spot D → ℕ → Type 0
 Rests {D} start now p q after = (m : Spot D) × Pauses start now true p m × (q ≡ behind m (Shown after))
 
--- how a drain ends after its turn of this number, which ended so and left the executor idle or not, at the moment that the
--- clock shows then; none where it goes on
+-- How a drain ends after this number of turns, the last of which ended like this, with the executor idle or not, at this time; `None`
+-- where it goes on.
 abbrev pub end_behind : Terms → ℕ → ℕ → TurnEnd → Bool → Option DrainEnd
 end_behind t turns now Done idle =
     if t.ends_idle && idle then Some Idle else
     (if nat_le t.until now then Some Limit else (if nat_le t.most turns then Some Turns else None))
 end_behind t turns now end idle = Some (Turn end)
 
--- the same, of an executor that is seen as it is after that turn
+-- the same, with the view of the executor after that turn
 abbrev pub end_at : {D : Type 0} → Terms → ℕ → ℕ → TurnEnd → Sight D → Option DrainEnd
 end_at t turns now end e = end_behind t turns now end (not (any_busy e.state))
 
--- This many turns were made, none of which ended the drain, each at the moment that the clock showed after the one before:
--- the first at the start, and the next one will be at this moment.
+-- This many turns were made, none of which ended the drain, each at the clock reading after the one before. The first was at the start,
+-- and the next will be at this time.
 pub data GoesOn {D : Type 0} (look : D → View) (rules : Rules) (t : Terms) (start : ℕ)
     (p : Spot D) : ℕ → ℕ → Spot D → Type 0 where
   at_start : GoesOn look rules t start p 0 start p
@@ -58,7 +57,7 @@ pub data GoesOn {D : Type 0} (look : D → View) (rules : Rules) (t : Terms) (st
       → end_at t (turns + 1) after end told.executor ≡ None
       → GoesOn look rules t start p (turns + 1) after q
 
--- A whole drain from this start: turns that go on, and the one that ends it.
+-- A whole drain from this start: turns after which it goes on, and the one that ends it.
 pub record Drains {D : Type 0} (look : D → View) (rules : Rules) (t : Terms) (start : ℕ)
     (p q : Spot D) (end : DrainEnd) : Type 0 where
   pub turns : ℕ

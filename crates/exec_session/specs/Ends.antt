@@ -1,4 +1,4 @@
--- How a whole run ends.
+-- How a whole session ends.
 use Rattle.std.specs.Prelude.{◌≡◌, true, false, Result, Ok, Err}
 use Rattle.disk_model.specs.View.{View}
 use Rattle.child_model.specs.Children.{ChildrenView, given_up}
@@ -16,8 +16,8 @@ use Rattle.exec_session.specs.Rules.{Rules}
 use Rattle.exec_session.specs.Runs.{Finishes}
 use Rattle.exec_session.specs.Spots.{Position, Spot, position, spot}
 
--- the report is sent first, then that a run which serves is ready, and then all lines are answered, or a disk fault ends a run that
--- serves
+-- The report is sent first, and in `serve` the line that the session is ready; then all lines are answered, or in `serve` a disk fault
+-- ends the session.
 pub record Runs {D N : Type 0} (look : D → View) (source : Source) (rules : Rules) (report : Report N)
     (p q : Position D) : Type 0 where
   pub reported : Spot D
@@ -26,7 +26,7 @@ pub record Runs {D N : Type 0} (look : D → View) (source : Source) (rules : Ru
   pub ready : TellsReady rules.way rules.form reported begun
   pub lines : Finishes look source rules (record p { at = begun }) q
 
--- how a run ends that leads from one place to another
+-- how a session from one position to another ends
 abbrev pub EndsAs : {D N T : Type 0} → (D → View) → Source → Rules → Report N → Position D
     → Position D → Result T Fault → Type 0
 EndsAs look source rules report p q (Ok done) = Runs look source rules report p q × (q.at.executor.is_open ≡ true)
@@ -36,8 +36,8 @@ EndsAs look source rules report p q (Err InputOrOutput) = RunBreaks look source 
 EndsAs look source rules report p q (Err ReplyMemory) = RunBreaks look source rules report p q.at
 EndsAs look source rules report p q (Err _) = ⊥
 
--- A run that begins at this place ended, with what its edge shows then: at its end all children are given up, and they and the disk are
--- handed back.
+-- A session that begins at this position ended, and its edge shows this. At its end all agent processes are given up, and the agents and
+-- the disk are given back.
 pub record Ended {D C N : Type 0} (look : D → View) (tend : C → ChildrenView) (source : Source) (rules : Rules) (report : Report N)
     (p : Position D) (edge : EdgeView D) (ended : Result Unit Fault) (disk : D) (children : C) : Type 0 where
   pub last : Sight D
@@ -45,8 +45,8 @@ pub record Ended {D C N : Type 0} (look : D → View) (tend : C → ChildrenView
   pub disk_is : disk ≡ last.disk
   pub children_are : tend children ≡ given_up last.children
 
--- However a run ends, its executor did nothing but calls since it was opened, and is closed; and all that its client was sent
--- is backed by what they recorded. This disk and these children are those that it gave back.
+-- However a session ends, its executor went on by calls alone since it was opened, and is closed; and all that its client was sent is
+-- backed by what they recorded. This disk and these agents are those that it gave back.
 pub record ClosesByCalls {D : Type 0} (look : D → View) (opened : Sight D) (heard : Heard D) (disk : D) (children : ChildrenView) : Type 0 where
   pub last : Sight D
   pub stands : StandsBehind look opened last heard.told

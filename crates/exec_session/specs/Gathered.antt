@@ -1,4 +1,4 @@
--- What waits to be answered together.
+-- Commands that wait to be answered together.
 use Rattle.std.specs.Prelude.{List}
 use Rattle.ocf_types.specs.Kinds.{Command, Reply}
 use Rattle.exec_session.specs.declared.gathered.Gathered.{Gathered}
@@ -7,6 +7,6 @@ use Rattle.exec_session.specs.declared.gathered.Gathered.{Gathered}
 abbrev pub waiting : Gathered → List Command
 waiting gathered = gathered.commands.items
 
--- what was replied last
+-- the last replies
 abbrev pub replied : Gathered → List Reply
 replied gathered = gathered.replies.items

@@ -1,4 +1,4 @@
--- A line that a run holds which serves: it asks for metadata, or for the end of the run.
+-- A line that a session in `serve` holds: it asks for metadata, or for the end of the session.
 use Rattle.std.specs.Prelude.{◌≡◌, ⊤, [], ◌∷◌, Option, Some, None, Bool, true, false, Result, Ok, Err}
 use Rattle.ocf_types.specs.declared.refusal.Refusal.{Refusal}
 use Rattle.disk_model.specs.View.{View}
@@ -16,18 +16,18 @@ use Rattle.exec_session.specs.declared.held.Held.TheVariants as held
 use Rattle.exec_session.specs.declared.lines.Found.{Found}
 use Rattle.exec_session.specs.declared.lines.Found.TheVariants as found
 
--- what it asks for
+-- the request of a held line
 abbrev pub asks : Held → Line
 asks (held.Metadata provider agent limit) = line.Meta provider agent limit
 asks held.Leave = line.Leave
 
--- it as a line that was read and is not answered, where one is held
+-- the held line, if there is one, as a line that was read and is not answered
 abbrev pub held_lines : Option Held → Lines
 held_lines None = []
 held_lines (Some h) = Ok (asks h) ∷ []
 
--- A run that goes so may answer this line as soon as it is read: a run that answers lines alone answers each so, and one that serves
--- each but a question for metadata, and the one that asks it to end.
+-- In this mode a line may be answered as soon as it is read: in `run` any line; in `serve` any but a question for metadata and the one
+-- that asks for the end of the session.
 abbrev pub MayAnswerAtOnce : Way → Result Line Refusal → Type 0
 MayAnswerAtOnce way (Ok (line.Meta provider agent limit)) = way ≡ Run
 MayAnswerAtOnce way (Ok line.Leave) = way ≡ Run
@@ -38,7 +38,7 @@ abbrev pub MayTakeAtOnce : Way → Found → Type 0
 MayTakeAtOnce way (found.Line line) = MayAnswerAtOnce way line
 MayTakeAtOnce way _ = ⊤
 
--- the held line was answered, or its agent has not answered by now and nothing was done, or the run broke off in the reply
+-- the held line was answered; or its agent has not answered by now and nothing was done; or its reply broke off
 abbrev pub AnswersHeld : {D E : Type 0} → (D → View) → Source → Rules → Held → Spot D → Spot D → Result Bool E → Type 0
 AnswersHeld look source rules held p q (Ok true) = Answers look source rules (Ok (asks held)) p q
 AnswersHeld look source rules held p q (Ok false) = q ≡ p

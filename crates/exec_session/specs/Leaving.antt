@@ -1,4 +1,4 @@
--- An orderly end: nothing begins any more, what runs ends, and then the run ends.
+-- An orderly end: nothing begins any more, the actions that run come to their ends, and then the session ends.
 use Rattle.std.specs.Prelude.{◌≡◌, ℕ, true, false, [], ◌∷◌}
 use Rattle.ocf_types.specs.declared.reply.TurnEnd.{TurnEnd}
 use Rattle.ocf_types.specs.declared.reply.TurnEnd.TheVariants.{Disk}
@@ -13,28 +13,28 @@ use Rattle.exec_session.specs.Reports.{ended}
 use Rattle.exec_session.specs.Rules.{Rules}
 use Rattle.exec_session.specs.Spots.{Pauses, Spot, Telling, Tells, TellsPart, behind, moved}
 
--- The clock shows a moment, and a turn is made then that begins nothing: the book is emptied, the turn is made, and its
--- notices are sent, which the client receives so.
+-- The clock is read, and a turn that begins nothing is made at that time: the book is emptied, the turn is made, and its notices are sent
+-- like this.
 pub record FinishHeard {D : Type 0} (tells_so : Telling D) (look : D → View) (p q : Spot D) : Type 0 where
   pub now : ℕ
   pub end : TurnEnd
   pub takes : FinishesTurn look now (with_empty_book p.executor) q.executor end
   pub tells : tells_so (behind (moved p q.executor) (Shown now)) q (noticed q.executor)
 
--- so while an action runs, which the client receives so
+-- the same while an action runs
 pub record WindsOne {D : Type 0} (tells_so : Telling D) (look : D → View) (p q : Spot D) : Type 0 where
   pub is_open : p.executor.is_open ≡ true
   pub runs : any_running p.executor.state ≡ true
   pub heard : FinishHeard tells_so look p q
 
--- Turns were made that begin nothing, each while an action ran, and each followed by a short pause: from one spot to another.
+-- Turns that begin nothing, each while an action runs, and each followed by a short pause: from one spot to another.
 pub data WindsDown {D : Type 0} (look : D → View) (rules : Rules) (p : Spot D) : Spot D → Type 0 where
   at_first : WindsDown look rules p p
   further : (now : ℕ) (m told q : Spot D) → WindsDown look rules p m → WindsOne (Tells rules.form) look m told
       → told.executor.is_open ≡ true → Pauses 0 now true told q → WindsDown look rules p q
 
--- An orderly end, from the spot at which it was asked for, whose last line the client receives so: the reply once nothing
--- runs, or the line of the disk fault that closed the executor in the turn before.
+-- An orderly end, from the spot at which it was asked for, with the last line sent like this: the reply once nothing runs, or the line of
+-- the disk fault that closed the executor in the last turn.
 pub data LeavesSo {D : Type 0} (tells_so : Telling D) (look : D → View) (rules : Rules) (p q : Spot D) : Type 0 where
   left : (m : Spot D) → WindsDown look rules p m → m.executor.is_open ≡ true → any_running m.executor.state ≡ false
       → tells_so m q (Answered Left ∷ []) → LeavesSo tells_so look rules p q
@@ -45,8 +45,8 @@ pub data LeavesSo {D : Type 0} (tells_so : Telling D) (look : D → View) (rules
 abbrev pub LeavesFrom : {D : Type 0} → (D → View) → Rules → Spot D → Spot D → Type 0
 LeavesFrom look rules p q = LeavesSo (Tells rules.form) look rules p q
 
--- One that broke off: in the notices of a turn, after one, where nobody read any more what was sent, or in the last line;
--- or it had made as many turns as its loop goes round.
+-- An orderly end that broke off: in the notices of a turn, after one, where nobody read the output any more, or in the last line; or its
+-- loop has gone round as often as it can.
 pub data LeaveBreaks {D : Type 0} (look : D → View) (rules : Rules) (p q : Spot D) : Type 0 where
   in_turn : (m : Spot D) → WindsDown look rules p m → WindsOne (TellsPart rules.form) look m q → LeaveBreaks look rules p q
   unheard : (now : ℕ) (m told : Spot D) → WindsDown look rules p m → WindsOne (Tells rules.form) look m told → Pauses 0 now false told q

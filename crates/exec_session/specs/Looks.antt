@@ -1,4 +1,4 @@
--- How a run looks for lines: what it has asked of its reader, and when it may read.
+-- How a session polls for lines: its questions to the reader, and when it may read.
 use Rattle.std.specs.Prelude.{◌≡◌, ◌⊎◌, ⊤, ℕ, ◌+◌, ◌<◌, ◌≤◌, Bool, true, false, List, [], ◌∷◌, ◌++◌, Result, if◌then◌else◌}
 use Rattle.ocf_types.specs.declared.refusal.Refusal.{Refusal}
 use Rattle.exec_commands.specs.declared.line.Line.{Line}
@@ -6,53 +6,54 @@ use Rattle.exec_trace.specs.declared.event.IoEvent.{IoEvent}
 use Rattle.exec_trace.specs.declared.event.IoEvent.TheVariants.{Looked, Peeked, Read}
 use Rattle.exec_session.specs.Limits.{reads_a_turn}
 
--- lines that were read, each as this or refused, and are not answered yet
+-- lines that were read, as this or refused, and are not answered yet
 abbrev pub Lines : Type 0
 Lines = List (Result Line Refusal)
 
--- it was asked whether something is there, and it was
+-- a poll that found input
 abbrev pub says_there : IoEvent → Bool
 says_there (Looked millis ready) = ready
 says_there (Peeked has_line) = has_line
 says_there _ = false
 
--- the last that was asked was whether something is there, and it was: a read that follows need not wait
+-- the last event is a poll that found input: a read after it need not wait
 pub record IsThere (events : List IoEvent) : Type 0 where
   pub before : List IoEvent
   pub last : IoEvent
   pub is_last : events ≡ before ++ last ∷ []
   pub there : says_there last ≡ true
 
--- With these lines unanswered a read may be made: there is none, or what is to be read is there.
+-- With these lines unanswered a read may be made: there are none, or input is there.
 abbrev pub MayRead : Lines → List IoEvent → Type 0
 MayRead [] events = ⊤
 MayRead (line ∷ lines) events = IsThere events
 
--- the last that was asked was a read, which was done
+-- the last event is a read that succeeded
 abbrev pub FollowsRead : List IoEvent → Type 0
 FollowsRead events = (before : List IoEvent) × (events ≡ before ++ Read true ∷ [])
 
--- whether this was a read, and a look that found nothing, as a number
+-- 1 for a read
 abbrev pub reads_of : IoEvent → ℕ
 reads_of (Read done) = 1
 reads_of _ = 0
 
+-- 1 for a poll that found nothing
 abbrev pub misses_of : IoEvent → ℕ
 misses_of (Looked millis ready) = if ready then 0 else 1
 misses_of _ = 0
 
--- how many reads were made
+-- the number of reads
 abbrev pub reads_in : List IoEvent → ℕ
 reads_in [] = 0
 reads_in (event ∷ events) = reads_of event + reads_in events
 
--- how many looks found nothing
+-- the number of polls that found nothing
 abbrev pub misses_in : List IoEvent → ℕ
 misses_in [] = 0
 misses_in (event ∷ events) = misses_of event + misses_in events
 
--- A run has looked for lines since this many reads were made and this many looks found nothing: a further one found nothing, or as
--- many reads more were made as are made between two turns. While one of these lines is unanswered it need not.
+-- A session has polled for lines since there were this many reads and this many polls that found nothing: another one found nothing, or
+-- as many reads were made as may be between two turns. While one of these lines is unanswered it need not poll.
 abbrev pub HasLooked : ℕ → ℕ → Lines → List IoEvent → Type 0
 HasLooked reads misses [] events = (misses < misses_in events) ⊎ (reads + reads_a_turn ≤ reads_in events)
 HasLooked reads misses (line ∷ lines) events = ⊤

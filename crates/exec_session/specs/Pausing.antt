@@ -1,4 +1,4 @@
--- How long a run may pause between two turns.
+-- How long a session may pause between two turns.
 use Rattle.std.specs.Prelude.{◌≡◌, ◌≤◌, ◌⊎◌, ℕ, ◌+◌, ◌-◌, ◌*◌, Bool, true, false, List, Some, All}
 use Rattle.std.specs.List.{list_all}
 use Rattle.ocf_types.specs.Boot.{any_busy}
@@ -12,28 +12,27 @@ use Rattle.exec_trace.specs.Events.{last_shown}
 use Rattle.exec_trace.specs.declared.event.IoEvent.{IoEvent}
 use Rattle.exec_session.specs.Limits.{longest_pause, longest_wait, short_pause}
 
--- a child that was asked runs still
+-- an agent process that was polled still runs
 abbrev pub still_runs : Answer → Bool
 still_runs (asked.Poll Running) = true
 still_runs _ = false
 
--- nothing ended or began in a turn with this book: each child that was asked runs still, and none was started
+-- Nothing ended or began in a turn with this book: each agent process that was polled still runs, and none was spawned.
 abbrev pub is_quiet : List Entry → Bool
 is_quiet book = list_all (λ e. still_runs e.answer) book
 
--- After a turn at this moment, with this book, nothing has ended or begun since the last of these moments, where nothing had since the
--- one before it.
+-- After a turn at this time, with this book, nothing has ended or begun since the last of these times, if nothing had since the one
+-- before it.
 abbrev pub IsQuietSince : List Entry → ℕ → ℕ → ℕ → Type 0
 IsQuietSince book now before since = (now ≤ since) ⊎ ((is_quiet book ≡ true) × (before ≤ since))
 
--- A pause of this many microseconds, after a turn at the second moment, where nothing has ended or begun since the first: a
--- millisecond at most; or a hundredth of the time between them, and 50 milliseconds at most. What runs then began at the
--- first moment or before, so its end is seen late by a hundredth of its time at most.
+-- A pause of this many microseconds, after a turn at the second time, where nothing has ended or begun since the first: a millisecond at
+-- most; or a hundredth of the time between them, and 50 milliseconds at most. An action that runs then began at the first time or before,
+-- so its end is seen late by at most a hundredth of its duration.
 abbrev pub IsShort : ℕ → ℕ → ℕ → Type 0
 IsShort since now micros = (micros ≤ short_pause) ⊎ ((micros ≤ longest_pause) × (micros ≤ 10 * (now - since)))
 
--- Nothing is queued or runs, and no monitor is due within this many microseconds from the moment that the clock showed
--- last: a second at most.
+-- Nothing is queued or running, and no monitor is due within this many microseconds from the last clock reading; a second at most.
 pub record IsUntilDue {D : Type 0} (x : Sight D) (events : List IoEvent) (micros : ℕ) : Type 0 where
   pub idle : any_busy x.state ≡ false
   pub moment : ℕ
@@ -41,6 +40,6 @@ pub record IsUntilDue {D : Type 0} (x : Sight D) (events : List IoEvent) (micros
   pub brief : micros ≤ 1000 * longest_wait
   pub before : All (λ p. 1000 * moment + micros ≤ 1000 * p.0) (all_pairs x.monitors)
 
--- so long may be waited after a turn at this moment, where nothing has ended or begun since the first
+-- A wait may be this long after a turn at this time, where nothing has ended or begun since the first.
 abbrev pub MayPause : {D : Type 0} → ℕ → ℕ → Sight D → List IoEvent → ℕ → Type 0
 MayPause since now x events micros = IsShort since now micros ⊎ IsUntilDue x events micros

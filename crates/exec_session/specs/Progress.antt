@@ -1,4 +1,4 @@
--- How a run goes on, line by line of the input.
+-- How a session goes on, line by line of the input.
 use Rattle.std.specs.Prelude.{◌≡◌, ◌≢◌, ◌⊎◌, ℕ, ◌<◌, ⊤, Bool, IsTrue, List, [], ◌∷◌, length, Option, Some, None, Result, Ok, Err}
 use Rattle.std.specs.Io.KnownBytes.{IsAtEnd}
 use Rattle.ocf_types.specs.declared.refusal.Refusal.{Refusal}
@@ -22,29 +22,29 @@ abbrev pub PassesLine : Option (List ℕ) → Option (List ℕ) → Type 0
 PassesLine None new = ⊤
 PassesLine (Some xs) new = (0 < length xs) × (first_line xs ≡ []) × (new ≡ Some (after_first_line xs))
 
--- where it is known what a reader has left: the next line is read as this by a run in this mode, and what comes after it is left
+-- where it is known what a reader has left: the next line is read as this in this mode, and what comes after it is left
 abbrev pub ReadsLine : Way → Option (List ℕ) → Option (List ℕ) → Result Line Refusal → Type 0
 ReadsLine way None new found = ⊤
 ReadsLine way (Some xs) new found = (first_line xs ≢ []) × (new ≡ Some (after_first_line xs)) × IsReadAs way (first_line xs) found
 
--- a line that a run which serves has read has the tag that these bytes give it; nothing else has one
+-- In `serve` a line that was read has the tag that these bytes give it; nothing else has a tag.
 abbrev pub HasTagOf : Way → List ℕ → Found → Option (List ℕ) → Type 0
 HasTagOf Serve bytes (found.Line (Ok line)) tag = IsTaggedAs bytes tag
 HasTagOf way bytes next tag = tag ≡ None
 
--- What was found stays as it was, but that a line of a run that serves is refused where no memory was there to note that it was read:
--- only where the allocator of what the client is sent refuses growths.
+-- What was found stays as it was, except that in `serve` a line is refused where no memory was there for its tag: only where the client's
+-- allocator refuses growths.
 abbrev pub IsNotedAs : Bool → Way → Found → Found → Type 0
 IsNotedAs refuses Serve (found.Line line) now = (now ≡ found.Line line) ⊎ ((now ≡ found.Line (Err Memory)) × IsTrue refuses)
 IsNotedAs refuses way old now = now ≡ old
 
--- what comes next in the input, from what a reader has left to what it has left then
+-- the next line of the input, or its end: what a reader has left before it and after it
 abbrev pub ReadsInput : Way → Option (List ℕ) → Option (List ℕ) → Found → Type 0
 ReadsInput way old new found.End = IsAtEnd old
 ReadsInput way old new found.Empty = PassesLine old new
 ReadsInput way old new (found.Line line) = ReadsLine way old new line
 
--- A line that was read is answered: the client is sent the notices of a drain, and then just the reply, which it receives so.
+-- A line that was read is answered: the client is sent the notices of a drain, and then only the reply, which is sent like this.
 pub record AnswersSo {D : Type 0} (tells_so : Telling D) (look : D → View) (source : Source) (rules : Rules)
     (found : Result Line Refusal) (p q : Spot D) : Type 0 where
   pub reply : LineReply
@@ -52,6 +52,6 @@ pub record AnswersSo {D : Type 0} (tells_so : Telling D) (look : D → View) (so
   pub answered : IsReply look source rules p noticed found reply
   pub tells : tells_so noticed q (Answered reply ∷ [])
 
--- it receives all of it
+-- the client receives all of it
 abbrev pub Answers : {D : Type 0} → (D → View) → Source → Rules → Result Line Refusal → Spot D → Spot D → Type 0
 Answers look source rules found p q = AnswersSo (Tells rules.form) look source rules found p q

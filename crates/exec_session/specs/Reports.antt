@@ -1,4 +1,4 @@
--- What is sent of an opening's report, that a run is ready, and how a turn ended.
+-- The messages that report an opening, that a session is ready, and how a turn ended.
 use Rattle.std.specs.Prelude.{◌≡◌, ◌⊎◌, [], ◌∷◌, length, map}
 use Rattle.executor.specs.Reports.{report_of}
 use Rattle.executor.specs.Sights.{Sight}
@@ -17,18 +17,18 @@ use Rattle.exec_session.specs.declared.context.Way.TheVariants.{Run, Serve}
 abbrev pub IsReportOf : {D M : Type 0} → Sight D → Report M → Type 0
 IsReportOf x r = x.reported ≡ report_of r
 
--- the report was sent: what was interrupted, and then what was dropped
+-- the report was sent: the interrupted actions, and then the dropped ones
 abbrev pub TellsReport : {D M : Type 0} → NoticeForm → Report M → Spot D → Spot D → Type 0
 TellsReport {D} form r p q =
     (m : Spot D) × Tells form p m (map Reported r.interrupted.items) × Tells form m q (map Reported r.dropped.items)
 
--- that broke off in the first of them, or in the second
+-- the report broke off in the first of these messages, or in the second
 abbrev pub ReportBreaks : {D M : Type 0} → NoticeForm → Report M → Spot D → Spot D → Type 0
 ReportBreaks {D} form r p q =
     TellsPart form p q (map Reported r.interrupted.items)
     ⊎ ((m : Spot D) × Tells form p m (map Reported r.interrupted.items) × TellsPart form m q (map Reported r.dropped.items))
 
--- how many resources are registered, and how many lines the report of its opening has of what was interrupted and of what was dropped
+-- the number of registered resources, and of lines of the opening's report: of interrupted and of dropped actions
 abbrev pub counts_of : {D : Type 0} → Sight D → Counts
 counts_of x = record {
   resources = length x.state.resources;
@@ -36,20 +36,20 @@ counts_of x = record {
   dropped = length x.reported.dropped;
 }
 
--- the line that says that a run which serves is ready
+-- the line that a session in `serve` is ready
 abbrev pub readied : {D : Type 0} → Sight D → Said
 readied x = Answered (Ready (counts_of x))
 
--- the client is sent that a run which serves is ready, which it receives so; nothing of a run by lines alone
+-- In `serve` the client receives the line that the session is ready; in `run` it is sent nothing.
 abbrev pub TellsReady : {D : Type 0} → Way → NoticeForm → Spot D → Spot D → Type 0
 TellsReady Run form p q = q ≡ p
 TellsReady Serve form p q = Tells form p q (readied p.executor ∷ [])
 
--- that broke off
+-- that line broke off
 abbrev pub ReadyBreaks : {D : Type 0} → Way → NoticeForm → Spot D → Spot D → Type 0
 ReadyBreaks Run form p q = ⊥
 ReadyBreaks Serve form p q = TellsPart form p q (readied p.executor ∷ [])
 
--- the line that says how a turn ended, as a drain says it
+-- the line that says how a turn ended, as a drain's reply does
 abbrev pub ended : TurnEnd → Said
 ended end = Answered (Drain (Turn end))

@@ -1,4 +1,4 @@
--- Whole runs.
+-- Whole sessions.
 use Rattle.std.specs.Prelude.{◌≡◌, ◌≢◌, ◌⊎◌, ℕ, ◌+◌, ◌*◌, ◌<◌, ⊤, List, [], ◌∷◌, ◌++◌, length, map, true, false, Option, Result, Ok}
 use Rattle.std.specs.Io.KnownBytes.{IsAtEnd}
 use Rattle.disk_model.specs.View.{View}
@@ -29,62 +29,62 @@ use Rattle.exec_session.specs.Progress.{Answers, PassesLine, ReadsLine}
 use Rattle.exec_session.specs.Spots.{Position, Spot, Telling, Tells, behind, position}
 use Rattle.exec_session.specs.Together.{AnswersTogether}
 
--- a client of the executor that was just opened, and is open, which was sent nothing yet
+-- a client of an executor that was just opened, and is open; it was sent nothing yet
 abbrev pub IsNew : {D : Type 0} → Heard D → Sight D → Type 0
 IsNew heard x = (heard.opened ≡ x) × (heard.told ≡ []) × (x.is_open ≡ true)
 
--- a run may take a line after this many since its last turn
+-- in this mode a session may take a line after this many since its last turn
 abbrev pub MayTake : Way → ℕ → Type 0
 MayTake Run n = ⊤
 MayTake Serve n = n < lines_a_turn
 
--- a run makes turns by itself
+-- in this mode a session makes turns by itself
 abbrev pub MakesTurns : Way → Type 0
 MakesTurns Run = ⊥
 MakesTurns Serve = ⊤
 
--- A run goes on from here: one that serves only while its executor is open, as a disk fault ends it.
+-- A session may go on: in `serve` only while its executor is open, as a disk fault ends it.
 abbrev pub MayGoOn : {D : Type 0} → Way → Sight D → Type 0
 MayGoOn Run x = ⊤
 MayGoOn Serve x = x.is_open ≡ true
 
--- How an own turn ended is news after the own turn before, which counts as Done where there was none: it ended otherwise
--- than that, and is not done. A disk fault is sent as the run ends.
+-- The end of an own turn is news after the own turn before, which counts as Done where there was none: it differs from that one's, and is
+-- not Done. A disk fault is sent as the session ends.
 abbrev pub IsNews : TurnEnd → TurnEnd → Type 0
 IsNews before end = (end ≢ before) × (end ≢ Done) × (end ≢ Disk)
 
--- the client is sent how an own turn ended, which it receives so, where that is news, and nothing where it is none
+-- if the end of an own turn is news, it is sent like this, and else nothing is sent
 pub data NewsSo {D : Type 0} (tells_so : Telling D) (before end : TurnEnd) (p q : Spot D) : Type 0 where
   news : IsNews before end → tells_so p q (ended end ∷ []) → NewsSo tells_so before end p q
   no_news : (IsNews before end → ⊥) → q ≡ p → NewsSo tells_so before end p q
 
--- A turn that a run makes by itself after one that ended so, at this moment, which the clock shows as it begins: the client
--- receives its notices, and how it ended where that is news.
+-- A turn that a session makes by itself after one that ended like this, at this time, the clock reading at its beginning: the client
+-- receives its notices, and its end if that is news.
 pub record MakesOwnTurn {D : Type 0} (look : D → View) (rules : Rules) (before : TurnEnd) (now : ℕ) (p q : Spot D) (end : TurnEnd)
     : Type 0 where
   pub noticed : Spot D
   pub made : MakesTurn look rules now (behind p (Shown now)) noticed end
   pub told : NewsSo (Tells rules.form) before end noticed q
 
--- a line that is a command
+-- a command as a line
 abbrev pub of_command : Command → Result Line Refusal
 of_command command = Ok (line.Request (asked.Command command))
 
--- the next line is read: what is left goes on after it, and the log by that read
+-- the next line is read: less is left, and the read is one more event
 abbrev pub read_to : {D : Type 0} → Position D → Option (List ℕ) → Position D
 read_to p left = position (behind p.at (Read true)) left
 
--- What is asked, after these events and with these lines unanswered, while a run goes on to its next line: in one that serves, whether
--- something is there, without a wait; after a read, whether a further line is; and a read of a part of a line or of none.
+-- A question that a session asks, after these events and with these lines unanswered, on the way to its next line: in `serve` a poll
+-- without a wait; after a read, whether a further line is there; and a read, of a part of a line or of none.
 abbrev pub IsLook : Way → Lines → List IoEvent → IoEvent → Type 0
 IsLook way lines events (Looked millis ready) = MakesTurns way × (millis ≡ 0)
 IsLook way lines events (Peeked has_line) = FollowsRead events
 IsLook way lines events (Read done) = (done ≡ true) × MayRead lines events
 IsLook way lines events _ = ⊥
 
--- What is asked while a run waits after a turn at the second moment, where nothing has ended or begun since the first: for
--- input, a short time or until the first monitor is due, and a second at most; for such a pause; for a moment; and whether
--- anybody still reads what is sent.
+-- A question that a session asks while it waits after a turn at the second time, where nothing has ended or begun since the first: a poll
+-- of the input, short or until the first monitor is due, and a second at most; a pause of that length; a clock reading; and whether
+-- anybody still reads the output.
 abbrev pub IsWait : {D : Type 0} → ℕ → ℕ → Spot D → IoEvent → Type 0
 IsWait since now p (Looked millis ready) = MayPause since now p.executor p.events (millis * 1000)
 IsWait since now p (Rested micros) = MayPause since now p.executor p.events micros
@@ -92,14 +92,15 @@ IsWait since now p (Shown moment) = ⊤
 IsWait since now p (Asked heard) = heard ≡ true
 IsWait since now p _ = ⊥
 
--- With these lines a run may wait, and may make a turn: each line that was read is answered, but one that asks an agent for metadata.
+-- With these lines a session may wait, and may make a turn: each line that was read is answered, except one that asks an agent for
+-- metadata.
 abbrev pub MayRest : Lines → Type 0
 MayRest [] = ⊤
 MayRest (Ok (line.Meta provider agent limit) ∷ []) = ⊤
 MayRest _ = ⊥
 
--- The last turn that a run made by itself: its moment, since when nothing has ended or begun, how it ended, which line was unanswered
--- meanwhile, if any, and how many reads and how many looks that found nothing were made up to its end.
+-- The last turn that a session made by itself: its time, the time since which nothing has ended or begun, how it ended, the line, if any,
+-- that was unanswered meanwhile, and the number of reads and of polls that found nothing up to its end.
 pub record OwnTurn : Type 0 where
   pub now : ℕ
   pub since : ℕ
@@ -108,7 +109,7 @@ pub record OwnTurn : Type 0 where
   pub reads : ℕ
   pub misses : ℕ
 
--- one that ended so with these lines unanswered, here
+-- an own turn that ended here, like this, with these lines unanswered
 abbrev pub turned : {D : Type 0} → ℕ → ℕ → TurnEnd → Lines → Spot D → OwnTurn
 turned now since end lines p = record {
   now = now;
@@ -119,20 +120,20 @@ turned now since end lines p = record {
   misses = misses_in p.events;
 }
 
--- After this turn, with these lines unanswered, a run makes a further one here: it serves, its executor is open, each line that was read
--- is answered, but one that asks an agent for metadata, and it has looked for lines since, where none was unanswered in either turn.
+-- After this turn, with these lines unanswered, a session may make another one here: the mode is `serve`, its executor is open, each line
+-- that was read is answered, except one that asks an agent for metadata, and it has polled for lines since, where none was unanswered in
+-- either turn.
 pub record MayTurn {D : Type 0} (way : Way) (own : OwnTurn) (lines : Lines) (p : Spot D) : Type 0 where
   pub serves : MakesTurns way
   pub rests : MayRest lines
   pub is_open : p.executor.is_open ≡ true
   pub looked : HasLooked own.reads own.misses (own.lines ++ lines) p.events
 
--- From a place a run has come to another: it read line after line, in their order, none of them left out, and has not answered
--- these yet; it answered the others in that order, commands that were read one after the other in a row; a run that serves
--- made turns between them, after each of which it looked for lines before the next one. No command waits for a line that is
--- not there. Each reading of the clock that an answer or a turn uses comes after the read of the last line before it. Only a
--- run that answers lines alone goes on once its executor is closed. The turn is the last one that it made by itself, the
--- number how many lines it answered or passed over since then.
+-- A session has come from one position to another. It read line after line, in their order, without a gap, and has not answered these
+-- yet. It answered the others in that order; commands that were read one after the other may be a group commit. In `serve` it made turns
+-- between them, and polled for lines after each before the next one. No command waits for a line that is not there. Each clock reading of
+-- an answer or a turn comes after the read of the last line before it. Only in `run` does a session go on once its executor is closed.
+-- The turn is the last own one, and the number counts the lines that were answered or passed over since then.
 pub data Reaches {D : Type 0} (look : D → View) (source : Source) (rules : Rules) (p : Position D)
     : OwnTurn → ℕ → Lines → Position D → Type 0 where
   here : Reaches look source rules p (turned 0 0 Done [] p.at) 0 [] p
@@ -159,7 +160,7 @@ pub data Reaches {D : Type 0} (look : D → View) (source : Source) (rules : Rul
       → IsQuietSince q.executor.children.book now own.since since
       → Reaches look source rules p (turned now since end lines q) 0 lines (position q m.left)
 
--- so up to the end of the input
+-- the same up to the end of the input
 pub record ReachesEnd {D : Type 0} (look : D → View) (source : Source) (rules : Rules) (p : Position D) (q : Spot D) : Type 0 where
   pub own : OwnTurn
   pub count : ℕ
@@ -168,7 +169,7 @@ pub record ReachesEnd {D : Type 0} (look : D → View) (source : Source) (rules 
   pub end : IsAtEnd left
   pub goes_on : MayGoOn rules.way q.executor
 
--- so up to where a disk fault has closed the executor of a run that serves
+-- the same up to a disk fault that has closed the executor, in `serve`
 pub record ReachesFault {D : Type 0} (look : D → View) (source : Source) (rules : Rules) (p : Position D) (q : Spot D) : Type 0 where
   pub serves : MakesTurns rules.way
   pub own : OwnTurn
@@ -178,7 +179,7 @@ pub record ReachesFault {D : Type 0} (look : D → View) (source : Source) (rule
   pub reached : Reaches look source rules p own count lines (position q left)
   pub is_closed : q.executor.is_open ≡ false
 
--- so up to where a line has asked a run that serves to end, which is not answered yet
+-- the same up to a line that asks for the end of the session, in `serve`, and is not answered yet
 pub record ReachesLeave {D : Type 0} (look : D → View) (source : Source) (rules : Rules) (p : Position D) (q : Spot D) : Type 0 where
   pub serves : MakesTurns rules.way
   pub own : OwnTurn
@@ -187,26 +188,26 @@ pub record ReachesLeave {D : Type 0} (look : D → View) (source : Source) (rule
   pub reached : Reaches look source rules p own count (Ok line.Leave ∷ []) (position q left)
   pub is_open : q.executor.is_open ≡ true
 
--- A disk fault ended a run that serves: nothing more was done, no line answered, and the last that the client received is the line
--- of the fault.
+-- A disk fault ended a session in `serve`: nothing more was done, no line was answered, and the last line that the client received is
+-- that of the fault.
 pub record EndsByFault {D : Type 0} (look : D → View) (source : Source) (rules : Rules) (p : Position D) (q : Spot D) : Type 0 where
   pub last : Spot D
   pub fault : ReachesFault look source rules p last
   pub tells : Tells rules.form last q (ended Disk ∷ [])
 
--- A run that serves was asked to end by the last line that it read, and made an orderly end.
+-- The last line that was read asked a session in `serve` to end, and it made an orderly end.
 pub record EndsInOrder {D : Type 0} (look : D → View) (source : Source) (rules : Rules) (p : Position D) (q : Spot D) : Type 0 where
   pub last : Spot D
   pub asked : ReachesLeave look source rules p last
   pub leaves : LeavesFrom look rules last q
 
--- all lines were answered, or a disk fault ended a run that serves, or it was asked to end
+-- all lines were answered; or, in `serve`, a disk fault ended the session, or a line asked for its end
 abbrev pub Finishes : {D : Type 0} → (D → View) → Source → Rules → Position D → Position D → Type 0
 Finishes look source rules p q =
     ReachesEnd look source rules p q.at
     ⊎ (EndsByFault look source rules p q.at ⊎ EndsInOrder look source rules p q.at)
 
--- Calls alone lead from one spot to another, with these exchanges, and what was sent meanwhile is backed by what they recorded.
+-- Calls alone lead from one spot to another, with these messages, which are backed by what the calls recorded.
 pub record GoesByCalls {D : Type 0} (look : D → View) (p q : Spot D) : Type 0 where
   pub said : List Said
   pub told : IsTold p.heard q.heard said

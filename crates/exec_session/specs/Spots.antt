@@ -1,4 +1,4 @@
--- Where a run is: its executor, what its client has received, what was asked of the world around it, and what its reader has left.
+-- Where a session is: its executor, what its client has received, the log of questions and answers, and what its reader has left.
 use Rattle.std.specs.Prelude.{◌≡◌, ◌≤◌, ◌⊎◌, ℕ, Bool, true, false, List, [], ◌∷◌, ◌++◌, length, Option}
 use Rattle.ocf_types.specs.Limits.{num_max}
 use Rattle.executor.specs.Sights.{Sight}
@@ -11,49 +11,50 @@ use Rattle.exec_trace.specs.declared.event.IoEvent.{IoEvent}
 use Rattle.exec_trace.specs.declared.event.IoEvent.TheVariants.{Asked, Sent}
 use Rattle.exec_session.specs.Pausing.{IsShort}
 
--- where an answer is: its executor, what the client has received, and all that was asked of reader, client and clock
+-- a spot: the executor, what the client has received, and the log of questions to reader, client and clock
 pub record Spot (D : Type 0) : Type 0 where
   pub executor : Sight D
   pub heard : Heard D
   pub events : List IoEvent
 
+-- a spot by its fields
 abbrev pub spot : {D : Type 0} → Sight D → Heard D → List IoEvent → Spot D
 spot executor heard events = record { executor = executor; heard = heard; events = events }
 
--- where a run is: the same, and what its reader has left, where that is known
+-- a position: the spot of a session, and what its reader has left, where that is known
 pub record Position (D : Type 0) : Type 0 where
   pub at : Spot D
   pub left : Option (List ℕ)
 
+-- a position by its fields
 abbrev pub position : {D : Type 0} → Spot D → Option (List ℕ) → Position D
 position at left = record { at = at; left = left }
 
--- the same, and then this was asked and answered
+-- the spot after one more event
 abbrev pub behind : {D : Type 0} → Spot D → IoEvent → Spot D
 behind p event = spot p.executor p.heard (p.events ++ event ∷ [])
 
--- how a client is sent something: from one spot to another
+-- how a client is sent messages: from one spot to another
 abbrev pub Telling : Type 0 → Type 1
 Telling D = Spot D → Spot D → List Said → Type 0
 
--- It was sent, and the client receives all of it.
+-- The messages were sent, and the client receives all of them.
 pub record Tells {D : Type 0} (form : NoticeForm) (p q : Spot D) (said : List Said) : Type 0 where
   pub executor : q.executor ≡ p.executor
   pub hears : Hears form p.heard q.heard said
   pub events : q.events ≡ p.events ++ Sent true ∷ []
 
--- It was sent, and a prefix of it was written: that broke off.
+-- Sending broke off after a prefix of the messages.
 pub record TellsPart {D : Type 0} (form : NoticeForm) (p q : Spot D) (said : List Said) : Type 0 where
   pub executor : q.executor ≡ p.executor
   pub hears : HearsPart form p.heard q.heard said
   pub events : q.events ≡ p.events ++ Sent false ∷ []
 
--- Why a run may break off: the last that was asked failed, or as much was asked as its loops go round.
+-- Why a session may break off: the last question failed, or its loops have gone round as often as they can.
 abbrev pub MayBreakOff : List IoEvent → Type 0
 MayBreakOff events = EndsInFailure events ⊎ (num_max ≤ length events)
 
--- What stays while a run goes on: the executor as it was opened, of which messages are sent; and what was asked, which more
--- follows.
+-- While a session goes on, the opening of its executor stays, and the log of questions grows.
 pub record Lasts {D : Type 0} (p q : Spot D) : Type 0 where
   pub opened : q.heard.opened ≡ p.heard.opened
   pub later : List IoEvent
@@ -63,23 +64,23 @@ pub record Lasts {D : Type 0} (p q : Spot D) : Type 0 where
 abbrev pub Keeps : {D : Type 0} → Position D → Position D → Type 0
 Keeps p q = Lasts p.at q.at × (q.left ≡ p.left)
 
--- the same, with this executor
+-- the spot with this executor
 abbrev pub moved : {D : Type 0} → Spot D → Sight D → Spot D
 moved p executor = spot executor p.heard p.events
 
--- the same, and then it was paused for this many microseconds
+-- the spot after a pause of this many microseconds
 abbrev pub paused : {D : Type 0} → Spot D → ℕ → Spot D
 paused p micros = spot p.executor p.heard (p.events ++ rest_events micros)
 
--- the same, and then this was asked and answered, and nothing was read
+-- the position after one more event that is no read
 abbrev pub noted : {D : Type 0} → Position D → IoEvent → Position D
 noted p event = position (behind p.at event) p.left
 
--- A short pause after a turn at the second moment, where nothing has ended or begun since the first, and then the client
--- was asked whether it still reads, and answered so.
+-- A short pause after a turn at the second time, where nothing has ended or begun since the first; then the client was asked whether it
+-- still reads, with this answer.
 abbrev pub Pauses : {D : Type 0} → ℕ → ℕ → Bool → Spot D → Spot D → Type 0
 Pauses since now heard p q = (micros : ℕ) × IsShort since now micros × (q ≡ behind (paused p micros) (Asked heard))
 
--- where a run is with this executor, by its edge
+-- the position of a session with this executor and this edge
 abbrev pub at_of : {D : Type 0} → Sight D → EdgeView D → Position D
 at_of executor edge = position (spot executor edge.heard edge.events) edge.left

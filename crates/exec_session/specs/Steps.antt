@@ -1,10 +1,11 @@
--- What a step of a run leads to, in which nothing is read.
+-- A step of a session in which nothing is read.
 use Rattle.std.specs.Prelude.{List, Result, IfOk, OnErr, OnOk}
 use Rattle.exec_commands.specs.declared.notice.NoticeForm.{NoticeForm}
 use Rattle.exec_client.specs.Said.{Said}
 use Rattle.exec_session.specs.Spots.{Keeps, MayBreakOff, Position, Spot, Tells, TellsPart}
 
--- It is done so; or it breaks off so, since what was asked last failed or as much was asked as the loops go round.
+-- The step succeeds with the first relation, or breaks off with the second, because the last question failed or the loops have gone round
+-- as often as they can.
 pub record Steps {D T E : Type 0} (does breaks_off : Spot D → Type 0) (p q : Position D) (result : Result T E) : Type 0 where
   pub keeps : Keeps p q
   pub done : OnOk result (does q.at)

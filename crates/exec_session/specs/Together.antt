@@ -1,4 +1,4 @@
--- Commands that arrived together, and are answered together.
+-- Group commits: commands that arrived together are answered together.
 use Rattle.std.specs.Prelude.{◌≡◌, ℕ, List, [], ◌∷◌, length, map, replicate, true, false}
 use Rattle.ocf_types.specs.Kinds.{Command, Reply}
 use Rattle.ocf_types.specs.declared.refusal.Refusal.TheVariants.{Disk}
@@ -11,8 +11,8 @@ use Rattle.exec_trace.specs.declared.event.IoEvent.TheVariants.{Shown}
 use Rattle.exec_session.specs.Rules.{Rules, MakesRoom}
 use Rattle.exec_session.specs.Spots.{Spot, Telling, Tells, behind, moved}
 
--- What an open executor does with commands that arrived together, at this moment: room is made, and then it takes them. Where a disk
--- fault closed the executor as room was made, each is refused for that and nothing else is done.
+-- An open executor serves a group commit at this time: a due tidy is made, and then it takes the commands. If a disk fault closed the
+-- executor in the tidy, each is refused for that and nothing else is done.
 pub record ServesTogether {D : Type 0} (look : D → View) (rules : Rules) (now : ℕ) (commands : List Command)
     (old new : Sight D) (given : List Reply) : Type 0 where
   pub middle : Sight D
@@ -20,8 +20,7 @@ pub record ServesTogether {D : Type 0} (look : D → View) (rules : Rules) (now 
   pub takes : middle.is_open ≡ true → TakesCommands look now commands middle new given
   pub fails : middle.is_open ≡ false → (given ≡ replicate (length commands) (Refused Disk)) × (new ≡ middle)
 
--- The clock shows a moment, at which they are served; after that the client is sent just their replies, in their order,
--- which it receives so.
+-- The clock is read, and the group commit is served at that time; then only its replies are sent like this, in their order.
 pub record TogetherHeard {D : Type 0} (tells_so : Telling D) (look : D → View) (rules : Rules) (commands : List Command)
     (p q : Spot D) : Type 0 where
   pub now : ℕ
@@ -29,11 +28,11 @@ pub record TogetherHeard {D : Type 0} (tells_so : Telling D) (look : D → View)
   pub serves : ServesTogether look rules now commands p.executor q.executor given
   pub tells : tells_so (behind (moved p q.executor) (Shown now)) q (map answered given)
 
--- it receives all of them
+-- the client receives all of them
 abbrev pub AnswersTogether : {D : Type 0} → (D → View) → Rules → List Command → Spot D → Spot D → Type 0
 AnswersTogether look rules commands p q = TogetherHeard (Tells rules.form) look rules commands p q
 
--- all commands that wait are answered together, where there are any
+-- the commands that wait, if any, are answered as a group commit
 abbrev pub AnswersAll : {D : Type 0} → (D → View) → Rules → List Command → Spot D
     → Spot D → Type 0
 AnswersAll look rules [] p q = q ≡ p

@@ -1,4 +1,4 @@
--- A run between two lines, some of which may wait to be answered.
+-- A session between two lines, some of which may wait to be answered.
 use Rattle.std.specs.Prelude.{◌≡◌, ◌≢◌, ◌⊎◌, ⊤, ℕ, ◌+◌, ◌<◌, ◌≤◌, Bool, true, false, List, [], ◌∷◌, ◌++◌, length, map, Option, Some, None, Result, Ok, Err, IfOk}
 use Rattle.std.specs.Io.KnownBytes.{IsAtEnd}
 use Rattle.ocf_types.specs.Kinds.{Command}
@@ -28,14 +28,15 @@ use Rattle.exec_session.specs.declared.lines.Taken.{Taken}
 use Rattle.exec_session.specs.declared.lines.Taken.TheVariants.{Closed, End, Leaves, More}
 use Rattle.exec_session.specs.declared.pending.Pending.{Pending}
 
--- where a session is: its position, the commands that wait, the line after them where it is held, and what was read of the next
--- line
+-- Where a session is between two lines: its position, the commands that wait, the line after them if it is held, and the part of the next
+-- line that was read.
 pub record Midway (D : Type 0) : Type 0 where
   pub place : Position D
   pub commands : List Command
   pub held : Option Held
   pub kept : List ℕ
 
+-- where a session with this pending input is
 abbrev pub midway : {D : Type 0} → Position D → Pending → Midway D
 midway place pending = record {
   place = place;
@@ -44,34 +45,34 @@ midway place pending = record {
   kept = line_bytes pending.buffer;
 }
 
--- What was read may stay unanswered: there is room for one command more, none waits once the executor is closed, and a run by lines alone
--- holds no line.
+-- The lines that were read may stay unanswered: there is capacity for one more command, none waits once the executor is closed, and in
+-- `run` no line is held.
 pub record MayWait {D : Type 0} (way : Way) (s : Midway D) : Type 0 where
   pub few : length s.commands < most_together
   pub while_open : s.place.at.executor.is_open ≡ false → s.commands ≡ []
   pub free : way ≡ Run → s.held ≡ None
 
--- Where commands wait the next line is there.
+-- While commands wait, the next line is there.
 abbrev pub WaitsForThere : {D : Type 0} → Midway D → Type 0
 WaitsForThere s = s.commands ≢ [] → IsThere s.place.at.events
 
--- the next line was not begun, and none is held
+-- nothing of the next line was read, and none is held
 pub record IsBetween {D : Type 0} (s : Midway D) : Type 0 where
   pub buffer : s.kept ≡ []
   pub free : s.held ≡ None
 
--- what was read may stay unanswered while the next line is read
+-- the lines that were read may stay unanswered while the next one is read
 pub record MayStay {D : Type 0} (way : Way) (s : Midway D) : Type 0 where
   pub waits : MayWait way s
   pub there : WaitsForThere s
 
--- Of what was left after the last line a prefix of the next one was read, which the buffer keeps; while a line is held nothing was.
+-- A prefix of the next line was read, and is in the buffer; while a line is held, nothing of the next one was.
 abbrev pub IsReadTo : Option Held → Option (List ℕ) → List ℕ → Option (List ℕ) → Type 0
 IsReadTo None left kept now = IsMidLine left kept now
 IsReadTo (Some held) left kept now = (now ≡ left) × (kept ≡ [])
 
--- A run has come from a place so far: the commands that wait and the line that is held were read and are not answered, its last own
--- turn ended so, and of at most this many lines since then the others were answered.
+-- A session has come this far from a position: the commands that wait and the line that is held were read and are not answered, its last
+-- own turn ended like this, and of at most this many lines since then the others were answered.
 pub record HasCome {D : Type 0} (look : D → View) (source : Source) (rules : Rules)
     (p : Position D) (own : OwnTurn) (most : ℕ) (s : Midway D) : Type 0 where
   pub count : ℕ
@@ -82,28 +83,29 @@ pub record HasCome {D : Type 0} (look : D → View) (source : Source) (rules : R
       Reaches look source rules p own count (map of_command s.commands ++ held_lines s.held) (position s.place.at left)
   pub goes_on : MayGoOn rules.way s.place.at.executor
 
--- nothing was asked, or whether something is there, without a wait
+-- one poll without a wait, or none
 abbrev pub LooksOnce : {D : Type 0} → Position D → Position D → Type 0
 LooksOnce p q = (q ≡ p) ⊎ ((ready : Bool) × (q ≡ position (behind p.at (Looked 0 ready)) p.left))
 
--- A run waited after a turn at the second moment, where nothing has ended or begun since the first: one thing was asked after the other.
+-- A session waited after a turn at the second time, where nothing has ended or begun since the first: question after question.
 pub data Waits {D : Type 0} (since now : ℕ) (p : Position D) : Position D → Type 0 where
   still : Waits since now p p
   more : (m : Position D) (event : IoEvent) → Waits since now p m → IsWait since now m.at event
       → Waits since now p (position (behind m.at event) m.left)
 
--- the line in what was read, which is not answered yet
+-- the line, if this is one, that is not answered yet
 abbrev pub found_lines : Found → Lines
 found_lines (found.Line line) = line ∷ []
 found_lines _ = []
 
--- of what was left after the last line this was found, and this is left: one is past a line by now, the other is not
+-- What was found, with the input before it and after it. A line is counted as read already, so both are the same; an empty line is yet to
+-- be passed.
 abbrev pub IsFound : Found → Option (List ℕ) → Option (List ℕ) → Type 0
 IsFound (found.Line line) left now = left ≡ now
 IsFound found.Empty left now = PassesLine left now
 IsFound found.End left now = IsAtEnd left
 
--- A run has come so far that these commands wait, and has read what comes next, which is not answered.
+-- A session has come so far that these commands wait, and has read what comes next, which is not answered.
 pub record HasFound {D : Type 0} (look : D → View) (source : Source) (rules : Rules)
     (p : Position D) (own : OwnTurn) (most : ℕ) (commands : List Command) (found : Found) (q : Position D) : Type 0 where
   pub count : ℕ
@@ -113,7 +115,7 @@ pub record HasFound {D : Type 0} (look : D → View) (source : Source) (rules : 
   pub reached : Reaches look source rules p own count (map of_command commands ++ found_lines found) (position q.at left)
   pub goes_on : MayGoOn rules.way q.at.executor
 
--- What comes next in the input was answered, or passed over, or is its end, as is said; or an answer broke off.
+-- What was found was answered, or passed over, or is the end of the input, as the result says; or the answer broke off.
 abbrev pub TakesFound : {D E : Type 0} → (D → View) → Source → Rules → Found → Spot D → Spot D → Result Bool E → Type 0
 TakesFound look source rules (found.Line line) p q (Ok has_ended) = (has_ended ≡ false) × Answers look source rules line p q
 TakesFound look source rules found.Empty p q (Ok has_ended) = (has_ended ≡ false) × (q ≡ p)
@@ -121,24 +123,24 @@ TakesFound look source rules found.End p q (Ok has_ended) = (has_ended ≡ true)
 TakesFound look source rules (found.Line line) p q (Err fault) = AnswerBreaks look source rules line p q × MayBreakOff q.events
 TakesFound look source rules _ p q (Err fault) = ⊥
 
--- it has come so far, or to the end of the input, or to a disk fault, or to the line that asks it to end
+-- the session has come this far, or to the end of the input, or to a disk fault, or to the line that asks for its end
 abbrev pub ComesOrEnds : {D : Type 0} → (D → View) → Source → Rules → Position D → OwnTurn → ℕ → Midway D → Taken → Type 0
 ComesOrEnds look source rules p own most s More = HasCome look source rules p own most s
 ComesOrEnds look source rules p own most s End = ReachesEnd look source rules p s.place.at
 ComesOrEnds look source rules p own most s Closed = ReachesFault look source rules p s.place.at
 ComesOrEnds look source rules p own most s Leaves = ReachesLeave look source rules p s.place.at
 
--- or it broke off
+-- the same, or it broke off
 abbrev pub Comes : {D E : Type 0} → (D → View) → Source → Rules → Position D → OwnTurn → ℕ → Midway D → Result Taken E → Type 0
 Comes look source rules p own most s (Ok taken) = ComesOrEnds look source rules p own most s taken
 Comes look source rules p own most s (Err fault) = BreaksOff look source rules p s.place.at
 
--- a run may take a line after at most this many since its last turn
+-- in this mode a session may take a line after at most this many since its last turn
 abbrev pub MayTakeBehind : Way → ℕ → Type 0
 MayTakeBehind way most = (n : ℕ) → n ≤ most → MayTake way n
 
--- A step of a session that has found this with no part of a further line: more was asked; what was read may stay unanswered, and no
--- further line was begun; and a run that has come so far that this was found comes further by it, or ends, or breaks off.
+-- A step of a session that has found this, with no part of a further line: the log grows; what was read may stay unanswered, and no
+-- further line was begun; and a session that had come so far comes further by it, or ends, or breaks off.
 pub record Takes {D E : Type 0} (look : D → View) (source : Source) (rules : Rules) (found : Found) (s t : Midway D)
     (result : Result Taken E) : Type 0 where
   pub lasts : Lasts s.place.at t.place.at
@@ -147,33 +149,33 @@ pub record Takes {D E : Type 0} (look : D → View) (source : Source) (rules : R
   pub comes : (p : Position D) (own : OwnTurn) (most : ℕ) → MayTakeBehind rules.way most
       → HasFound look source rules p own most s.commands found s.place → Comes look source rules p own (most + 1) t result
 
--- The lines that are there are taken: more was asked, and a run that has come so far with no line since its last turn comes further, by
--- as many as it may take between two turns, or ends, or breaks off.
+-- The lines that are there are taken: the log grows, and a session that has taken no line since its last turn comes further, by as many
+-- lines as there may be between two turns, or ends, or breaks off.
 pub record TakesLines {D E : Type 0} (look : D → View) (source : Source) (rules : Rules) (s t : Midway D) (result : Result Taken E)
     : Type 0 where
   pub lasts : Lasts s.place.at t.place.at
   pub comes : (p : Position D) (own : OwnTurn) → HasCome look source rules p own 0 s
       → Comes look source rules p own lines_a_turn t result
 
--- whether the input has ended, and whether the run goes on from there: one that serves does not once its executor is closed
+-- whether the input has ended, and whether the session goes on: in `serve` it does not once its executor is closed
 abbrev pub IsTaken : {D : Type 0} → Way → Sight D → Bool → Taken → Type 0
 IsTaken way x has_ended More = (has_ended ≡ false) × MayGoOn way x
 IsTaken way x has_ended End = (has_ended ≡ true) × MayGoOn way x
 IsTaken way x has_ended Closed = MakesTurns way × (x.is_open ≡ false)
 IsTaken way x has_ended Leaves = ⊥
 
--- With what was read a round may begin: it may stay unanswered, and in a run that serves no command waits, and its executor is open.
+-- A round may begin: what was read may stay unanswered, and in `serve` no command waits and the executor is open.
 pub record MayBegin {D : Type 0} (way : Way) (s : Midway D) : Type 0 where
   pub stays : MayStay way s
   pub serves : way ≡ Serve → (s.place.at.executor.is_open ≡ true) × (s.commands ≡ [])
 
--- A round of a run that serves begins after a turn, with no line after that; one of a run by lines alone anywhere.
+-- In `serve` a round begins after a turn, with no line after that; in `run` anywhere.
 abbrev pub IsRound : Way → ℕ → Type 0
 IsRound Run most = ⊤
 IsRound Serve most = most ≡ 0
 
--- Since this turn, which ended so with these lines unanswered: nothing had ended or begun since that moment, and here not fewer reads and
--- looks were made than then.
+-- Since this turn, which ended like this with these lines unanswered: nothing had ended or begun since that time, and the numbers of
+-- reads and of polls have not fallen.
 pub record IsSince {D : Type 0} (own : OwnTurn) (since : ℕ) (end : TurnEnd) (lines : Lines) (p : Spot D) : Type 0 where
   pub quiet : own.since ≤ since
   pub ended : own.end ≡ end
@@ -181,7 +183,7 @@ pub record IsSince {D : Type 0} (own : OwnTurn) (since : ℕ) (end : TurnEnd) (l
   pub reads : own.reads ≤ reads_in p.events
   pub misses : own.misses ≤ misses_in p.events
 
--- a run whose last own turn ended so has come to the begin of a round
+-- a session whose last own turn ended like this is at the beginning of a round
 pub record HasComeRound {D : Type 0} (look : D → View) (source : Source) (rules : Rules) (p : Position D) (quiet : ℕ) (end : TurnEnd)
     (s : Midway D) : Type 0 where
   pub most : ℕ
@@ -190,7 +192,7 @@ pub record HasComeRound {D : Type 0} (look : D → View) (source : Source) (rule
   pub since : IsSince own quiet end (held_lines s.held) s.place.at
   pub come : HasCome look source rules p own most s
 
--- a round leads to the begin of the next one, or the run ends by it, or broke off
+-- a round leads to the beginning of the next one, or ends the session, or breaks off
 abbrev pub GoesRound : {D E : Type 0} → (D → View) → Source → Rules → Position D → ℕ → TurnEnd → Midway D → Result Taken E → Type 0
 GoesRound look source rules p quiet own s (Ok More) = HasComeRound look source rules p quiet own s
 GoesRound look source rules p quiet own s (Ok End) = ReachesEnd look source rules p s.place.at
@@ -198,17 +200,18 @@ GoesRound look source rules p quiet own s (Ok Closed) = ReachesFault look source
 GoesRound look source rules p quiet own s (Ok Leaves) = ReachesLeave look source rules p s.place.at
 GoesRound look source rules p quiet own s (Err fault) = BreaksOff look source rules p s.place.at
 
--- where a session is between two rounds: since when nothing has ended or begun, and how its last own turn ended
+-- where a session is between two rounds: the time since which nothing has ended or begun, and how its last own turn ended
 pub record Stage (D : Type 0) : Type 0 where
   pub at : Midway D
   pub quiet : ℕ
   pub end : TurnEnd
 
+-- a stage by its fields
 abbrev pub stage : {D : Type 0} → Midway D → ℕ → TurnEnd → Stage D
 stage at quiet end = record { at = at; quiet = quiet; end = end }
 
--- A round: more was asked, and where the run goes on, at least one thing, and a further round may begin; and a run that has come to the
--- begin of this one comes to the begin of the next, or ends, or breaks off.
+-- A round: the log grows, by at least one event where the session goes on, and then a further round may begin; and a session that was at
+-- the beginning of this round comes to that of the next, or ends, or breaks off.
 pub record Rounds {D E : Type 0} (look : D → View) (source : Source) (rules : Rules) (s t : Stage D) (result : Result Taken E)
     : Type 0 where
   pub lasts : Lasts s.at.place.at t.at.place.at

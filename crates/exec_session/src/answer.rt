@@ -1,4 +1,4 @@
-//! What a line is answered, alone or with others that arrived together.
+//! Replies to lines, one by one or as a group commit.
 ghost use Rattle.std.specs.Prelude.{◌≡◌, ◌≢◌, ◌↔◌, [], ◌∷◌, false, true, length, map, replicate, IfOk, Ok};
 ghost use Rattle.std.specs.List.{AllByRecursion};
 ghost use Rattle.ocf_types.specs.declared.refusal.Refusal.TheVariants as refusal;
@@ -47,7 +47,7 @@ fn refused(refusal: Refusal) -> LineReply
     LineReply::Request(Reply::Refused(refusal))
 }
 
-// Waits for the metadata, which a run does that answers lines alone.
+// Waits for the metadata, as a session in `run` does.
 fn meta_reply<M: Metadata>(
     context: &RunContext<M>,
     provider: &Provider,
@@ -75,7 +75,7 @@ fn closed_tidy() -> LineReply
     LineReply::Tidy(TidyEnd::Closed)
 }
 
-// What a line is answered once a disk fault has closed the executor.
+// The reply to a line once a disk fault has closed the executor.
 fn closed_reply<M: Metadata>(context: &RunContext<M>, line: &Result<Line, Refusal>) -> LineReply
     requires at_once { MayAnswerAtOnce context.now.way line.now }
     ensures { IsClosedReply (M.gives context.now.metadata.now) line.now result }
@@ -95,7 +95,7 @@ fn closed_reply<M: Metadata>(context: &RunContext<M>, line: &Result<Line, Refusa
     }
 }
 
-// Does what a request asks at this moment, after room was made. Where the disk failed as room was made it is refused for that.
+// Does what a request asks at this time, after a due tidy. If the disk failed in the tidy, the request is refused for that.
 fn request_reply<D: Disk + Drop, C: Children + Drop>(
     executor: &mut Executor<D, C>,
     request: Request,
@@ -129,7 +129,7 @@ fn status_reply<D: Disk + Drop, C: Children + Drop>(
     }
 }
 
-// Does what the commands ask at this moment, after room was made. Where the disk failed as room was made each is refused for that.
+// Does what the commands ask at this time, after a due tidy. If the disk failed in the tidy, each is refused for that.
 fn serve_gathered<D: Disk + Drop, C: Children + Drop>(
     executor: &mut Executor<D, C>,
     gathered: &mut Gathered,
@@ -169,7 +169,7 @@ impl<'a, R: Input, D: Disk + Drop, C: Children + Drop, T: Client<D, C>, K: Clock
         tidy_timed(context, self.edge.clock(), &mut self.executor)
     }
 
-    // Makes room at the moment that the clock shows, then does what a request asks, at that moment, and sends the reply.
+    // Reads the clock, tidies if that is due, does what a request asks, and sends the reply.
     fn answer_request<M: Metadata>(
         &mut self,
         context: &RunContext<M>,
@@ -207,7 +207,7 @@ impl<'a, R: Input, D: Disk + Drop, C: Children + Drop, T: Client<D, C>, K: Clock
         self.tell_reply(context, &LineReply::Tidy(end))
     }
 
-    // Waits for an agent's metadata, which a run does that answers lines alone, and sends it.
+    // Waits for an agent's metadata, as a session in `run` does, and sends them.
     fn answer_meta<M: Metadata>(
         &mut self,
         context: &RunContext<M>,
@@ -223,7 +223,7 @@ impl<'a, R: Input, D: Disk + Drop, C: Children + Drop, T: Client<D, C>, K: Clock
         self.tell_reply(context, &meta_reply(context, provider, agent, limit))
     }
 
-    // Sends what a line is answered by what it is alone.
+    // Sends the reply to a line that needs no executor.
     fn answer_direct<M>(&mut self, context: &RunContext<M>, direct: Direct) -> Result<(), Failed>
         ensures sends { Sends context.now.form (Answered (answer.Direct direct) ∷ []) self.old self.new result }
     {
@@ -247,8 +247,8 @@ impl<'a, R: Input, D: Disk + Drop, C: Children + Drop, T: Client<D, C>, K: Clock
         self.tell_reply(context, &reply)
     }
 
-    // Answers a line while the executor is open. Each reply is made in a function of its own: whenever a function is called it
-    // clears the room of every reply that it may make, 824 bytes each, and most lines are requests.
+    // Answers a line while the executor is open. Each reply is made in a function of its own: a function clears the space of all replies
+    // that it can make, 824 bytes each, whenever it is called, and most lines are requests.
     fn answer_open<M: Metadata>(
         &mut self,
         context: &RunContext<M>,
@@ -293,7 +293,7 @@ impl<'a, R: Input, D: Disk + Drop, C: Children + Drop, T: Client<D, C>, K: Clock
         self.tell_reply(context, &closed_reply(context, line))
     }
 
-    // Answers a line, as it was read: the client is sent a drain's notices, and then the reply.
+    // Answers a line: sends the notices of a drain, and then the reply.
     fn answer_line<M: Metadata>(
         &mut self,
         context: &RunContext<M>,
@@ -310,7 +310,7 @@ impl<'a, R: Input, D: Disk + Drop, C: Children + Drop, T: Client<D, C>, K: Clock
         }
     }
 
-    /// Answers what comes next in the input, after which nothing was read. Whether it is the input's end.
+    /// Answers the line, if this is one. Whether it is the end of the input.
     pub fn answer_found<M: Metadata>(
         &mut self,
         context: &RunContext<'_, M>,
@@ -331,7 +331,7 @@ impl<'a, R: Input, D: Disk + Drop, C: Children + Drop, T: Client<D, C>, K: Clock
         }
     }
 
-    /// Answers a line that is held for an agent's metadata, where the agent has answered by now. Whether it has.
+    /// Answers a line that is held for an agent's metadata, if the agent has answered by now. Whether it has.
     pub fn answer_held<M: Metadata>(
         &mut self,
         context: &RunContext<'_, M>,
@@ -361,8 +361,7 @@ impl<'a, R: Input, D: Disk + Drop, C: Children + Drop, T: Client<D, C>, K: Clock
         Ok(true)
     }
 
-    /// Answers the commands that wait. They are recorded together, and no reply is sent before that; the replies are sent
-    /// together.
+    /// Answers the commands that wait, as one group commit: all are recorded before a reply is sent, and the replies are sent together.
     pub fn answer_gathered<M>(
         &mut self,
         context: &RunContext<M>,

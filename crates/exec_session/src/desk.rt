@@ -1,4 +1,4 @@
-//! Where lines are answered, one by one or together.
+//! Answers lines, one by one or as a group commit.
 ghost use Rattle.std.specs.Prelude.{◌≡◌, ◌≢◌, ℕ, ◌+◌, ◌<◌, [], true, length, IfOk, None};
 ghost use Rattle.exec_session.specs.Gathered.{waiting};
 ghost use Rattle.exec_session.specs.Held.{MayTakeAtOnce};
@@ -26,7 +26,7 @@ use exec_trace::Failed;
 use ocf_types::{Command, Request};
 use std::rt::Clock;
 
-/// Where lines are answered: who does what they ask, and what was read and is not answered yet.
+/// A worker, with the input that was read and is not answered yet.
 #[derive(Drop)]
 pub struct Desk<'a, R: Input, D: Disk + Drop, C: Children + Drop, T: Client<D, C>, K: Clock> {
     pub worker: Worker<'a, R, D, C, T, K>,
@@ -41,7 +41,7 @@ impl<'a, R: Input, D: Disk + Drop, C: Children + Drop, T: Client<D, C>, K: Clock
     T,
     K,
 > {
-    /// How a run goes on once the input has ended or has not.
+    /// How the session goes on, given whether the input has ended.
     pub fn next_step<M>(&self, context: &RunContext<'_, M>, has_ended: bool) -> Taken
         ensures { IsTaken context.now.way self.now.worker.at.executor has_ended result }
     {
@@ -54,8 +54,8 @@ impl<'a, R: Input, D: Disk + Drop, C: Children + Drop, T: Client<D, C>, K: Clock
         }
     }
 
-    /// Answers the commands that wait, since no line that follows them is there. A part of a line that was read, and a line that is held,
-    /// stay.
+    /// Answers the commands that wait, since the line after them is not there yet. Keeps the part of a line that was read, and a line
+    /// that is held.
     pub fn answer_rest<M: Metadata>(&mut self, context: &RunContext<'_, M>) -> Result<Taken, Failed>
         requires open { waiting self.old.pending.gathered ≢ []
             → self.old.worker.at.executor.is_open ≡ true }
@@ -77,7 +77,7 @@ impl<'a, R: Input, D: Disk + Drop, C: Children + Drop, T: Client<D, C>, K: Clock
         Ok(self.next_step(context, false))
     }
 
-    // Queues a command after the others, and answers all of them unless the next line is there already.
+    // Queues a command after the others, and answers all of them unless the next line is already there.
     fn take_command<M: Metadata>(
         &mut self,
         context: &RunContext<'_, M>,
@@ -106,7 +106,7 @@ impl<'a, R: Input, D: Disk + Drop, C: Children + Drop, T: Client<D, C>, K: Clock
         self.answer_rest(context)
     }
 
-    // Answers the commands that wait, and then what comes next in the input, unless the run ends before that.
+    // Answers the commands that wait, and then this line, unless the session ends before that.
     fn take_other<M: Metadata>(
         &mut self,
         context: &RunContext<'_, M>,
@@ -128,8 +128,8 @@ impl<'a, R: Input, D: Disk + Drop, C: Children + Drop, T: Client<D, C>, K: Clock
         Ok(self.next_step(context, has_ended))
     }
 
-    // Takes what comes next in the input: a command waits while the next line is there already, and else all that wait are
-    // answered together; anything else is answered after them.
+    // Takes the next line. A command waits while the line after it is already there; otherwise all that wait are answered together. Any
+    // other line is answered after them.
     fn take_found<M: Metadata>(
         &mut self,
         context: &RunContext<'_, M>,
@@ -151,8 +151,8 @@ impl<'a, R: Input, D: Disk + Drop, C: Children + Drop, T: Client<D, C>, K: Clock
         }
     }
 
-    /// Goes on with the line in the buffer by one read, and takes it once it is whole, or holds it. Where it goes on, no command waits for
-    /// the rest of it.
+    /// Continues the line in the buffer by one read; a complete line is taken, or held. Commands do not wait for the rest of an
+    /// incomplete one.
     pub fn take_read<M: Metadata>(&mut self, context: &RunContext<'_, M>) -> Result<Taken, Failed>
         requires free { self.old.pending.held ≡ None }
         requires waits { MayWait context.now.way (midway self.old.worker self.old.pending) }

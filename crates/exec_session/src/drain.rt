@@ -1,4 +1,4 @@
-//! Turns one after another: drains and watches, and the end of a run that serves, in order, as a line asks for it.
+//! Drains, watches and the orderly end of a session in `serve`: turns one after another.
 ghost use Rattle.std.specs.Prelude.{◌≡◌, true, Some};
 ghost use Rattle.exec_session.specs.Answers.{DrainTold, DrainsFor};
 ghost use Rattle.exec_session.specs.Broken.{DrainBreaks, DrainBreaksFor, DrainEndsEarly};
@@ -21,20 +21,20 @@ use exec_trace::Failed;
 use ocf_types::{NUM_MAX, TurnEnd};
 use std::rt::Clock;
 
-/// What a drain is held to.
+/// The limits of a drain.
 #[derive(Clone, Copy)]
 pub struct Terms {
-    /// Whether it ends where nothing is queued or running. A watch does not.
+    /// Whether it ends once nothing is queued or running. A watch does not.
     pub ends_idle: bool,
-    /// When its limit has passed, in milliseconds since 1970.
+    /// The time of its limit, in milliseconds since 1970.
     pub until: u64,
-    /// How many turns it makes at most, but for the first.
+    /// The most turns that it makes, beyond the first.
     pub most: u64,
 }
 
 impl Terms {
-    // How a drain ends after its turn of this number, which ended so and left the executor idle or not; the clock shows
-    // this moment then. None: it goes on.
+    // How a drain ends after this number of turns, the last of which ended like this, with the executor idle or not, at this time.
+    // `None`: it goes on.
     fn end_behind(self, turns: u64, now: u64, end: TurnEnd, idle: bool) -> Option<DrainEnd>
         ensures { result ≡ end_behind self turns now end idle }
     {
@@ -61,8 +61,8 @@ impl<'a, R: Input, D: Disk + Drop, C: Children + Drop, T: Client<D, C>, K: Clock
     T,
     K,
 > {
-    // Makes turns up to the end of a drain that begins at this moment, which the clock showed last. Between two turns in
-    // which nothing happened it pauses. It ends where nobody reads its output any more.
+    // Makes turns until a drain ends, which begins at the last clock reading. It pauses between two turns in which nothing happened, and
+    // breaks off where nobody reads the output any more.
     fn drain<M>(
         &mut self,
         context: &RunContext<M>,
@@ -145,9 +145,8 @@ impl<'a, R: Input, D: Disk + Drop, C: Children + Drop, T: Client<D, C>, K: Clock
             .tell(&self.executor, context.form, &Told::Notices(turn))
     }
 
-    /// Makes turns that begin nothing as long as anything runs, and sends their notices; then it sends the line that ends
-    /// the run. Once a disk fault has closed the executor it sends the line of that fault instead. It ends where nobody
-    /// reads what is sent.
+    /// Makes turns that begin nothing as long as anything runs, and sends their notices, and then the last line of the session. If a disk
+    /// fault closes the executor, it sends the line of that fault instead. It breaks off where nobody reads the output any more.
     pub fn leave<M>(&mut self, context: &RunContext<M>) -> Result<(), Failed>
         requires open { self.old.at.executor.is_open ≡ true }
         ensures leaves { Steps (LeavesFrom D.view (rules_of context.now) self.old.at)

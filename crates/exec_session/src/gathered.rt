@@ -12,14 +12,14 @@ use growth::{Grows, with_capacity};
 use ocf_types::{Command, Refusal, Reply};
 use std::alloc::{AllocError, Global};
 
-// How many commands are answered together at most.
+// The most commands of a group commit.
 const MOST: usize = 64;
 
-/// Commands that were read and wait to be answered together. All memory for them is taken as it is made.
+/// Commands that were read and wait to be answered together. All their memory is reserved at the start.
 #[derive(Drop)]
 pub struct Gathered {
     commands: Vec<Command>,
-    // What was replied last.
+    // The last replies.
     replies: Vec<Reply>,
     ghost few: { vec_len commands ≤ most_together },
     ghost commands_room: { most_together ≤ vec_capacity commands },
@@ -29,7 +29,7 @@ pub struct Gathered {
 impl Gathered {
     ghost use Rattle.exec_session.specs.Gathered.{replied, waiting};
 
-    /// No command waits.
+    /// No command waits. Reserves all memory.
     pub fn new(alloc: Global) -> Result<Gathered, AllocError>
         ensures empty { IfOk result (λ gathered. waiting gathered ≡ []) }
         ensures memory { OnErr result (IsTrue ⟦<Global as Grows>⟧.refuses) }
@@ -46,7 +46,7 @@ impl Gathered {
         self.commands.is_empty()
     }
 
-    /// Whether as many wait as are answered together at most.
+    /// Whether as many wait as a group commit may have.
     pub fn is_full(&self) -> bool
         ensures { result ≡ (length (waiting self.now) == most_together) }
     {
@@ -61,7 +61,7 @@ impl Gathered {
         self.commands.push_reserved(command);
     }
 
-    /// What was replied last.
+    /// The last replies.
     pub fn replies(&self) -> &[Reply]
         ensures { result.now ≡ replied self.now }
     {
@@ -80,7 +80,7 @@ impl Gathered {
         self.commands.clear();
     }
 
-    /// Has an executor do what the commands ask, at a moment in milliseconds since 1970.
+    /// Has an executor do what the commands ask, as one group commit, at this time in milliseconds since 1970.
     pub fn take_all<D: Disk + Drop, C: Children + Drop>(
         &mut self,
         executor: &mut Executor<D, C>,

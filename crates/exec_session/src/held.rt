@@ -1,4 +1,4 @@
-//! A line that is held: turns go on, and no line after it is read, until what it asks for is there.
+//! Lines that are held: turns go on, and no further line is read, until such a line can be answered.
 ghost use Rattle.std.specs.Prelude.{◌≡◌, Ok, IfErr, IfOk};
 ghost use Rattle.exec_session.specs.Held.{MayTakeAtOnce, asks};
 ghost use Rattle.exec_session.specs.declared.lines.Found.TheVariants as found;
@@ -11,17 +11,17 @@ use ocf_types::{AgentType, Provider};
 /// A line that is not answered as soon as it is read.
 #[derive(Drop)]
 pub enum Held {
-    /// It asks for an agent's metadata, which is given this many milliseconds at most; as long as it takes where there is no limit.
+    /// It asks for an agent's metadata, which may take this many milliseconds; without a limit, as long as it needs.
     Metadata {
         provider: Provider,
         agent: AgentType,
         limit: Option<u32>,
     },
-    /// It asks for the end of the run, in order.
+    /// It asks for the orderly end of the session.
     Leave,
 }
 
-/// What comes next, where it is a line that a run holds in this mode; anything else is given back.
+/// The line, if the session holds it in this mode; anything else is given back.
 #[tactic(auto, using(crate::proofs::HeldLemmas::found_at_once))]
 pub fn held_in(way: Way, next: Found) -> Result<Held, Found>
     ensures held { IfOk result (λ held. next ≡ found.Line (Ok (asks held))) }

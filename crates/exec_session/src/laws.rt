@@ -1,4 +1,4 @@
-//! Laws of runs, each the contract of a function that does nothing.
+//! Laws of sessions, each the contract of a function that does nothing.
 ghost use Rattle.std.specs.Prelude.{◌≡◌, ℕ, true};
 ghost use Rattle.exec_session.specs.Drains.{GoesOn};
 ghost use Rattle.exec_session.specs.Leaving.{WindsDown};
@@ -11,23 +11,23 @@ ghost use Rattle.exec_session.specs.declared.drain.Terms.{Terms};
 use crate::metadata::Metadata;
 use disk_model::Disk;
 
-/// Whatever lines were answered, and whatever turns a run that serves made between them, the executor went on by calls alone,
-/// and every reply and notice that was sent is backed by what these recorded: so the law of whole lives holds of each run,
-/// with a crash after any of its replies.
+/// Whatever lines a session answers and whatever turns it makes between them, its executor goes on by calls alone, and every reply and
+/// notice is backed by what these recorded. So the law of histories of incarnations holds of each session, with a crash after any of its
+/// replies.
 pub fn lines_are_calls<D: Disk, M: Metadata>(metadata: &M)
     ensures { (rules : Rules) (own : OwnTurn) (n : ℕ) (lines : Lines) (p q : Position D)
         → Reaches D.view (M.gives metadata.now) rules p own n lines q
         → GoesByCalls D.view p.at q.at }
 {}
 
-/// So does each drain and watch, turn by turn: so the law of whole lives holds of one with a crash after any of its turns.
+/// The same of each drain and watch, turn by turn: so that law holds with a crash after any of its turns.
 pub fn turns_are_calls<D: Disk>()
     ensures { (rules : Rules) (terms : Terms) (start turns now : ℕ) (p q : Spot D)
         → p.executor.is_open ≡ true → GoesOn D.view rules terms start p turns now q
         → GoesByCalls D.view p q }
 {}
 
-/// And so does an orderly end, turn by turn, whose turns begin nothing.
+/// The same of an orderly end, whose turns begin nothing.
 pub fn last_turns_are_calls<D: Disk>()
     ensures { (rules : Rules) (p q : Spot D) → WindsDown D.view rules p q → GoesByCalls D.view p q }
 {}

@@ -1,5 +1,5 @@
-//! A run of an executor over its input: command lines answered one by one, drains and watches turn by turn, and turns by itself
-//! where it serves.
+//! A session of an executor over its input: command lines are answered one by one, drains and watches go turn by turn, and in `serve` the
+//! session also makes turns by itself.
 #![tactic(auto)]
 
 mod answer;

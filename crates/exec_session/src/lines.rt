@@ -1,4 +1,4 @@
-//! The next line of the input, and how a run goes on after it.
+//! The next line of the input, and how a session goes on after it.
 ghost use Rattle.std.specs.Prelude.{◌≡◌, ℕ, List, Err, IfErr, IsTrue, None, Option};
 ghost use Rattle.exec_lines.specs.Buffer.{line_bytes};
 ghost use Rattle.exec_lines.specs.Pieces.{IsNext};
@@ -14,19 +14,19 @@ use ocf_types::Refusal;
 use std::alloc::Global;
 use std::mem::replace;
 
-/// What comes next in the input.
+/// The next line of the input, or its end.
 #[derive(Drop)]
 pub enum Found {
     /// A line of no bytes.
     Empty,
-    /// A line, read.
+    /// A line, as it was read, or why it is refused.
     Line(Result<Line, Refusal>),
-    /// Nothing.
+    /// The end of the input.
     End,
 }
 
 impl Found {
-    /// It is a line that is refused for want of memory.
+    /// Makes it a line that is refused for want of memory.
     pub fn run_out(&mut self)
         ensures { self.new ≡ Found.Line (Err Refusal.Memory) }
     {
@@ -34,20 +34,21 @@ impl Found {
     }
 }
 
-/// How a run goes on.
+/// How a session goes on.
 #[derive(Clone, Copy, Debug, PartialEq, Eq)]
 pub enum Taken {
-    /// The next line may be taken.
+    /// It may take the next line.
     More,
     /// The input has ended.
     End,
-    /// The run serves, and a disk fault has closed its executor: it ends.
+    /// A disk fault has closed the executor, which ends a session in `serve`.
     Closed,
-    /// The run serves, and a line asked it to end: it makes an orderly end.
+    /// A line asked a session in `serve` to end: it makes an orderly end.
     Leaves,
 }
 
-// What a line asks for, or why it is refused, and its tag: a run that serves may be asked to end, is more strict, and reads tags.
+// The request in a line, or why it is refused, and the line's tag. In `serve` a line may ask for the end of the session, lines are read
+// more strictly, and they have tags.
 fn read_line(way: Way, alloc: Global, bytes: &[u8], tag: &mut Option<Tag>) -> Result<Line, Refusal>
     requires none { tag.old ≡ None }
     ensures reads { IsReadAs way bytes.now result }
@@ -64,7 +65,7 @@ fn read_line(way: Way, alloc: Global, bytes: &[u8], tag: &mut Option<Tag>) -> Re
     }
 }
 
-/// What comes next in the input, whose line is in the buffer; its tag, where it has one, is put into its place, in which there is none.
+/// The next line of the input, which is in the buffer. Stores its tag, if it has one, in `tag`, which is `None` before.
 pub fn found_in<M>(
     context: &RunContext<'_, M>,
     buffer: &LineBuffer,

@@ -1,4 +1,4 @@
-//! Where agents' metadata come from.
+//! The source of agents' metadata.
 ghost use Rattle.std.specs.Prelude.{ℕ, List, Option, Result, IfSome};
 ghost use Rattle.std.specs.Global.{Vec};
 ghost use Rattle.ocf_types.specs.declared.outcome.MetaFault.{MetaFault};
@@ -6,12 +6,12 @@ ghost use Rattle.ocf_types.specs.declared.outcome.MetaFault.{MetaFault};
 use ocf_types::{AgentType, MetaFault, Provider};
 use std::alloc::Global;
 
-/// Where agents' metadata come from. OCF Resource Agent API 1.1, meta-data.
+/// The source of agents' metadata. OCF Resource Agent API 1.1, meta-data.
 pub trait Metadata {
-    /// What may be answered for the agent of a provider and a type that is given this many milliseconds, or as long as it takes.
+    /// The possible answers for the agent of a provider and a type that may take this many milliseconds, or as long as it needs.
     ghost gives: { Self → List ℕ → List ℕ → Option ℕ → Result (Vec ℕ) MetaFault → Type 0 };
 
-    /// The metadata of an agent, which is given this many milliseconds, or as long as it takes, or why it has none.
+    /// The metadata of an agent that may take this many milliseconds, or as long as it needs; or why it has none.
     fn metadata(
         &self,
         alloc: Global,
@@ -21,8 +21,8 @@ pub trait Metadata {
     ) -> Result<Vec<u8>, MetaFault>
         ensures given { gives self.now provider.now agent.now limit result };
 
-    /// The same without a wait: the first call asks the agent, and each looks whether it has answered by now. `None`: it has not.
-    /// One agent is asked at a time, until its answer is given.
+    /// The same without a wait: the first call asks the agent, and each call polls it. `None`: it has not answered yet. One agent is
+    /// asked at a time, until its answer is given.
     fn poll_metadata(
         &self,
         alloc: Global,

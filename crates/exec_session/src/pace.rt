@@ -1,18 +1,18 @@
-//! How fast a run tidies.
+//! How fast a session tidies.
 ghost use Rattle.std.specs.Prelude.{◌≤◌};
 
 use std::cell::Cell;
 
-// How many milliseconds a piece takes of the first tidy, as is guessed: a sync of a slow device.
+// A guess for the first tidy, in milliseconds a piece: a sync of a slow device.
 const GUESSED: u64 = 8;
 
-// The least that a piece is taken to need, in milliseconds.
+// The least time of a piece that is assumed, in milliseconds.
 const FASTEST: u64 = 1;
 
-// The most.
+// The greatest, in milliseconds.
 const SLOWEST: u64 = 1_000;
 
-/// How long each piece of a tidy takes: as the last one showed, or a guess where none was made.
+/// How long a piece of a tidy takes: measured in the last tidy, or a guess before the first.
 #[derive(Drop)]
 pub struct Pace {
     // in milliseconds
@@ -27,7 +27,7 @@ impl Pace {
         }
     }
 
-    /// How many milliseconds a piece takes.
+    /// The time of a piece, in milliseconds.
     pub fn each(&self) -> u64
         ensures least { 1 ≤ result }
         ensures most { result ≤ 1000 }
@@ -35,7 +35,7 @@ impl Pace {
         self.each.get().clamp(FASTEST, SLOWEST)
     }
 
-    /// A tidy of this many pieces took this many milliseconds.
+    /// Records that a tidy of this many pieces took this many milliseconds.
     pub fn took(&self, millis: u64, pieces: u64) {
         self.each.set(millis / pieces.max(1));
     }

@@ -8,55 +8,55 @@ use executor::Executor;
 use std::rt::Clock;
 use std::time::Instant;
 
-// The shortest pause that is not nothing, in microseconds.
+// The shortest pause that is not 0, in microseconds.
 const SHORTEST: u64 = 20;
 
-// Which part a short pause is of the time since something happened.
+// A short pause is the time since something happened, divided by this.
 const GROWTH: u64 = 10;
 
-// The longest short pause, in microseconds: longer ones are a hundredth of the time since something happened.
+// The longest short pause, in microseconds; a longer one is a hundredth of the time since something happened.
 const SHORT: u64 = 1_000;
 
-// How many microseconds a hundredth of a millisecond has.
+// The microseconds in a hundredth of a millisecond.
 const HUNDREDTH: u64 = 10;
 
 // The longest pause while something is queued or runs, in microseconds.
 const LONGEST: u64 = 50_000;
 
-// The longest pause of a watch while nothing is, in microseconds.
+// The longest pause of a watch while nothing is queued or running, in microseconds.
 const LONGEST_IDLE: u64 = 10_000;
 
-/// How long a run pauses before its next turn: not after a turn in which something happened, and then a tenth of the time
-/// since, up to a millisecond, and a hundredth of it from there on, up to 50.
+/// How long to pause before the next turn: not at all after a turn in which something happened; then a tenth of the time since that turn,
+/// up to a millisecond; and from there on a hundredth of it, up to 50.
 #[derive(Drop)]
 pub struct Pause {
-    // When the turn began that was made last, where the clock showed it.
+    // The beginning of the last turn, if the clock could be read.
     began: Option<Instant>,
-    // When the turn began after which nothing happened.
+    // The beginning of the turn after which nothing happened.
     quiet: Option<Instant>,
     // Whether a line is held.
     holds: bool,
-    /// The moment of the turn that was made last, in milliseconds since 1970.
+    /// The time of the last turn, in milliseconds since 1970.
     pub moment: u64,
-    /// The moment since which nothing has happened; it does not go back.
+    /// The time since which nothing has happened, in milliseconds since 1970; it does not go back.
     pub since: u64,
 }
 
-// Whether a child that was asked runs still.
+// Whether an agent process that was polled still runs.
 fn still_runs(answer: &Answer) -> bool
     ensures value { result ≡ still_runs answer.now }
 {
     matches!(answer, Answer::Poll(Poll::Running))
 }
 
-// Whether nothing ended or began in a turn with these entries: each child that was asked still runs, and none was started.
+// Whether nothing ended or began in a turn with these entries: each agent process that was polled still runs, and none was spawned.
 fn is_quiet(book: &[Entry]) -> bool
     ensures value { result ≡ is_quiet book.now }
 {
     book.iter().all(|entry| still_runs(&entry.answer))
 }
 
-// How long it is since then, in microseconds; nothing where the clock fails.
+// The microseconds since then; 0 where the clock fails.
 fn micros_since(clock: &impl Clock, then: Option<Instant>) -> u64 {
     match then.map(|then| then.elapsed(clock)) {
         Some(Ok(passed)) => u64::try_from(passed.as_micros()).unwrap_or(u64::MAX),
@@ -65,7 +65,7 @@ fn micros_since(clock: &impl Clock, then: Option<Instant>) -> u64 {
 }
 
 impl Pause {
-    /// No turn yet, and nothing has happened since this moment, in milliseconds since 1970.
+    /// No turn yet. Nothing has happened since this time, in milliseconds since 1970.
     pub fn new(since: u64) -> Pause
         ensures moment { result.moment ≡ since }
         ensures since { result.since ≡ since }
@@ -79,7 +79,7 @@ impl Pause {
         }
     }
 
-    /// Whether a line is held from now on: pauses start over where that changes.
+    /// Sets whether a line is held. Pauses start over when that changes.
     pub fn holds(&mut self, holds: bool)
         ensures moment { self.new.moment ≡ self.old.moment }
         ensures since { self.new.since ≡ self.old.since }
@@ -90,7 +90,7 @@ impl Pause {
         }
     }
 
-    /// A turn begins at this moment.
+    /// Records that a turn begins at this time.
     pub fn before_turn(&mut self, clock: &impl Clock, now: u64)
         ensures moment { self.new.moment ≡ now }
         ensures since { self.new.since ≡ self.old.since }
@@ -99,7 +99,7 @@ impl Pause {
         self.moment = now;
     }
 
-    // How long to pause after a turn in which nothing happened, in microseconds.
+    // The pause after a turn in which nothing happened, in microseconds.
     fn length(&self, clock: &impl Clock, idle: bool) -> u64
         ensures short { IsShort self.now.since self.now.moment result }
     {
@@ -115,7 +115,7 @@ impl Pause {
         (micros_since(clock, self.quiet) / GROWTH).clamp(SHORTEST, SHORT)
     }
 
-    /// How long to pause after the turn that was made, in microseconds.
+    /// The pause after the last turn, in microseconds.
     pub fn behind_turn<D: Disk + Drop, C: Children + Drop>(
         &mut self,
         clock: &impl Clock,

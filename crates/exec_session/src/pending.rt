@@ -1,4 +1,4 @@
-//! What a run has read of its input and not answered yet.
+//! The input that a session has read and not answered yet.
 ghost use Rattle.std.specs.Prelude.{◌≡◌, false, IfOk, IsTrue, OnErr, Some};
 ghost use Rattle.exec_session.specs.Held.{held_lines};
 ghost use Rattle.exec_session.specs.Pending.{IsClear};
@@ -12,19 +12,19 @@ use growth::Grows;
 use std::alloc::{AllocError, Global};
 use std::marker::Model;
 
-/// What a run has read of its input and not answered yet.
+/// The input that a session has read and not answered yet.
 #[derive(Drop)]
 pub struct Pending {
-    /// What was read of the next line; nothing while a line is held.
+    /// The part of the next line that was read; empty while a line is held.
     pub buffer: LineBuffer,
     /// The commands before it.
     pub gathered: Gathered,
-    /// The line after those commands, where it is held.
+    /// The line after those commands, if one is held.
     pub held: Option<Held>,
 }
 
 impl Pending {
-    // Nothing. All memory that is needed later is taken here.
+    // Empty. Reserves all memory that is needed later.
     fn new(alloc: Global) -> Result<Pending, AllocError>
         ensures clear { IfOk result IsClear }
         ensures memory { OnErr result (IsTrue ⟦<Global as Grows>⟧.refuses) }
@@ -38,7 +38,7 @@ impl Pending {
         })
     }
 
-    /// Whether the line that is held asks for the end of the run.
+    /// Whether the line that is held asks for the end of the session.
     pub fn is_leaving(&self) -> bool
         ensures leaves { IsTrue result → self.now.held ≡ Some Leave }
         ensures rests { result ≡ false → MayRest (held_lines self.now.held) }
@@ -47,7 +47,7 @@ impl Pending {
     }
 }
 
-/// Room for the lines of a run, of which nothing is filled. It is taken before the opening, so that none is refused after it.
+/// Empty buffers for the lines of a session. They are made before the opening, so that no memory is refused after it.
 #[derive(Drop)]
 pub struct LineRoom {
     pending: Pending,
@@ -65,7 +65,7 @@ impl Model for LineRoom {
 }
 
 impl LineRoom {
-    /// All memory that the lines of a run need is taken here.
+    /// Reserves all memory that the lines of a session need.
     pub fn new(alloc: Global) -> Result<LineRoom, AllocError>
         ensures memory { OnErr result (IsTrue ⟦<Global as Grows>⟧.refuses) }
     {
@@ -73,7 +73,7 @@ impl LineRoom {
         Ok(LineRoom { pending })
     }
 
-    /// What a run has read when it begins: nothing.
+    /// The input of a session that begins: empty.
     pub(crate) fn into_pending(self) -> Pending
         ensures { IsClear result }
     {

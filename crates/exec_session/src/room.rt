@@ -1,4 +1,4 @@
-//! Room in the journal, which a run makes by itself.
+//! Tidies that a session makes by itself.
 ghost use Rattle.std.specs.Prelude.{◌≡◌, ◌≤◌, ◌+◌, ◌/◌, ◌^◌, [], true};
 ghost use Rattle.exec_journal.specs.Tidying.{tidied_tail};
 ghost use Rattle.executor.specs.TidyCalls.{TidiesWhile};
@@ -13,18 +13,17 @@ use ocf_types::{EVENT_LIMIT, PART_LIMIT, RESERVE, TidyEnd};
 use std::rt::Clock;
 use std::time::Instant;
 
-// How many bytes a tidy has to gain at least: a quarter of a part. So one that gains less is made once the tail has grown
-// by that much.
+// The least gain of a tidy, in bytes: a quarter of a part. One that gains less waits until the tail has grown by that much.
 const WORTHWHILE: u64 = 2_097_152;
 
-// The second mark: past it a tidy is made though something waits for it. After it there is room for the reserve and for seventy of
-// the longest events, more than the commands that are answered together and a turn need.
+// The second mark: past it a tidy is made even if something waits for it. At the mark a part still has its reserve and space for seventy
+// of the longest events, more than a group commit and a turn need.
 const SECOND_MARK: u64 = PART_LIMIT - RESERVE - 70 * EVENT_LIMIT as u64;
 
-// How many bytes a piece of a tidy has, each of which is synced.
+// The size of a piece of a tidy, in bytes. Each piece is synced.
 const PIECE: u64 = 4_096;
 
-// How many pieces a tidy would write, or one more.
+// At least as many pieces as a tidy would write, and at most one more.
 fn pieces<D: Disk + Drop, C: Children + Drop>(executor: &Executor<D, C>) -> u64
     ensures value { result ≡ tidied_tail executor.now.state / 4096 + 1 }
     ensures few { result ≤ 2 ^ 52 }
@@ -32,7 +31,7 @@ fn pieces<D: Disk + Drop, C: Children + Drop>(executor: &Executor<D, C>) -> u64
     executor.tidied_tail() / PIECE + 1
 }
 
-// Whether a monitor is due within this many milliseconds from this moment, or was due before.
+// Whether a monitor is due within this many milliseconds from this time, or was due before.
 fn is_monitor_due<D: Disk + Drop, C: Children + Drop>(
     executor: &Executor<D, C>,
     now: u64,
@@ -46,7 +45,7 @@ fn is_monitor_due<D: Disk + Drop, C: Children + Drop>(
     }
 }
 
-// Whether nothing would wait for this many milliseconds from this moment.
+// Whether nothing would have to wait for a tidy of this many milliseconds from this time on.
 fn is_at_leisure<D: Disk + Drop, C: Children + Drop>(
     executor: &Executor<D, C>,
     now: u64,
@@ -57,8 +56,8 @@ fn is_at_leisure<D: Disk + Drop, C: Children + Drop>(
     executor.idle() && !is_monitor_due(executor, now, lasts)
 }
 
-// Whether the tail is past the first mark, would fall by what is worthwhile, and nothing would wait for that or the tail is past the
-// second mark.
+// Whether the tail is past the first mark and a tidy is worthwhile, and either nothing would wait for it or the tail is past the second
+// mark.
 fn is_tidy_due<D: Disk + Drop, C: Children + Drop, M>(
     context: &RunContext<M>,
     executor: &Executor<D, C>,
@@ -78,7 +77,7 @@ fn is_tidy_due<D: Disk + Drop, C: Children + Drop, M>(
     SECOND_MARK < tail || is_at_leisure(executor, now, pace * pieces(executor))
 }
 
-// How many milliseconds it is since then; nothing where the clock fails.
+// The milliseconds since then; 0 where the clock fails.
 fn millis_since(clock: &impl Clock, then: Option<Instant>) -> u64 {
     match then.map(|then| then.elapsed(clock)) {
         Some(Ok(passed)) => u64::try_from(passed.as_millis()).unwrap_or(u64::MAX),
@@ -86,7 +85,7 @@ fn millis_since(clock: &impl Clock, then: Option<Instant>) -> u64 {
     }
 }
 
-/// Tidies the journal, and notes how long a piece of that took.
+/// Tidies the journal, and records how long a piece of that took.
 pub fn tidy_timed<D: Disk + Drop, C: Children + Drop, K: Clock, M>(
     context: &RunContext<M>,
     clock: &K,
@@ -101,7 +100,7 @@ pub fn tidy_timed<D: Disk + Drop, C: Children + Drop, K: Clock, M>(
     end
 }
 
-/// Tidies the journal where that is due at this moment. Whether the executor is open then: a disk fault closes it.
+/// Tidies the journal if that is due at this time. Whether the executor is open then: a disk fault closes it.
 pub fn make_room<D: Disk + Drop, C: Children + Drop, K: Clock, M>(
     context: &RunContext<M>,
     clock: &K,

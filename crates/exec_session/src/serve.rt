@@ -1,4 +1,4 @@
-//! Serving: the lines that are there are answered, in rounds.
+//! Rounds of a session in `serve`: it answers the lines that are there.
 ghost use Rattle.std.specs.Prelude.{◌≡◌, ◌<◌, ◌++◌, [], true, false, IfOk, IsTrue, None};
 ghost use Rattle.exec_session.specs.Gathered.{waiting};
 ghost use Rattle.exec_session.specs.Held.{held_lines};
@@ -21,10 +21,10 @@ use exec_lines::Input;
 use exec_trace::Failed;
 use std::rt::Clock;
 
-// How many reads are made at most between two turns, and so how many lines are answered.
+// The most reads between two turns, and so the most lines that are answered.
 const READS_A_TURN: u32 = 64;
 
-// Whether a read may be made: no line is held, and something is there.
+// Whether a read may be made: no line is held, and input is there.
 fn may_read<R: Input, D: Disk + Drop, C: Children + Drop, T: Client<D, C>, K: Clock>(
     worker: &mut Worker<'_, R, D, C, T, K>,
     held: &Option<Held>,
@@ -49,7 +49,7 @@ impl<'a, R: Input, D: Disk + Drop, C: Children + Drop, T: Client<D, C>, K: Clock
     T,
     K,
 > {
-    // Takes the lines that are there, up to one that is held, unless the run ends before. Commands may wait still.
+    // Takes the lines that are there, up to one that is held, unless the session ends before. Commands may still wait after it.
     fn take_waiting<M: Metadata>(&mut self, context: &RunContext<'_, M>) -> Result<Taken, Failed>
         requires way { context.now.way ≡ Way.Serve }
         requires waits { MayWait context.now.way (midway self.old.worker self.old.pending) }
@@ -72,7 +72,7 @@ impl<'a, R: Input, D: Disk + Drop, C: Children + Drop, T: Client<D, C>, K: Clock
         Ok(Taken::More)
     }
 
-    // Answers the lines that are there, up to one that is held, unless the run ends before.
+    // Answers the lines that are there, up to one that is held, unless the session ends before.
     fn answer_waiting<M: Metadata>(&mut self, context: &RunContext<'_, M>) -> Result<Taken, Failed>
         requires way { context.now.way ≡ Way.Serve }
         requires waits { MayWait context.now.way (midway self.old.worker self.old.pending) }
@@ -92,7 +92,7 @@ impl<'a, R: Input, D: Disk + Drop, C: Children + Drop, T: Client<D, C>, K: Clock
         self.answer_rest(context)
     }
 
-    /// Answers the line that is held, where its agent has answered; where none is held, the lines that are there, unless the run
+    /// Answers the line that is held, if its agent has answered. If none is held, answers the lines that are there, unless the session
     /// ends before.
     pub fn answer_round<M: Metadata>(
         &mut self,

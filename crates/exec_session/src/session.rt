@@ -1,4 +1,4 @@
-//! A run over its input: lines answered one by one, and turns by itself where it serves.
+//! A session over its input: it answers lines one by one, and in `serve` makes turns by itself.
 ghost use Rattle.std.specs.Prelude.{◌≡◌, [], true, IfErr, OnErr, OnOk};
 ghost use Rattle.ocf_types.specs.declared.reply.TurnEnd.TheVariants.{Done};
 ghost use Rattle.exec_output.specs.Faults.{HasCause};
@@ -29,23 +29,23 @@ use executor::{Executor, Report};
 use ocf_types::{NUM_MAX, TurnEnd};
 use std::rt::Clock;
 
-/// How a run ended, and what it hands back.
+/// How a session ended, and what it gives back.
 #[derive(Drop)]
 pub struct Run<'a, R: Input, D: Disk + Drop, C: Children + Drop, T: Client<D, C>, K: Clock> {
     pub ended: Result<(), Fault>,
-    /// The reader and the client, and all that was asked of them and of the clock.
+    /// The reader and the client, with a log of all that they and the clock were asked.
     pub edge: Edge<'a, R, D, C, T, K>,
     pub disk: D,
-    /// None of them lives.
+    /// No agent process is left.
     pub children: C,
 }
 
-// A run.
+// A session.
 #[derive(Drop)]
 struct Session<'a, R: Input, D: Disk + Drop, C: Children + Drop, T: Client<D, C>, K: Clock> {
     desk: Desk<'a, R, D, C, T, K>,
     pause: Pause,
-    // How the last turn ended that the run made by itself.
+    // How the last turn ended that the session made by itself.
     own: TurnEnd,
 }
 
@@ -57,8 +57,7 @@ impl<'a, R: Input, D: Disk + Drop, C: Children + Drop, T: Client<D, C>, K: Clock
     T,
     K,
 > {
-    // Answers the lines that are there, and makes a turn after at most 64 of them; where nothing happened in it, waits for
-    // the next line.
+    // Answers the lines that are there, at most 64, and makes a turn; if nothing happened in it, waits for the next line.
     fn serve_round<M: Metadata>(&mut self, context: &RunContext<'_, M>) -> Result<Taken, Failed>
         requires way { context.now.way ≡ Way.Serve }
         requires begins { MayBegin context.now.way (midway self.old.desk.worker self.old.desk.pending) }
@@ -90,7 +89,7 @@ impl<'a, R: Input, D: Disk + Drop, C: Children + Drop, T: Client<D, C>, K: Clock
         }
     }
 
-    // One round: of a run by lines alone a read, and the answer to the line that it completes.
+    // One round. In `run` it is one read, and the answer to the line that is complete then.
     fn round<M: Metadata>(&mut self, context: &RunContext<'_, M>) -> Result<Taken, Failed>
         requires begins { MayBegin context.now.way (midway self.old.desk.worker self.old.desk.pending) }
         ensures rounds { Rounds D.view (M.gives context.now.metadata.now) (rules_of context.now)
@@ -104,7 +103,7 @@ impl<'a, R: Input, D: Disk + Drop, C: Children + Drop, T: Client<D, C>, K: Clock
         }
     }
 
-    // Nothing was read, and no turn was made. What is moved here is no part of the stack of a run.
+    // A session that has read nothing and made no turn. Not inlined, so that the values moved here take no stack in the session.
     #[inline(never)]
     fn new(
         edge: Edge<'a, R, D, C, T, K>,
@@ -127,8 +126,8 @@ impl<'a, R: Input, D: Disk + Drop, C: Children + Drop, T: Client<D, C>, K: Clock
         }
     }
 
-    // Answers the lines of the input up to its end, round by round. Once a disk fault has closed the executor a run that
-    // serves sends that, and ends; it also ends once a line has asked it to, when what runs has ended.
+    // Answers the lines of the input up to its end, round by round. In `serve` a disk fault that closes the executor ends the session,
+    // with the line of that fault; and once a line asks for it the session makes an orderly end.
     fn answer_all<M: Metadata>(&mut self, context: &RunContext<'_, M>) -> Result<(), Failed>
         requires clear { IsClear self.old.desk.pending }
         requires none { self.old.own ≡ Done }
@@ -148,7 +147,7 @@ impl<'a, R: Input, D: Disk + Drop, C: Children + Drop, T: Client<D, C>, K: Clock
         Err(Failed)
     }
 
-    // Sends the report, and that a run which serves is ready, and then answers all lines.
+    // Sends the report, and in `serve` that the session is ready; then answers all lines.
     fn report_and_answer<M: Metadata>(
         &mut self,
         context: &RunContext<'_, M>,
@@ -170,7 +169,7 @@ impl<'a, R: Input, D: Disk + Drop, C: Children + Drop, T: Client<D, C>, K: Clock
         Ok(())
     }
 
-    // Sends the report, and then answers all lines; how the program ends after that.
+    // Sends the report, and then answers all lines. Gives how the program ends after that.
     fn answer_lines<M: Metadata>(
         &mut self,
         context: &RunContext<'_, M>,
@@ -194,13 +193,13 @@ impl<'a, R: Input, D: Disk + Drop, C: Children + Drop, T: Client<D, C>, K: Clock
     }
 }
 
-/// Sends a client what the opening reports, and then answers each line of the input, up to its end; a run that serves sends that it is
-/// ready before that, and makes turns by itself, too, and sends how they ended. Commands whose lines were read whole, one after the other, are recorded together, and
-/// their replies flushed together; any other reply is flushed before the next line is answered, and a turn's notices before the
-/// next turn. Where the disk failed the end of the input is a fault, and a run that serves ends at once by it, with the line of a
-/// turn that ended so; input or output that fails is another, and so is a reply that finds no memory. In any case all children are
-/// given up then, and the executor closed. The buffer for lines is passed in, so that no memory is refused between the opening and
-/// its report.
+/// Sends a client the report of the opening, and then answers each line of the input, up to its end. In `serve` it first sends that it is
+/// ready, and makes turns by itself, too, and sends how they ended. Commands whose lines were read whole, one after the other, are one
+/// group commit: they are recorded together, and their replies are flushed together. Any other reply is flushed before the next line is
+/// answered, and a turn's notices before the next turn. If the disk failed, the end of the input is a fault; in `serve` the session ends
+/// at once, with the line of a turn that ended so. Input or output that fails is another fault, and so is a reply that finds no memory.
+/// In any case all agent processes are given up then, and the executor is closed. The buffers for lines are passed in, so that no memory
+/// is refused between the opening and its report.
 #[inline(never)]
 pub fn run_lines<
     'a,

@@ -1,4 +1,4 @@
-//! What a run sends that says nothing of what is recorded since, what an opening reports, and that a run is ready.
+//! Messages that acknowledge no command, the report of an opening, and the line that a session is ready.
 ghost use Rattle.std.specs.Prelude.{◌≡◌, [], ◌∷◌, false};
 ghost use Rattle.exec_client.specs.Behind.{claims};
 ghost use Rattle.exec_client.specs.MayTell.{MayReply, MaySay, StandsBehind};
@@ -26,7 +26,7 @@ impl<'a, R: Input, D: Disk + Drop, C: Children + Drop, T: Client<D, C>, K: Clock
     T,
     K,
 > {
-    /// Sends the client something that says nothing of what is recorded; notices in this form.
+    /// Sends a message that acknowledges no command and reports no new result; notices in this form.
     pub fn tell(&mut self, form: NoticeForm, what: &Told) -> Result<(), Failed>
         requires stands { StandsBehind D.view self.old.at.executor self.old.at.executor
             (said_in what.now) }
@@ -36,7 +36,7 @@ impl<'a, R: Input, D: Disk + Drop, C: Children + Drop, T: Client<D, C>, K: Clock
         self.edge.tell(&self.executor, form, what)
     }
 
-    /// Sends the client a reply that says nothing of what is recorded, and nothing of the state.
+    /// Sends a reply that acknowledges no command. A status in it is that of the executor's state.
     pub fn tell_reply<M>(
         &mut self,
         context: &RunContext<M>,
@@ -49,7 +49,7 @@ impl<'a, R: Input, D: Disk + Drop, C: Children + Drop, T: Client<D, C>, K: Clock
         self.tell(context.form, &Told::Reply(reply))
     }
 
-    // Sends the client a line that answers none, and says nothing of what is recorded.
+    // Sends a line that replies to none and acknowledges no command. A count in it is that of the executor's state.
     fn tell_aside<M>(&mut self, context: &RunContext<M>, news: &LineReply) -> Result<(), Failed>
         requires plain { claims (Answered news.now) ≡ false }
         requires says { MayReply self.old.at.executor news.now }
@@ -65,7 +65,7 @@ impl<'a, R: Input, D: Disk + Drop, C: Children + Drop, T: Client<D, C>, K: Clock
         self.tell_aside(context, &LineReply::Drain(DrainEnd::Turn(end)))
     }
 
-    /// Sends what an opening reports: what was interrupted, and then what was dropped.
+    /// Sends the report of an opening: the interrupted actions, and then the dropped ones.
     pub fn tell_report<M>(&mut self, context: &RunContext<M>, report: &Report) -> Result<(), Failed>
         requires reported { IsReportOf self.old.at.executor report.now }
         ensures told { Steps (TellsReport context.now.form report.now self.old.at)
@@ -77,7 +77,7 @@ impl<'a, R: Input, D: Disk + Drop, C: Children + Drop, T: Client<D, C>, K: Clock
         self.tell(context.form, &dropped)
     }
 
-    // How many resources are registered, and how many lines the report has.
+    // The number of resources that are registered, and of lines of the report.
     fn counts(&self, report: &Report) -> Counts
         requires reported { IsReportOf self.now.at.executor report.now }
         ensures { result ≡ counts_of self.now.at.executor }
@@ -89,7 +89,7 @@ impl<'a, R: Input, D: Disk + Drop, C: Children + Drop, T: Client<D, C>, K: Clock
         }
     }
 
-    /// Sends the line that says that a run which serves is ready; a run by lines alone has none.
+    /// Sends the line that a session in `serve` is ready; `run` has no such line.
     pub fn tell_ready<M>(&mut self, context: &RunContext<M>, report: &Report) -> Result<(), Failed>
         requires reported { IsReportOf self.old.at.executor report.now }
         ensures told { Steps (TellsReady context.now.way context.now.form self.old.at)

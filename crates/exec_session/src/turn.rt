@@ -21,7 +21,7 @@ use exec_trace::Failed;
 use ocf_types::TurnEnd;
 use std::rt::Clock;
 
-// Whether it is news how an own turn ended.
+// Whether the end of an own turn is news.
 fn is_news(before: TurnEnd, end: TurnEnd) -> bool
     ensures news { IsTrue result → IsNews before end }
     ensures none { IsNews before end → IsTrue result }
@@ -37,8 +37,8 @@ impl<'a, R: Input, D: Disk + Drop, C: Children + Drop, T: Client<D, C>, K: Clock
     T,
     K,
 > {
-    /// Makes room and then a turn at this moment, which the clock showed last, and sends its notices. Where the disk fails
-    /// as room is made there is no turn.
+    /// Tidies if that is due, then makes a turn at this time, the last clock reading, and sends its notices. If the disk fails in the
+    /// tidy, there is no turn.
     pub fn make_turn<M>(&mut self, context: &RunContext<M>, now: u64) -> Result<TurnEnd, Failed>
         requires open { self.old.at.executor.is_open ≡ true }
         requires shown { last_shown self.old.at.events ≡ Some now }
@@ -56,7 +56,7 @@ impl<'a, R: Input, D: Disk + Drop, C: Children + Drop, T: Client<D, C>, K: Clock
         Ok(end)
     }
 
-    // Sends how an own turn ended, where that is news.
+    // Sends how an own turn ended, if that is news.
     fn tell_news<M>(
         &mut self,
         context: &RunContext<M>,
@@ -73,7 +73,7 @@ impl<'a, R: Input, D: Disk + Drop, C: Children + Drop, T: Client<D, C>, K: Clock
         }
     }
 
-    /// Makes a turn now, after an own one that ended so, and sends how it ended where that is news.
+    /// Makes a turn now, after an own one that ended like this, and sends how it ended if that is news.
     pub fn make_own_turn<M>(
         &mut self,
         context: &RunContext<M>,

@@ -1,4 +1,4 @@
-//! The wait after a turn of a run that serves.
+//! The wait after a turn of a session in `serve`.
 ghost use Rattle.std.specs.Prelude.{◌≡◌, ◌≤◌, ◌*◌};
 ghost use Rattle.exec_session.specs.Pausing.{IsQuietSince, MayPause};
 ghost use Rattle.exec_session.specs.Spots.{Position, noted};
@@ -13,11 +13,11 @@ use exec_client::Client;
 use exec_lines::Input;
 use std::rt::Clock;
 
-// The longest wait while nothing is queued or runs, in milliseconds.
+// The longest wait while nothing is queued or running, in milliseconds.
 const LONGEST_IDLE: u32 = 1_000;
 
-// How long may be waited for a line after a turn, in microseconds: not at all after one in which something happened, and
-// while nothing is queued or runs until the next monitor is due.
+// How long to wait for input after a turn, in microseconds: 0 if something happened in it; while nothing is queued or running, until the
+// next monitor is due.
 #[tactic(auto, using(crate::proofs::RoundLemmas::waits_none, crate::proofs::RoundLemmas::waits_once))]
 fn wait_micros<R: Input, D: Disk + Drop, C: Children + Drop, T: Client<D, C>, K: Clock>(
     worker: &mut Worker<'_, R, D, C, T, K>,
@@ -42,14 +42,14 @@ fn wait_micros<R: Input, D: Disk + Drop, C: Children + Drop, T: Client<D, C>, K:
     }
 }
 
-// For how many milliseconds input is waited for, where a wait may take this many microseconds.
+// How long to poll the input, in milliseconds, in a wait of this many microseconds.
 fn look_millis(micros: u64) -> u32
     ensures part { result * 1000 ≤ micros }
 {
     (micros / 1_000).min(u64::from(LONGEST_IDLE)) as u32
 }
 
-// Waits until a line is there, something may have ended, or a monitor is due.
+// Waits until a line is there, an action may have ended, or a monitor is due.
 #[tactic(auto, using(crate::proofs::RoundLemmas::waits_more, crate::proofs::RoundLemmas::waits_rest))]
 fn wait_for_line<R: Input, D: Disk + Drop, C: Children + Drop, T: Client<D, C>, K: Clock>(
     worker: &mut Worker<'_, R, D, C, T, K>,
@@ -68,8 +68,8 @@ fn wait_for_line<R: Input, D: Disk + Drop, C: Children + Drop, T: Client<D, C>, 
     }
 }
 
-/// Waits until a line is there, something may have ended, or a monitor is due; while a line is held, no longer than between
-/// two turns of a watch, and not at all before its agent was asked. Whether anybody may still read what is sent.
+/// Waits until a line is there, an action may have ended, or a monitor is due. While a line is held, it waits no longer than between two
+/// turns of a watch, and not at all before the agent was asked. Whether anybody may still read the output.
 pub fn wait<R: Input, D: Disk + Drop, C: Children + Drop, T: Client<D, C>, K: Clock>(
     worker: &mut Worker<'_, R, D, C, T, K>,
     pause: &mut Pause,

@@ -1,4 +1,4 @@
-//! What a run works with: its executor, and the reader, the client and the clock.
+//! The parts of a session that do the work: its executor, its reader, its client and its clock.
 ghost use Rattle.std.specs.Prelude.{◌≡◌, ◌≤◌, ℕ, List, Option, MatchOption, not, is_ok, IfOk, IsTrue};
 ghost use Rattle.ocf_types.specs.Boot.{any_busy};
 ghost use Rattle.ocf_types.specs.Numbers.{IsMoment};
@@ -27,8 +27,8 @@ use executor::Executor;
 use std::marker::Model;
 use std::rt::Clock;
 
-/// What a run works with: its executor, and the reader, the client and the clock. All that the client was sent since the
-/// executor was opened is backed by what the executor recorded.
+/// The executor of a session, with its reader, its client and its clock. Its invariant: all that the client was sent since the opening is
+/// backed by what the executor recorded.
 #[derive(Drop)]
 pub struct Worker<'a, R: Input, D: Disk + Drop, C: Children + Drop, T: Client<D, C>, K: Clock> {
     pub(crate) edge: Edge<'a, R, D, C, T, K>,
@@ -59,7 +59,7 @@ impl<'a, R: Input, D: Disk + Drop, C: Children + Drop, T: Client<D, C>, K: Clock
     T,
     K,
 > {
-    /// An executor that was just opened, of which its client was sent nothing yet.
+    /// An executor that was just opened, and a client that was sent nothing yet.
     #[tactic(auto, using(crate::proofs::TellLemmas::new_stands))]
     pub fn new(edge: Edge<'a, R, D, C, T, K>, executor: Executor<D, C>) -> Worker<'a, R, D, C, T, K>
         requires fresh { IsNew edge.heard executor }
@@ -68,7 +68,7 @@ impl<'a, R: Input, D: Disk + Drop, C: Children + Drop, T: Client<D, C>, K: Clock
         Worker { edge, executor }
     }
 
-    /// What it works with.
+    /// The edge and the executor.
     pub fn into_parts(self) -> (Edge<'a, R, D, C, T, K>, Executor<D, C>)
         ensures parts { at_of result.1 result.0 ≡ self.entry }
         ensures stands { AllStand D.view result.0.heard result.1 }
@@ -77,7 +77,7 @@ impl<'a, R: Input, D: Disk + Drop, C: Children + Drop, T: Client<D, C>, K: Clock
         (edge, executor)
     }
 
-    /// The clock, for the length of a pause.
+    /// The clock, to measure pauses and tidies; such readings are not logged.
     pub fn clock(&self) -> &'a K {
         self.edge.clock()
     }
@@ -96,7 +96,7 @@ impl<'a, R: Input, D: Disk + Drop, C: Children + Drop, T: Client<D, C>, K: Clock
         self.executor.idle()
     }
 
-    /// The moment that the clock shows, in milliseconds since 1970.
+    /// A clock reading, in milliseconds since 1970.
     pub fn now(&mut self) -> u64
         ensures moment { IsMoment result }
         ensures noted { self.new ≡ noted self.old (Shown result) }
@@ -118,7 +118,7 @@ impl<'a, R: Input, D: Disk + Drop, C: Children + Drop, T: Client<D, C>, K: Clock
         self.edge.is_heard()
     }
 
-    /// Waits for input for at most this many milliseconds, and says whether a read would not block.
+    /// Polls the input for at most this many milliseconds. Whether a read would not block.
     pub fn look(&mut self, millis: u32) -> bool
         ensures noted { self.new ≡ noted self.old (Looked millis result) }
     {
@@ -132,8 +132,8 @@ impl<'a, R: Input, D: Disk + Drop, C: Children + Drop, T: Client<D, C>, K: Clock
         self.edge.has_line()
     }
 
-    /// Reads once, and goes on with a line in the buffer. It gives what comes next in the input once that line is whole;
-    /// none while it goes on.
+    /// Reads once, and continues the line in the buffer. Gives the next line, or the end of the input, once it is complete, and `None`
+    /// until then.
     pub fn read(&mut self, buffer: &mut LineBuffer) -> Result<Option<Next>, Failed>
         ensures gathers { (left : Option (List ℕ))
             → IsMidLine left (line_bytes buffer.old) self.old.left
@@ -145,8 +145,8 @@ impl<'a, R: Input, D: Disk + Drop, C: Children + Drop, T: Client<D, C>, K: Clock
         self.edge.read(buffer)
     }
 
-    /// Notes that a line was read, with its tag, where a run serves: the reply to it has that tag. The line is refused where no memory was
-    /// there to note it.
+    /// In `serve`, gives the client the tag of a line that was read: the reply to the line has that tag. Where no memory is there for it,
+    /// the line is refused.
     #[tactic(auto, using(crate::proofs::ReadyLemmas::noted_same, crate::proofs::ReadyLemmas::noted_refused))]
     pub fn note_found(&mut self, way: Way, found: &mut Found, tag: Option<Tag>)
         ensures same { self.new ≡ self.old }
@@ -161,14 +161,14 @@ impl<'a, R: Input, D: Disk + Drop, C: Children + Drop, T: Client<D, C>, K: Clock
         found.run_out();
     }
 
-    /// Pauses for this many microseconds: not at all for none.
+    /// Pauses for this many microseconds; does nothing for 0.
     pub fn rest(&mut self, micros: u64)
         ensures noted { self.new ≡ position (paused self.old.at micros) self.old.left }
     {
         self.edge.rest(micros);
     }
 
-    /// Whether anybody may still read what is sent.
+    /// Whether anybody may still read the output.
     pub fn is_heard(&mut self) -> bool
         ensures noted { self.new ≡ noted self.old (Asked result) }
     {
@@ -189,7 +189,7 @@ impl<'a, R: Input, D: Disk + Drop, C: Children + Drop, T: Client<D, C>, K: Clock
         self.executor.runs_any()
     }
 
-    /// Whether the client failed last for want of memory.
+    /// Whether the client's last failure was want of memory.
     pub fn lacks_memory(&self) -> bool
         ensures memory { IsTrue result → IsTrue T.refuses }
     {

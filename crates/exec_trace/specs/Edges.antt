@@ -1,24 +1,24 @@
--- What contracts see of the edge of a run.
+-- The view of a session's edge.
 use Rattle.std.specs.Prelude.{ℕ, nat_lt, if◌then◌else◌, List, [], ◌∷◌, ◌++◌, Option}
 use Rattle.exec_client.specs.Heard.{Heard}
 use Rattle.exec_trace.specs.declared.event.IoEvent.{IoEvent}
 use Rattle.exec_trace.specs.declared.event.IoEvent.TheVariants.{Rested}
 
--- what the reader has left, where that is known, what the client has received, and all that was asked of them and of the
--- clock, with what was answered
+-- what the reader has left, where that is known; what the client has received; and all that they and the clock were asked, with the
+-- answers
 pub record EdgeView (D : Type 0) : Type 0 where
   pub left : Option (List ℕ)
   pub heard : Heard D
   pub events : List IoEvent
 
--- the same, and then this event
+-- the view after one more event
 abbrev pub noting : {D : Type 0} → EdgeView D → IoEvent → EdgeView D
 noting e event = record { left = e.left; heard = e.heard; events = e.events ++ event ∷ [] }
 
--- the events of a pause of this many microseconds: none is no event
+-- the events of a pause of this many microseconds: a pause of 0 has none
 abbrev pub rest_events : ℕ → List IoEvent
 rest_events micros = if nat_lt 0 micros then Rested micros ∷ [] else []
 
--- the same, and then such a pause
+-- the view after such a pause
 abbrev pub rested : {D : Type 0} → EdgeView D → ℕ → EdgeView D
 rested e micros = record { left = e.left; heard = e.heard; events = e.events ++ rest_events micros }

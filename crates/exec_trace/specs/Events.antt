@@ -1,20 +1,20 @@
--- What a run asked of the world around it, and what it was answered: a list of events, the oldest first.
+-- What a session asked of its environment, with the answers: a list of events, the oldest first.
 use Rattle.std.specs.Prelude.{◌≡◌, ℕ, Bool, true, false, not, List, [], ◌∷◌, ◌++◌, Option, Some, None}
 use Rattle.exec_trace.specs.declared.event.IoEvent.{IoEvent}
 use Rattle.exec_trace.specs.declared.event.IoEvent.TheVariants.{Asked, Read, Sent, Shown}
 
--- the last of two moments, of which either may be none
+-- the later of two clock readings, of which the second may be `None`
 abbrev pub later_of : ℕ → Option ℕ → Option ℕ
 later_of moment None = Some moment
 later_of moment (Some last) = Some last
 
--- the moment that the clock showed last, where it showed one
+-- the last clock reading, if there was one
 abbrev pub last_shown : List IoEvent → Option ℕ
 last_shown [] = None
 last_shown (Shown moment ∷ events) = later_of moment (last_shown events)
 last_shown (e ∷ events) = last_shown events
 
--- a read or a send that failed, or nobody reads any more what is sent
+-- a read or a send that failed, or the answer that nobody reads the output any more
 abbrev pub is_failure : IoEvent → Bool
 is_failure (Read done) = not done
 is_failure (Sent done) = not done

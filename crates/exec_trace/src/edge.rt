@@ -1,4 +1,4 @@
-//! The reader, the client and the clock of a run.
+//! The reader, the client and the clock of a session.
 ghost use Rattle.std.specs.Prelude.{◌≡◌, [], ◌∷◌, ◌++◌, ◌≤◌, Bool, true, false, is_ok, IfOk, IsTrue, List, MatchOption, OnErr, OnOk, Option, ℕ};
 ghost use Rattle.ocf_types.specs.Numbers.{IsMoment};
 ghost use Rattle.exec_lines.specs.Buffer.{line_bytes};
@@ -25,14 +25,14 @@ use std::rt::Clock;
 use std::thread::sleep;
 use std::time::Duration;
 
-/// The reader, the client and the clock of a run, which are asked in no other way, and all that was asked of them.
+/// The reader, the client and the clock of a session, with a log of all that they were asked. Nothing else asks them.
 #[derive(Drop)]
 pub struct Edge<'a, R: Input, D: Disk + Drop, C: Children + Drop, T: Client<D, C>, K: Clock> {
     reader: R,
     client: T,
     clock: &'a K,
     past: Past<IoEvent>,
-    // How the reader or the client failed last.
+    // The last failure of the reader or the client.
     fault: IoFault,
     of: PhantomData<(D, C)>,
 }
@@ -76,12 +76,12 @@ impl<'a, R: Input, D: Disk + Drop, C: Children + Drop, T: Client<D, C>, K: Clock
         }
     }
 
-    /// The clock, for the length of a pause, which is not noted.
+    /// The clock, to measure pauses and tidies; such readings are not logged.
     pub fn clock(&self) -> &'a K {
         self.clock
     }
 
-    /// Waits for input for at most this many milliseconds, and says whether a read would not block.
+    /// Polls the input for at most this many milliseconds. Whether a read would not block.
     pub fn look(&mut self, millis: u32) -> bool
         ensures noted { self.new ≡ noting self.old (Looked millis result) }
     {
@@ -99,8 +99,8 @@ impl<'a, R: Input, D: Disk + Drop, C: Children + Drop, T: Client<D, C>, K: Clock
         has_line
     }
 
-    /// Reads once, and goes on with a line in the buffer. It gives what comes next in the input once that line is whole;
-    /// none while it goes on.
+    /// Reads once, and continues the line in the buffer. Gives the next line, or the end of the input, once it is complete, and `None`
+    /// until then.
     pub fn read(&mut self, buffer: &mut LineBuffer) -> Result<Option<Next>, Failed>
         ensures gathers { (left : Option (List ℕ))
             → IsMidLine left (line_bytes buffer.old) self.old.left
@@ -121,7 +121,7 @@ impl<'a, R: Input, D: Disk + Drop, C: Children + Drop, T: Client<D, C>, K: Clock
         }
     }
 
-    /// The moment that the clock shows, in milliseconds since 1970.
+    /// A clock reading, in milliseconds since 1970.
     pub fn now(&mut self) -> u64
         ensures moment { IsMoment result }
         ensures noted { self.new ≡ noting self.old (Shown result) }
@@ -131,7 +131,7 @@ impl<'a, R: Input, D: Disk + Drop, C: Children + Drop, T: Client<D, C>, K: Clock
         moment
     }
 
-    /// Pauses for this many microseconds: not at all for none.
+    /// Pauses for this many microseconds; does nothing for 0.
     pub fn rest(&mut self, micros: u64)
         ensures noted { self.new ≡ rested self.old micros }
     {
@@ -141,8 +141,8 @@ impl<'a, R: Input, D: Disk + Drop, C: Children + Drop, T: Client<D, C>, K: Clock
         }
     }
 
-    /// Sends the client this, once what it says is recorded; notices in this form. After an error a prefix of its lines may
-    /// have been sent, and a part of the next line.
+    /// Sends the client a message that is already recorded; notices in this form. On error a prefix of its lines was sent, and maybe part
+    /// of the next.
     pub fn tell(
         &mut self,
         executor: &Executor<D, C>,
@@ -167,8 +167,8 @@ impl<'a, R: Input, D: Disk + Drop, C: Children + Drop, T: Client<D, C>, K: Clock
         }
     }
 
-    /// A line was read that has this tag, or none: its reply and the notices of its call repeat it. Where memory is refused, the line
-    /// counts as one without a tag. It asks nobody, so it is no event.
+    /// Gives the client the tag of a line that was read, or `None`: the reply and the notices of its call repeat it. Where memory is
+    /// refused, the line counts as one without a tag. This asks nobody, so it is no event.
     pub fn note_tag(&mut self, tag: Option<Tag>) -> Result<(), AllocError>
         ensures unchanged { self.new ≡ self.old }
         ensures memory { OnErr result (IsTrue T.refuses) }
@@ -176,14 +176,14 @@ impl<'a, R: Input, D: Disk + Drop, C: Children + Drop, T: Client<D, C>, K: Clock
         self.client.note_tag(tag)
     }
 
-    /// Whether the client failed last for want of memory.
+    /// Whether the client's last failure was want of memory.
     pub fn lacks_memory(&self) -> bool
         ensures memory { IsTrue result → IsTrue T.refuses }
     {
         matches!(self.fault, IoFault::Memory)
     }
 
-    /// Whether anybody may still read what is sent.
+    /// Whether anybody may still read the output.
     pub fn is_heard(&mut self) -> bool
         ensures noted { self.new ≡ noting self.old (Asked result) }
     {
@@ -192,7 +192,7 @@ impl<'a, R: Input, D: Disk + Drop, C: Children + Drop, T: Client<D, C>, K: Clock
         heard
     }
 
-    /// The reader and the client, and what was asked of them and of the clock.
+    /// The reader and the client, and the log of what they and the clock were asked.
     pub fn into_parts(self) -> (R, T, Past<IoEvent>)
         ensures left { R.remaining result.0 ≡ self.entry.left }
         ensures heard { T.heard result.1 ≡ self.entry.heard }

@@ -1,5 +1,5 @@
 //! A reader or a client that failed.
 
-/// The reader or the client of a run failed. Its edge knows how.
+/// The reader or the client of a session failed. Its edge knows how.
 #[derive(Clone, Copy, Debug, PartialEq, Eq)]
 pub struct Failed;

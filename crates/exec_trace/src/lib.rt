@@ -1,4 +1,4 @@
-//! The reader, the client and the clock of a run as one type, and all that was asked of them, for contracts.
+//! The reader, the client and the clock of a session as one type, with a log of what they were asked, for contracts.
 #![tactic(auto)]
 
 mod edge;
