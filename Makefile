@@ -1,48 +1,48 @@
-# The gate, and what it leaves behind.
+# The gate, and what it leaves in place.
 PREFIX ?= /usr/local
 PROGRAM := crates/ocfexec/out/ocfexec
 AGENTS := crates/ocf_agents/out/ocf_agents
 
 .PHONY: run test check mutants bench plots costs statement soak fuzz sanitize install deb source guide clean
 
-# Compiles every crate, proves nothing, and answers the example's commands, with the example's agent.
+# Compiles every crate without proving it, and answers the example's commands with the example's agent.
 run:
 	@cd crates/ocfexec && rt try -- run --memory --root $(CURDIR)/examples < ../../examples/first.jsonl
 
-# The gate, which proves every crate, the wrong bodies whose stamps are old, and then the checks of the programs that it built.
+# The gate: proves every crate, tries the wrong bodies whose stamps are old, and then runs the checks of the programs that it built.
 test:
 	@tests/gate.sh
 
-# The checks of the built programs alone: all of them, or those that are named, as make check NAMES="serve cli"; a name is that of a
-# script or of a folder. FAST=1 leaves out what is slow, and JOBS=n runs n at once, where it is else two for each processor.
+# Runs only the checks of the built programs: all of them, or the named ones, as make check NAMES="serve cli"; a name is that of a script or
+# of a directory. FAST=1 leaves out the slow ones, and JOBS=n runs n at once (default: two per processor).
 check:
 	@tests/check.sh $(if $(FAST),--fast) $(NAME) $(NAMES)
 
-# Tries the wrong bodies of one crate, make mutants NAME=recurring; without a name those that the gate tries. NAME=every tries those of all
-# crates that were not seen refused as they are now, JOBS=n crates at once, and NAME=show says which these are, and tries nothing.
+# Tries the wrong bodies of one crate, make mutants NAME=recurring; without a name those that the gate tries. NAME=every tries, for all
+# crates, those that were not seen refused in their present state, JOBS=n crates at once. NAME=show lists these and tries nothing.
 mutants:
 	@mutants/stamps.py $(if $(JOBS),-j $(JOBS)) $(if $(filter show,$(NAME)),show every,$(if $(filter every,$(NAME)),check every,all $(NAME)))
 
-# The rate of each benchmark, whose programs are proved by this call: the gate has no benchmarks.
+# Measures the rate of each benchmark. This call proves their programs, since the gate has no benchmarks.
 bench:
 	@bench/rates.sh
 
-# Draws docs/pictures/performance.svg from one run of the comparison with pacemaker-execd and the floor; nothing else should run
-# meanwhile. It needs python3-matplotlib, and what bench/against_execd.sh asks for. ROUNDS=1 is a trial, which the picture says.
+# Draws docs/pictures/performance.svg from one run of the comparison with pacemaker-execd and the floor; nothing else should run meanwhile.
+# It needs python3-matplotlib and the needs of bench/against_execd.sh. ROUNDS=1 is a trial, and the picture says so.
 plots: $(PROGRAM)
 	@figures=$$(mktemp) && FIGURES=$$figures bench/against_execd.sh $(PROGRAM) $(or $(ROUNDS),7) rates waits answers && \
 		bench/plots.py $$figures docs/pictures/performance.svg; status=$$?; rm -f $$figures; exit $$status
 
-# What each crate costs in a gate from nothing, as the table of docs/ARCHITECTURE.md. Nothing else should run meanwhile. A kit whose
-# gate keeps what it proved is asked to begin from nothing; any other does so always.
+# Measures the cost of each crate in a gate from scratch, and writes the table of docs/ARCHITECTURE.md. Nothing else should run meanwhile. A
+# kit whose gate keeps what it proved is asked to begin from scratch; any other always does.
 costs:
 	@bench/costs.py --into docs/ARCHITECTURE.md -- rt ci $$(rt help 2>&1 | grep -o -m 1 -e --anew)
 
-# Writes the laws of whole lives, and each definition behind them, into docs/STATEMENT.antt.txt.
+# Writes the laws of whole histories, and each definition that they depend on, into docs/STATEMENT.antt.txt.
 statement:
 	@docs/statement.py
 
-# A life of thirty days on a simulated clock; `make check` has one of a day.
+# Plays a history of thirty days on a simulated clock; `make check` plays one of a day.
 soak:
 	@DAYS=30 tests/crash/soak.py
 
@@ -50,12 +50,12 @@ soak:
 fuzz:
 	@tests/fuzz/run.sh 300
 
-# Refuses each growth of memory of the program, built with AddressSanitizer.
+# Refuses each growth of memory of the program, which is built with AddressSanitizer.
 sanitize:
 	@tests/sanitize.sh
 
-# Installs the programs that the gate proved and built, or proves and builds them first; with them the manual page, README.md, the
-# clients with their library, and the units.
+# Installs the programs that the gate proved and built, or proves and builds them first; also the manual page, README.md, the clients with
+# their library, and the units.
 install: $(PROGRAM) $(AGENTS)
 	install -D $(PROGRAM) $(DESTDIR)$(PREFIX)/bin/ocfexec
 	install -D $(AGENTS) $(DESTDIR)$(PREFIX)/bin/ocf_agents
@@ -68,11 +68,11 @@ install: $(PROGRAM) $(AGENTS)
 deb:
 	@package/deb.sh
 
-# Builds a Debian source package of the last commit, from which dpkg-buildpackage builds that package where `rt` is.
+# Builds a Debian source package of the last commit. dpkg-buildpackage builds the package from it on a machine with `rt`.
 source:
 	@package/source.sh
 
-# The first hour in one go, on this machine: builds that package, installs it, runs each command of docs/GUIDE.md, and removes it.
+# Tests the first hour on this machine: builds the package, installs it, runs each command of docs/GUIDE.md, and removes the package.
 guide:
 	@tests/system/guide.sh $(PROGRAM) /
 

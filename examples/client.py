@@ -1,22 +1,22 @@
 #!/usr/bin/env python3
-"""Keeps the resources of a file running through ocfexec: probes each, starts it if it does not run, monitors it, and restarts it
-when a monitor fails. An executor that ends is started again: with --journal it goes on where it was.
+"""Keeps the resources of a file running through ocfexec. It probes each resource, starts it if it does not run, monitors it, and restarts
+it when a monitor fails. When the executor ends it is started again; with --journal it continues where it was.
 
     client.py ocfexec serve --journal /var/lib/ocfexec --meta-variables --log -
     client.py --file resources.json --check
 
-SIGTERM, SIGINT  stop the resources, and end the client; its status is 1 where one did not stop
-SIGUSR1          ends the client and leaves the resources running; what runs ends first, and the next client goes on
-SIGHUP           reads the file again: what is new there is started, what is gone is stopped and taken out of the journal, what has
-                 another agent or other parameters is stopped with the old ones and started with the new ones, what was given up is
-                 tried again
+  SIGTERM, SIGINT  stop the resources, and end the client; its status is 1 if a resource did not stop
+  SIGUSR1          ends the client and leaves the resources running; running actions end first, and the next client continues
+  SIGHUP           reads the file again: new resources are started; removed ones are stopped and taken out of the journal; those whose
+                   agent or parameters changed are stopped with the old ones and started with the new ones; those that were given
+                   up are tried again
 
-resources.py beside this file says what the file may hold. Resources are brought up side by side, in no order. One that fails is
-restarted at once, and then after 1, 2, 4 .. 60 seconds; one that has failed too often is stopped and given up, and named.
-Where the file is not there, or names nothing, nothing is done and no executor started, until SIGHUP.
+resources.py describes the file. Resources are brought up in parallel, in no order. One that fails is restarted at once, and then after 1,
+2, 4 .. 60 seconds; one that has failed too often is stopped and given up, and named. If the file is missing, or names nothing, the client
+does nothing and starts no executor until SIGHUP.
 
-Each result is printed as a line of JSON. Agents of Debian's package resource-agents want --meta-variables: without Pacemaker's
-interval they take each monitor for a probe. --log - shows what they say.
+Each result is printed as a line of JSON. Agents of Debian's package resource-agents need --meta-variables: without Pacemaker's interval
+they take each monitor for a probe. --log - shows their output.
 """
 import argparse
 import json
@@ -48,7 +48,7 @@ def say(what):
 
 
 def notify(*lines):
-    """Tells systemd, where that has started the client: sd_notify(3)."""
+    """Notifies systemd, if systemd started the client: sd_notify(3)."""
     path = os.environ.get("NOTIFY_SOCKET", "")
     if path:
         with socket.socket(socket.AF_UNIX, socket.SOCK_DGRAM) as to:
@@ -59,7 +59,7 @@ def notify(*lines):
 
 
 def described(result):
-    """A result in words, as: start ended with 1 (OCF_ERR_GENERIC)."""
+    """A result in words, such as: start ended with 1 (OCF_ERR_GENERIC)."""
     if result["outcome"] in ("done", "not-started"):
         how = "ended" if result["outcome"] == "done" else "was not started,"
         return f"{result['action']} {how} with {result['code']} ({result['name']})"
@@ -67,20 +67,20 @@ def described(result):
 
 
 class Resource:
-    """A resource that is kept. What is done to it is a task: a generator of what it waits for. It waits for an action, yielded as a
-    command, and is sent its result; for a pause, yielded in seconds; or for WATCH, and is sent the result of a monitor that
-    does not find the resource running."""
+    """A resource that is kept running. Its task is a generator of what it waits for: an action, yielded as a command, after which it is
+    sent the result; a pause, yielded in seconds; or WATCH, after which it is sent the result of a monitor that does not find the
+    resource running."""
 
     def __init__(self, name, executor):
         self.name, self.executor = name, executor
-        self.wanted, self.had = None, resources.Wanted("", "")  # what the file wants, and what it wanted before
-        self.state, self.is_settled = "new", False  # in a word, and whether its first start has ended, in either way
+        self.wanted, self.had = None, resources.Wanted("", "")  # what the file wants now, and what it wanted before
+        self.state, self.is_settled = "new", False  # its state in a word; whether its first start has ended, with success or not
         self.restarts = []  # when it was restarted, by the monotonic clock
         self.task = self.awaited = None  # awaited: the number of a call, or WATCH
         self.due, self.last = NEVER, None  # when its pause is over; its last result
 
     def want(self, wanted):
-        """What the file wants of it from now on; None, that it is not there. Whether that is something to be done."""
+        """Sets what the file wants of it from now on; None if the file no longer has it. Returns whether that needs an action."""
         differs = wanted != self.wanted or self.state == "given up"
         if differs:
             self.had, self.wanted = self.wanted or self.had, wanted
@@ -99,7 +99,7 @@ class Resource:
         say(f"{self.name} {what}")
         self.state, self.is_settled = state, True
 
-    # What is done to it
+    # Its tasks
 
     def kept(self):
         """Keeps it running, until it has failed too often."""
@@ -119,7 +119,7 @@ class Resource:
             yield from self.given_up(why)
 
     def removed(self):
-        """Stops it as it was, and takes it out of the journal."""
+        """Stops it with its old parameters, and takes it out of the journal."""
         try:
             self.clear()
             say(f"{self.name} is no longer in the file: it is stopped and unregistered")
@@ -141,13 +141,13 @@ class Resource:
         return None
 
     def given_up(self, why):
-        """Leaves it stopped. A stop that failed is not tried once more: that wants a person."""
+        """Leaves it stopped. A stop that failed is not repeated: it needs an administrator."""
         self.cancel_monitors()
         if self.last["action"] != "stop":
             yield self.action("stop")
         self.settle("given up", f"is given up: {why}")
 
-    # The steps of that
+    # The steps of its tasks
 
     def registered(self):
         info = self.ask("info", "unknown-resource")
@@ -166,7 +166,7 @@ class Resource:
         self.ask("unregister")
 
     def started(self, is_first):
-        """Starts it until that succeeds. What has failed is stopped first, and what did not stop is not started."""
+        """Starts it until that succeeds. After a failure it is stopped first; if it did not stop, it is not started."""
         self.state = "starting"
         while True:
             if not is_first:
@@ -180,7 +180,7 @@ class Resource:
                     return
 
     def paused(self):
-        """Waits as long as another try has to wait. Raises GivenUp where there were too many."""
+        """Waits until the next try is due. Raises GivenUp if there were too many."""
         now, limits = time.monotonic(), self.wanted or self.had
         self.restarts = [moment for moment in self.restarts if moment > now - limits.within / 1000]
         if len(self.restarts) >= limits.restarts:
@@ -192,14 +192,14 @@ class Resource:
             yield pause
 
     def probe(self):
-        """A monitor. It expects that the resource does not run, unless the results in the journal say that it did."""
+        """A monitor. It expects that the resource does not run, unless the results in the journal show that it did."""
         results = [result for result in self.ask("history")["results"] if result["outcome"] not in ("dropped", "cancelled")]
         last = next((result for result in reversed(results) if (result["action"], result["outcome"]) != ("monitor", "interrupted")), None)
         runs = last and last["action"] != "stop" and (last["code"] in RUNNING or last["outcome"] == "interrupted")
         return self.action("monitor", expect=0 if runs else NOT_RUNNING)
 
     def monitor(self):
-        """Has it monitored as the file wants it."""
+        """Adds the monitor that the file wants."""
         interval, timeout = self.wanted.interval, self.wanted.timeout("monitor")
         for monitor in self.ask("info")["recurring"]:
             if (monitor["interval"], monitor["timeout"]) != (interval, timeout):
@@ -215,21 +215,21 @@ class Resource:
         return "error" not in info
 
     def clear(self):
-        """Takes back what is queued, so that nothing waits but for what has begun."""
+        """Withdraws its queued actions, so that only those that have begun are awaited."""
         for call in self.ask("info", "unknown-resource").get("queued", []):
             self.ask("withdraw", "not-queued", call=call)
 
-    # How a task goes on
+    # How a task proceeds
 
     def begin(self, task):
-        """Begins this task in place of the one before."""
+        """Begins this task in place of the previous one."""
         if self.task:
             self.task.close()
         self.task = task
         self.go_on(None)
 
     def go_on(self, came):
-        """Takes the task on with what came, up to what it waits for next."""
+        """Passes a value to the task, and runs it up to what it waits for next."""
         self.awaited, self.due = None, NEVER
         try:
             what = self.task.send(came)
@@ -243,18 +243,18 @@ class Resource:
             self.task = None
         except Refused as refused:
             self.task = None
-            if refused.word not in ("disk", "closed"):  # of these two the executor ends
+            if refused.word not in ("disk", "closed"):  # these two end the executor
                 self.settle("not stopped" if self.state == "not stopped" else "given up", f"is given up: {refused}")
 
     def hear(self, result):
-        # (one that is promoted runs, too; a result that was found in the journal alone is of an executor before this one)
+        # (a promoted resource runs, too; a result found only in the journal is of an earlier executor)
         fails = result["interval"] and result.get("failed") and result["code"] not in RUNNING
         if self.awaited == result["call"] or self.awaited == WATCH and fails:
             self.go_on(result)
 
 
 class Client:
-    """Keeps all resources, through one executor after another, until a signal ends that."""
+    """Keeps all resources, through one executor after another, until a signal ends the client."""
 
     def __init__(self, file, command_line):
         self.file, self.asked, self.told = file, [], None
@@ -271,7 +271,7 @@ class Client:
     # Its file and its signals
 
     def read(self):
-        """Takes over what the file wants. One that is wrong changes nothing; whether it could be read."""
+        """Takes over what the file wants. A wrong file changes nothing. Returns whether the file could be read."""
         try:
             wanted = resources.read(self.file)
         except (resources.Wrong, OSError) as error:
@@ -291,7 +291,7 @@ class Client:
             resource.begin(resource.kept() if resource.wanted else resource.removed())
 
     def heed(self):
-        """Does what signals have asked for. Whether the client is to end."""
+        """Does what signals have requested. Returns whether the client has to end."""
         while select.select([self.wake], [], [], 0)[0]:
             os.read(self.wake, 4096)
         while self.asked:
@@ -311,13 +311,13 @@ class Client:
         return self.is_leaving or self.is_stopping and not any(resource.task for resource in self.resources.values())
 
     def rest(self, seconds=None):
-        """Waits without an executor, until a signal comes. Whether the client is to leave, or was told to stop."""
+        """Waits without an executor until a signal comes. Returns whether the client has to leave, or to stop."""
         select.select([self.wake], [], [], seconds)
         self.heed()
         return self.is_leaving or self.is_stopping
 
     def tell(self, *lines):
-        """Tells systemd how all is, where that has changed; and once, that each resource runs or has failed."""
+        """Reports the state of all resources to systemd when it has changed; and, once, that each resource runs or has failed."""
         by_state = {}
         for resource in self.resources.values():
             by_state.setdefault(resource.state, []).append(resource.name)
@@ -328,10 +328,10 @@ class Client:
             notify(*lines, told)
             self.told = told
 
-    # One run of the executor
+    # One executor
 
     def open(self):
-        """Starts the executor, and goes on with each resource of the file and of the journal."""
+        """Starts the executor, and continues with each resource of the file and of the journal."""
         self.has_opened = self.has_worked = False
         self.executor.start()
         self.has_opened = True
@@ -344,7 +344,7 @@ class Client:
                 self.begin(resource)
 
     def look(self):
-        """Waits for what comes next, and hands it on."""
+        """Waits for what comes next, and passes it to its resource."""
         due = min((resource.due for resource in self.resources.values()), default=NEVER)
         self.executor.hear(None if due == NEVER else max(0, due - time.monotonic()))
         for result in self.told_results():
@@ -366,7 +366,7 @@ class Client:
         return found
 
     def keep(self):
-        """Keeps the resources until the client is to end, and gives its status. Raises Ended."""
+        """Keeps the resources until the client has to end, and returns its status. Raises Ended."""
         self.open()
         while not self.heed():
             self.tell()
@@ -397,7 +397,7 @@ class Client:
                     return ended.status
                 if self.is_stopping and not self.has_opened:
                     return 1
-            # an executor that has sent a result is followed by the next one at once
+            # if an executor has sent a result, the next one follows at once
             pause = 0 if self.has_worked else min(LONGEST, 2 * pause or 1)
             if pause and self.rest(pause) and self.is_leaving:
                 return 0

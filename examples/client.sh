@@ -1,8 +1,8 @@
 #!/bin/sh
-# Runs one resource through ocfexec for three seconds: registers and starts it, monitors it each second, withdraws what is
-# queued then, and stops it. The commands go through one FIFO and the lines come back through another. Each line that comes is printed:
-# first that by which the executor says that it is ready.
-# Debian's agents want --meta-variables, or they take each monitor for a probe; --log - shows what they say.
+# Runs one resource through ocfexec for three seconds: registers and starts it, monitors it each second, withdraws its queued actions, and
+# stops it. The commands go through one FIFO and the lines come back through another. Each line that comes is printed; the first one says
+# that the executor is ready.
+# Debian's agents need --meta-variables, or they take each monitor for a probe; --log - shows their output.
 # Use: client.sh PROVIDER TYPE PARAMETER=VALUE ocfexec serve --memory --meta-variables --log -
 set -eu
 provider=$1 type=$2 parameter=${3%%=*} value=${3#*=}
@@ -11,12 +11,12 @@ here=$(mktemp -d)
 trap 'rm -rf "$here"' EXIT
 trap '' PIPE
 mkfifo "$here/commands" "$here/replies"
-# a shell starts what is in the background with SIGINT and SIGQUIT ignored, and agents would inherit that
+# a shell starts background commands with SIGINT and SIGQUIT ignored, and agents would inherit that
 env --default-signal=INT,QUIT "$@" < "$here/commands" > "$here/replies" &
 executor=$!
 exec 3> "$here/commands" 4< "$here/replies"
 
-# Prints what comes, up to a line that begins so. A refusal ends the client.
+# Prints lines up to one that begins with this text. A refusal ends the client.
 await() {
     while IFS= read -r line <&4; do
         printf '%s\n' "$line"
@@ -28,7 +28,7 @@ await() {
     echo "client.sh: the executor ended" >&2
     return 1
 }
-# Sends a command and waits for its reply: a notice has its action first, and no reply to these commands has.
+# Sends a command and waits for its reply. A notice begins with its action, and no reply to these commands does.
 ask() {
     printf '%s\n' "$1" >&3
     await "$2"
@@ -46,7 +46,7 @@ ask '{"op":"cancel","id":"r1","interval":1000}' '{"ok":'
 ask '{"op":"info","id":"r1"}' '{"failed":'
 queued=${line##*'"queued":['}
 for call in $(printf '%s' "${queued%%]*}" | tr , ' '); do
-    # what has begun in the meantime is refused, and ends by itself
+    # a withdrawal of an action that has begun meanwhile is refused, and the action ends by itself
     ask "{\"op\":\"withdraw\",\"id\":\"r1\",\"call\":$call}" '{"ok":' ||
         case $line in '{"error":"not-queued",'*) ;; *) exit 1 ;; esac
 done

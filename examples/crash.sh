@@ -1,6 +1,6 @@
 #!/bin/sh
-# Shows what a crash of the executor loses, which is nothing: two services are started, the executor is killed while the
-# second one starts, and opened again. Beside it the same by a loop of the shell. It takes three seconds, and leaves nothing.
+# Shows what a crash of the executor loses, which is nothing: two services are started, the executor is killed while the second one starts,
+# and opened again. For comparison a shell loop does the same. It takes three seconds, and leaves nothing.
 # Use: examples/crash.sh [PROGRAM], after `make test` or `make install`
 set -eu
 program=${1:-$(dirname "$0")/../crates/ocfexec/out/ocfexec}
@@ -9,7 +9,7 @@ here=$(mktemp -d)
 trap 'rm -rf "$here"' EXIT
 mkdir -p "$here/root/resource.d/demo" "$here/journal"
 
-# An agent that takes a second for a database, and no time for anything else.
+# An agent that takes a second to start a database, and no time for anything else.
 cat > "$here/root/resource.d/demo/Service" <<'AGENT'
 case $OCF_RESOURCE_INSTANCE in db*) sleep 1 ;; esac
 echo "$OCF_RESOURCE_INSTANCE $1" >> "$OCF_RESKEY_log"
@@ -19,7 +19,7 @@ say() {
     printf '\n== %s\n' "$1"
 }
 
-# Waits until this is in the file, and then kills the process that writes it. Use: kill_after TEXT FILE PID
+# Waits until this text is in the file, and then kills the process that writes it. Use: kill_after TEXT FILE PID
 kill_after() {
     until grep -q -s -e "$1" "$2" || ! kill -0 "$3"; do
         sleep 0.05
@@ -33,7 +33,7 @@ set -- "$program" run --journal "$here/journal" --root "$here/root" --via sh
 
 say "An executor starts web and db, and has db's promotion queued. It is killed as soon as web is up."
 mkfifo "$here/in"
-# a shell starts what is in the background with SIGINT and SIGQUIT ignored, and agents would inherit that
+# a shell starts background commands with SIGINT and SIGQUIT ignored, and agents would inherit that
 env --default-signal=INT,QUIT "$@" < "$here/in" > "$here/out" &
 pid=$!
 exec 3> "$here/in"

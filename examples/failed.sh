@@ -1,6 +1,6 @@
 #!/bin/sh
-# Shows why a start failed: with --log the agent's own words stand beside its exit code. The example's agent is to keep its
-# state in a directory that is missing.
+# Shows why a start failed: with --log the agent's own output is next to its exit code. The example's agent is told to keep its state in a
+# directory that is missing.
 # Use: failed.sh [PROGRAM]
 set -eu
 program=$(realpath "$(command -v "${1:-ocfexec}")")

@@ -1,26 +1,27 @@
-"""Drives `ocfexec serve` from Python: commands and their replies, and each result once, also where the executor was killed and
-started again. Python's standard library alone, no threads.
+"""Drives `ocfexec serve` from Python: sends commands, and delivers replies, and each result once, even if the executor was killed and
+started again. It uses only Python's standard library, and no threads.
 
     executor = Executor(["ocfexec", "serve", "--journal", "/var/lib/ocfexec"])
     executor.start()
     print(executor.ready["version"], "has", executor.ready["resources"], "resources")
-    for result in executor.reported:  # what was interrupted or dropped when the executor before this one ended
+    for result in executor.reported:  # what was interrupted or dropped when the previous executor ended
         print(result["id"], result["action"], result["outcome"])
     executor.ask(op="register", id="r1", provider="heartbeat", type="Dummy")
     call = executor.ask(op="exec", id="r1", action="start")["call"]
     try:
         print(executor.result(call)["outcome"])
     except Ended:
-        executor.start()  # opens the journal again, which knows how the call ended
+        executor.start()  # opens the journal again, which has the outcome of the call
         print(executor.result(call)["outcome"])
     executor.leave()
 
-Commands, replies and results are dictionaries, as docs/FORMAT.md describes them: `ask(op="status")` says how all resources are,
-`ask(op="version")` the program's version, and `ask(op="meta", provider=.., type=..)` has an agent's metadata as "metadata", or says
-as "end" why there are none. A command may have a `tag=`, a text of at most 64 bytes, which its reply and the results of its call repeat.
+Commands, replies and results are dictionaries, as docs/FORMAT.md describes them. `ask(op="status")` returns the status of all resources,
+`ask(op="version")` the version of the program, and `ask(op="meta", provider=.., type=..)` the metadata of an agent as "metadata", or as
+"end" the reason why there are none. A command may have a `tag=`, a text of at most 64 bytes, which its reply and the results of its call
+repeat.
 
-Only a result that came as a notice says its `key`, what was expected (`expect`), whether it has `failed` and its `tag`, not one that
-was found in the journal alone; and none of an opening's report has a tag. `drain` and `watch` are refused here: an executor that serves
+Only a result that came as a notice has a `key`, the expected code (`expect`), whether it has `failed`, and its `tag`; a result that was
+found only in the journal has none of these, and no result of an opening's report has a tag. `drain` and `watch` are refused here: `serve`
 runs actions by itself, and `ocfexec run` answers both.
 """
 import collections
@@ -32,24 +33,23 @@ import signal
 import subprocess
 import time
 
-FOR_A_PERSON = (2, 3, 6, 8)  # wrong words, a damaged journal, a full one, SIGCHLD ignored: another start ends likewise
-REPORTED = ("interrupted", "dropped")  # outcomes that an opening alone reports
+FOR_A_PERSON = (2, 3, 6, 8)  # wrong arguments, a damaged journal, a full one, SIGCHLD ignored: another start would end in the same way
+REPORTED = ("interrupted", "dropped")  # outcomes that only an opening reports
 NOT_HERE = ("drain", "watch")
-# commands that {"end":..} may reply to: each is given a tag, since without one the executor speaks so of its own turns
+# commands that {"end":..} may reply to: each is given a tag, since without one the line could be about the executor's own turns
 ENDING = ("tidy", "leave", "meta")
 SET_PIPE_SIZE, PIPE_SIZE = getattr(fcntl, "F_SETPIPE_SZ", 1031), 1 << 20
 KEPT = 64  # results of a resource that a journal keeps
-PIECE = 65536  # bytes that are read or written at once
+PIECE = 65536  # bytes that are read or written at a time
 TICK = 0.1  # seconds between two calls of `idle`
 
 
 class Error(Exception):
-    """What goes wrong with an executor."""
+    """A fault of an executor."""
 
 
 class Ended(Error):
-    """The executor has ended, and all that it had written was read. `status` is its exit status; below 0 it is the signal that
-    ended it."""
+    """The executor has ended, and all its output was read. `status` is its exit status, or minus the number of the signal that ended it."""
 
     def __init__(self, status):
         super().__init__(f"the executor ended with status {status}")
@@ -57,7 +57,7 @@ class Ended(Error):
 
     @property
     def wants_person(self):
-        """Whether another start would end in the same way, so that a person has to look."""
+        """Whether another start would end in the same way, so that an administrator has to act."""
         return self.status in FOR_A_PERSON
 
 
@@ -70,48 +70,47 @@ class Refused(Error):
 
 
 class Late(Error):
-    """A reply or a result did not come in time. What was asked may be done all the same; a reply that comes later is passed over."""
+    """A reply or a result did not come in time. The command may be carried out all the same; a reply that comes later is ignored."""
 
 
 class Garbled(Error):
-    """The program wrote a line that is no line of an executor."""
+    """The program wrote a line that no executor writes."""
 
 
 def _with_default_signals():
-    """A shell starts what is in the background with signals ignored, and agents would inherit that."""
+    """A shell starts background commands with signals ignored, and agents would inherit that."""
     for number in (signal.SIGINT, signal.SIGQUIT, signal.SIGCHLD):
         signal.signal(number, signal.SIG_DFL)
 
 
 class Executor:
-    """An executor that is started, asked, heard, ended, and started again after it ended.
+    """An executor that is started, sent commands, read, ended, and started again after it ended.
 
-    The program waits wherever its output is not read. So all that it has written is read in every call here, also while a command
-    is written, and is kept until it is taken; its pipe holds one MiB more, about 4,500 results, while no call is made.
+    The program waits while its output is not read. Therefore every call here reads all of its output, also while it writes a command, and
+    keeps it until it is taken; while no call is made, the pipe holds another MiB, about 4,500 results.
 
-    ready     what the program said when it had opened its journal: its version, the journal and how many resources that has, and how
-              many results of each kind it reported
+    ready     what the program sent when it had opened its journal: its version, the journal and the number of its resources, and the
+              numbers of reported results of each kind
     reported  the results that the last opening reported, as interrupted or dropped
-    past      of each resource that was registered then, its results in the journal, oldest first
-    troubles  words as "full", each of which says that a turn could not be made; the executor makes it again by itself
+    past      for each resource that was registered then, its results in the journal, oldest first
+    troubles  words such as "full", each of which says that a turn could not be made; the executor repeats it by itself
     """
 
     def __init__(self, command_line, idle=None, wake=None, own_session=True, patience=None):
-        """`command_line` is a list of arguments. `idle` is called ten times a second while a reply or a result is waited for. `wake`
-        is a file descriptor: while it can be read, `hear` does not wait. `own_session` keeps a terminal's signals from the program,
-        and `patience` is how long a reply is waited for, in seconds; None is for ever."""
+        """`command_line` is a list of arguments. `idle` is called ten times a second while a reply or a result is waited for. `wake` is
+        a file descriptor: while it is readable, `hear` does not wait. `own_session` keeps a terminal's signals from the program.
+        `patience` is how long a reply is waited for, in seconds; None is for ever."""
         self.command_line, self.idle, self.wake, self.own_session, self.patience = list(command_line), idle, wake, own_session, patience
         self.process, self.ready, self.reported, self.past, self.troubles = None, None, [], {}, []
         self._opened_before = self._is_open = False
-        self._delivered = {}  # by resource: the last results that were handed on, by call and run
+        self._delivered = {}  # by resource: the last results that were delivered, by call and run
         self._results = self._arriving = {}  # results that were not taken yet, by call and run, oldest first
 
     # Starting and ending
 
     def start(self):
-        """Starts the program, and waits until it has opened the journal, has reported, and is ready. From the second opening on, the
-        results that the program before had recorded and could not tell any more are handed on, too. Raises Ended where the journal
-        cannot be opened."""
+        """Starts the program, and waits until it has opened the journal, has reported, and is ready. From the second opening on, results
+        that the previous program had recorded and could not send are delivered, too. Raises Ended if the journal cannot be opened."""
         self._begin()
         if self._is_open:
             self.reported, self._is_open = [], False
@@ -133,8 +132,8 @@ class Executor:
         return self.process is not None and self.process.poll() is None
 
     def leave(self):
-        """Ends the program in order, and gives its status: each action that runs ends within its timeout, and is recorded. What is
-        queued is dropped, as the next opening reports; monitors are kept in the journal."""
+        """Ends the program in order, and returns its status: each running action ends within its timeout, and is recorded. Queued
+        actions are dropped, as the next opening reports; monitors stay in the journal."""
         try:
             self.ask(op="leave")
             return self._end()
@@ -142,30 +141,30 @@ class Executor:
             return ended.status
 
     def close(self):
-        """Ends the program's input, and gives its status: the agents that run are killed, and the next opening reports their
-        actions as interrupted."""
+        """Closes the program's input, and returns its status: running agents are killed, and the next opening reports their actions as
+        interrupted."""
         self.process.stdin.close()
         self._write.clear()
         return self._end()
 
     def kill(self):
-        """Kills the program, and gives its status. Its agents live on; the next opening waits for them."""
+        """Kills the program, and returns its status. Its agents live on; the next opening waits for them."""
         self.process.kill()
         return self._end()
 
     # Commands
 
     def ask(self, *allowed, **command):
-        """The reply to a command, with the command's tag if it has one. Raises Refused, unless the reply's word of refusal is one of
-        those that are allowed."""
+        """The reply to a command, with the command's tag if it has one. Raises Refused, unless the word of the refusal is one of those
+        allowed."""
         reply = self.ask_all([command])[0]
         if reply.get("error") not in (None, *allowed):
             raise Refused(command, reply)
         return reply
 
     def ask_all(self, commands):
-        """The replies to these commands, in their order; a refusal is a reply. Up to 64 that arrive together are recorded by one
-        write, so this is faster than one after another. Raises Late and Ended; then some may be done all the same."""
+        """The replies to these commands, in their order; a refusal is a reply. Up to 64 that arrive together are recorded by one write,
+        so this is faster than one after another. Raises Late and Ended; some of the commands may then be carried out all the same."""
         first = self._sent
         for command in commands:
             self._send(command)
@@ -180,8 +179,8 @@ class Executor:
     # Results
 
     def hear(self, seconds=None):
-        """Reads what has come; where nothing has, and no result waits to be taken, waits so many seconds at most, None being for ever.
-        Whether something came or waits. Raises Ended once everything was read."""
+        """Reads what has come. If nothing has come, and no result waits to be taken, waits at most this many seconds; None is for ever.
+        Returns whether something came or waits. Raises Ended once everything was read."""
         came = self._exchange(0 if self._results else seconds)
         return came or bool(self._results)
 
@@ -192,12 +191,12 @@ class Executor:
         return taken
 
     def result(self, call, seconds=None):
-        """The result of a call, waited for so many seconds at most; of a recurring monitor the oldest that was not taken. Other
-        results stay for `take`. Raises Late, or Ended: then it comes with the next `start`."""
+        """The result of a call, waited for at most this many seconds; for a recurring monitor the oldest that was not taken. Other
+        results stay for `take`. Raises Late, or Ended: then the result comes with the next `start`."""
         return self._results.pop(self._await(lambda: next((key for key in self._results if key[0] == call), None), seconds))
 
     def fileno(self):
-        """The descriptor to wait for in a loop of the caller's own: while it can be read, `hear` finds something."""
+        """The descriptor to wait for in a loop of the caller's own: while it is readable, `hear` finds something."""
         return self.process.stdout.fileno()
 
     # The lines
@@ -217,10 +216,10 @@ class Executor:
         try:
             fcntl.fcntl(self.process.stdout, SET_PIPE_SIZE, PIPE_SIZE)
         except OSError:
-            pass  # the user has as much in pipes as the system allows: this one stays as it is
+            pass  # the user has reached the system's limit for pipes: this one keeps its size
 
     def _end(self):
-        """Reads all up to the end of the program, and gives its status."""
+        """Reads everything up to the end of the program, and returns its status."""
         try:
             while True:
                 self._exchange(None, wakes=False)
@@ -236,7 +235,7 @@ class Executor:
         self._sent += 1
 
     def _await(self, found, seconds):
-        """What `found` gives, as soon as it gives something."""
+        """The first result of `found` that is not empty."""
         until = None if seconds is None else time.monotonic() + seconds
         while (what := found()) is None:
             left = None if until is None else max(0, until - time.monotonic())
@@ -249,7 +248,7 @@ class Executor:
         return what
 
     def _exchange(self, seconds, wakes=True):
-        """Writes and reads as far as both are possible, after a wait of so many seconds at most. Whether something was read."""
+        """Writes and reads as far as both are possible, after a wait of at most this many seconds. Returns whether something was read."""
         poll, out = select.poll(), self.process.stdout.fileno()
         poll.register(out, select.POLLIN)
         if self._write:
@@ -274,7 +273,7 @@ class Executor:
         except BlockingIOError:
             pass
         except OSError:
-            self._write.clear()  # the program ends: what it has still written is read first
+            self._write.clear()  # the program ends: its remaining output is read first
 
     def _take_lines(self):
         *lines, rest = self._read.split(b"\n")
@@ -318,8 +317,8 @@ class Executor:
                 del delivered[next(iter(delivered))]
 
     def _missed(self):
-        """Results in the journal that no line has reported. At the first opening these are another program's, and are in `past` alone;
-        no line reports what was withdrawn."""
+        """Results in the journal that no line has reported. At the first opening these are of another program, and are only in `past`;
+        no line reports withdrawn actions."""
         missed = {}
         for name, results in self.past.items():
             for result in results:

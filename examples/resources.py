@@ -1,13 +1,13 @@
-"""The file of the resources that client.py keeps: what it may hold. What is wrong is named by its key. Times are in milliseconds.
-docs/resources.schema.json says the same as a JSON Schema, for an editor or another program.
+"""The file of the resources that client.py keeps, and what it may contain. A fault is named by its key. Times are in milliseconds.
+docs/resources.schema.json describes the same as a JSON Schema, for an editor or another program.
 
     {"resources": {
       "web": {
         "provider": "heartbeat", "type": "nginx",
-        "params": {"configfile": "/etc/nginx/nginx.conf"},                   none, if left out
-        "interval": 10000,                                                   of the monitor; as here, if left out
-        "timeouts": {"start": 20000, "stop": 20000, "monitor": 20000},       as here, if left out
-        "restarts": 5, "within": 600000}}}                                   as here, if left out
+        "params": {"configfile": "/etc/nginx/nginx.conf"},                   default: none
+        "interval": 10000,                                                   of the monitor; this is the default
+        "timeouts": {"start": 20000, "stop": 20000, "monitor": 20000},       these are the defaults
+        "restarts": 5, "within": 600000}}}                                   these are the defaults
 """
 import json
 import re
@@ -23,7 +23,7 @@ class Wrong(Exception):
 
 
 class Wanted(NamedTuple):
-    """What the file wants of a resource. It is restarted `restarts` times in `within` milliseconds at most."""
+    """What the file wants of a resource. It is restarted at most `restarts` times in `within` milliseconds."""
 
     provider: str
     type: str
@@ -50,7 +50,7 @@ def is_name(value, more=""):
 
 
 def check_object(key, value, needed=(), others=None):
-    """An object that has the keys that are needed, and beside them these others alone; any, where none are given."""
+    """An object that has the required keys and otherwise only the optional ones; any keys, if none are given."""
     if not isinstance(value, dict):
         wrong(key, "an object", value)
     for name in needed:
@@ -98,7 +98,7 @@ def check_resource(name, value):
 
 
 def without_twins(pairs):
-    """An object, none of whose keys occurs twice."""
+    """An object without repeated keys."""
     found = {}
     for name, value in pairs:
         if name in found:
@@ -108,7 +108,7 @@ def without_twins(pairs):
 
 
 def read(path):
-    """What the file wants, by resource. Raises Wrong, and OSError where it cannot be read."""
+    """What the file wants, by resource. Raises Wrong, and OSError if the file cannot be read."""
     with open(path, encoding="utf-8") as file:
         try:
             found = json.load(file, object_pairs_hook=without_twins)

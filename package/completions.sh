@@ -1,23 +1,23 @@
 #!/usr/bin/env bash
-# Prints the completions of the program's words for a shell. Its subcommands and options, and what is said of each, are read from its
-# own help, so there is one table of them. The ids of resources are asked of the program while a line is completed.
+# Prints the completions of the program's arguments for a shell. Its subcommands, its options and their descriptions are read from its own
+# help, so that there is only one table of them. The ids of resources are asked of the program while a line is completed.
 # Use: completions.sh PROGRAM bash|zsh|fish
 set -euo pipefail
 program=$1
 shell=$2
 
-# Each subcommand, a line each: its name, and what it does, after a tab.
+# Prints each subcommand on a line: its name and its description, separated by a tab.
 subcommands() {
     "$program" --help | awk '/^Commands:/ { on = 1; next } /^$/ { on = 0 } on && $1 != "help" {
         name = $1; sub(/^ *[^ ]+ +/, ""); print name "\t" $0 }'
 }
 
-# The names of the subcommands, in a line.
+# Prints the names of the subcommands on one line.
 names() {
     subcommands | cut -f 1 | tr '\n' ' '
 }
 
-# Each option of a subcommand, a line each: its name, its value or a dash, and what it does, a tab between them.
+# Prints each option of a subcommand on a line: its name, its value or a dash, and its description, separated by tabs.
 options() {
     "$program" "$1" --help | awk '/^Options:/ { on = 1; next } /^$/ { on = 0 } on && /^ *(-., )?--/ {
         sub(/^ *(-., )?/, ""); name = $1; value = $2 ~ /^</ ? $2 : "-"; sub(/^[^ ]+( <[^>]*>)? */, "")
@@ -29,8 +29,8 @@ takes_id() {
     [ "$1" = status ] || [ "$1" = log ]
 }
 
-# A function of the shell that prints the ids of the resources of the journal that the words name, or of the one that is looked at where
-# they name none. What is done here is the same in each shell: the program is asked with that place alone, and no function of its name.
+# Prints a function of the shell that prints the ids of the resources of the journal that the arguments name, or else of the default
+# journal. The function does the same in each shell: it calls the program with only that directory, and calls no shell function of its name.
 # shellcheck disable=SC2016 # the shell that completes expands it
 ids_of='command ocfexec show "${place[@]}" 2>/dev/null | sed -n "1s/.*\"resources\":\[\([^]]*\)\].*/\1/p" | tr -d "\"" | tr "," "\n"'
 
@@ -78,12 +78,12 @@ in_bash() {
     echo "complete -F _ocfexec ocfexec"
 }
 
-# A text between the quotes of zsh or fish.
+# Prints a text between the quotes of zsh or fish.
 quoted() {
     printf '%s' "$1" | sed "s/'/'\\\\''/g"
 }
 
-# The same between the brackets of zsh's _arguments, and as one of zsh's _describe.
+# Prints the same between the brackets of zsh's _arguments, and as one of zsh's _describe.
 in_brackets() {
     quoted "$1" | sed 's/\[/\\[/g; s/\]/\\]/g; s/:/\\:/g'
 }
@@ -134,7 +134,7 @@ in_zsh() {
 in_fish() {
     local name option value help seen
     echo "function __ocfexec_ids"
-    # (fish says itself that it knows no such command)
+    # (fish itself reports that it knows no such command)
     echo "    command -q ocfexec; or return"
     echo "    set -l place"
     echo "    set -l words (commandline -opc)"

@@ -1,9 +1,9 @@
 #!/usr/bin/env bash
-# Builds a Debian package of the programs that the gate proved and built: out/gate says at which commit it passed, and the
-# programs' sums. It refuses other programs. In the tree of a source package (source.sh), of those that debian/rules proved and built.
-# Symbols are left out where strip is there: no instruction differs. It needs dpkg-deb; a run as root or not gives the same package.
-# The package's version is the program's and the number of commits up to the one that it is built from, so that a later commit is an
-# upgrade. Use: deb.sh [FOLDER], where the package is put
+# Builds a Debian package of the programs that the gate proved and built: out/gate has the commit at which it passed, and the sums of the
+# programs. It refuses other programs. In the tree of a source package (source.sh) it packs the programs that debian/rules proved and built.
+# Symbols are stripped if strip is installed: no instruction differs. It needs dpkg-deb, and makes the same package as root or not. The
+# package's version is the program's version and the number of commits up to the one that it is built from, so that a later commit is an
+# upgrade. Use: deb.sh [DIRECTORY], where the package is put
 set -euo pipefail
 cd "$(dirname "$0")/.."
 into=${1:-.}
@@ -49,7 +49,7 @@ install -m 644 examples/ocfexec.py examples/resources.py "$root/usr/libexec/ocfe
 install -m 644 README.md "$doc"
 install -m 644 docs/GUIDE.md docs/FORMAT.md docs/protocol.schema.json docs/resources.schema.json docs/CLUSTER.md "$doc/docs"
 cp -R examples/*.sh examples/*.py examples/*.jsonl examples/*.service examples/*.socket examples/resource.d examples/cluster "$doc/examples"
-# the units of this package: its own paths, and for the client's executor options from a file that an administrator keeps
+# the units of this package: with its own paths, and the executor's options of the client from a file that an administrator keeps
 mkdir -p "$root/lib/systemd/system" "$root/etc/default" "$root/etc/ocfexec"
 for unit in examples/*.service examples/*.socket; do
     sed -e 's#/usr/local/share/doc/ocfexec/#/usr/libexec/ocfexec/#' -e 's#/usr/local/bin/#/usr/bin/#' "$unit" \
@@ -58,7 +58,7 @@ done
 sed -i -e 's#^\[Service\]#&\nEnvironmentFile=/etc/default/ocfexec#' -e '/^ .*serve --journal/s#$# $OCFEXEC_OPTIONS#' \
     "$root/lib/systemd/system/ocfexec.service"
 cat > "$root/etc/default/ocfexec" << 'OPTIONS'
-# More options of ocfexec serve in ocfexec.service, as --tidy-at 0. See ocfexec(8).
+# Further options of ocfexec serve in ocfexec.service, such as --tidy-at 0. See ocfexec(8).
 OCFEXEC_OPTIONS=
 OPTIONS
 chmod 644 "$root"/lib/systemd/system/* "$root/etc/default/ocfexec"
@@ -77,7 +77,7 @@ printf '%s\n' "# a removal ends the unit by a signal that leaves services runnin
 mkdir "$root/DEBIAN" && install -m 755 package/postinst package/prerm package/postrm "$root/DEBIAN"
 echo /etc/default/ocfexec > "$root/DEBIAN/conffiles"
 (cd "$root" && find . -path ./DEBIAN -prune -o -type f -printf '%P\0' | sort -z | xargs -0 md5sum) > "$root/DEBIAN/md5sums"
-# the fields of the package, and those that it has from its source; what the programs are linked with is the C library alone
+# the fields of the package, and those from its source; the programs are linked only with the C library
 {
     awk '!length { exit } /^(Maintainer|Section|Priority):/' "$debian/control"
     awk -v version="$version" -v size="$(du -sk "$root" | cut -f 1)" '

@@ -1,7 +1,7 @@
 #!/usr/bin/env bash
-# Makes a release: writes its version where the program, its check and the manual page have it, and commits that with the tag vVERSION. It
-# is three numbers, above those of each release before. So `--version` counts releases, and the version of a package also commits: a commit
-# can't hold its own name, and a constant that changed with each one would have the program proved anew each time.
+# Makes a release: writes its version into the program, the program's check and the manual page, and commits that with the tag vVERSION. A
+# version is three numbers, and higher than each earlier release. So `--version` counts releases, and the version of a package also counts
+# commits: a commit cannot contain its own hash, and a constant that changed with each commit would have the program proved anew each time.
 # Use: release.sh VERSION
 set -euo pipefail
 cd "$(dirname "$0")/.."

@@ -1,6 +1,6 @@
 #!/usr/bin/env bash
-# Builds a Debian source package of a commit: its tree, with package/debian as debian/, and a version that counts commits as that of
-# package/deb.sh. `dpkg-buildpackage` builds the package from it where `rt` is. It needs git and dpkg-dev.
+# Builds a Debian source package of a commit: its tree, with package/debian as debian/, and a version that counts commits, like that of
+# package/deb.sh. `dpkg-buildpackage` builds the package from it on a machine with `rt`. It needs git and dpkg-dev.
 # Use: source.sh [DIRECTORY [COMMIT]], with the directory where the package is put
 set -euo pipefail
 cd "$(dirname "$0")/.."

@@ -1,23 +1,24 @@
-# The version and the changelog of a package, by the commit that it is built from. Read by `. package/version.sh`, at the top of the
+# The version and the changelog of a package, from the commit that it is built from. Read by `. package/version.sh`, at the top of the
 # repository.
 # shellcheck shell=bash
 
-# The version of the program in a tree. Use: program_version COMMIT
+# Prints the version of the program in a tree. Use: program_version COMMIT
 program_version() {
     git show "$1:crates/exec_options/src/texts.rt" | sed -n 's/^pub const VERSION: &str = "\(.*\)";$/\1/p'
 }
 
-# The versions of the releases up to a commit. Use: releases COMMIT
+# Prints the versions of the releases up to a commit. Use: releases COMMIT
 releases() {
     git tag --list 'v[0-9]*' --merged "$1" | sed 's/^v//'
 }
 
-# Whether a version is above another one. Use: is_above VERSION OTHER
+# Whether a version is higher than another one. Use: is_above VERSION OTHER
 is_above() {
     [ "$1" != "$2" ] && [ "$(printf '%s\n' "$1" "$2" | sort --version-sort | tail -n 1)" = "$1" ]
 }
 
-# The version of the program in a tree, and the number of commits up to its commit, so that a later one is an upgrade. Use: version_of COMMIT
+# Prints the version of the program in a tree, and the number of commits up to its commit, so that a later one is an upgrade. Use:
+# version_of COMMIT
 version_of() {
     if [ "$(git rev-parse --is-shallow-repository)" = true ]; then
         echo "a version counts commits, and this clone has not all of them: git fetch --unshallow" >&2

@@ -1,6 +1,6 @@
 #!/usr/bin/env bash
-# The checks of the built programs: builds those that are missing, and then runs the checks, as tests/lib/runner.py says.
-# Use: check.sh [--fast] [--jobs N] [--limit SECONDS] [NAME..]; a NAME is that of a check, as serve, or of a folder, as cli
+# The checks of the built programs: builds the missing programs, and then runs the checks, as tests/lib/runner.py describes.
+# Use: check.sh [--fast] [--jobs N] [--limit SECONDS] [NAME..]; a NAME is that of a check, as serve, or of a directory, as cli
 set -u
 cd "$(dirname "$0")/.."
 export PROGRAM=$PWD/crates/ocfexec/out/ocfexec

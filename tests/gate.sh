@@ -1,12 +1,12 @@
 #!/usr/bin/env bash
-# The gate, `rt ci`, then the wrong bodies whose stamps are missing or old, and then the checks of the programs that it has just built.
-# The last line counts all three.
+# The gate: `rt ci`, then the wrong bodies whose stamps are missing or old, and then the checks of the programs that it has just built. The
+# last line counts all three.
 set -u
 cd "$(dirname "$0")/.."
 said=$(mktemp)
 trap 'rm -f "$said"' EXIT
 
-# The counts of the last line of what was said. Use: read -r PASSED FAILED < <(counts)
+# The counts in the last line of the output. Use: read -r PASSED FAILED < <(counts)
 counts() {
     tail -n 1 "$said" | sed -n 's/^\([0-9]*\) passed, \([0-9]*\) failed$/\1 \2/p' | grep . || echo 0 1
 }
@@ -19,7 +19,7 @@ rm -f crates/ocfexec/out/gate
 mutants/stamps.py check 2>&1 | tee "$said"
 status=${PIPESTATUS[0]}
 read -r refused missed < <(counts)
-# what a package is built from: the commit, where nothing differs from it but the stamps, and the programs' sums
+# what a package is built from: the commit, if nothing but the stamps differs from it, and the programs' sums
 if [ "$status" -eq 0 ] && [ -z "$(git status --porcelain -- ':!mutants/tried' 2> /dev/null || echo none)" ]; then
     { git rev-parse HEAD && sha256sum crates/ocfexec/out/ocfexec crates/ocf_agents/out/ocf_agents; } > "$said" &&
         cp "$said" crates/ocfexec/out/gate

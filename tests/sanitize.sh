@@ -1,7 +1,7 @@
 #!/usr/bin/env bash
-# Builds the program once more, from what its check keeps, with AddressSanitizer in it, and refuses each growth of memory of it
-# (tests/crash/growths.py): no access to memory that is not there or was given back, nothing given back twice, and at the end nothing left.
-# Use: sanitize.sh, with WORK in the environment for a folder that is kept; it needs a C compiler with AddressSanitizer's library
+# Builds the program once more, from what its check keeps, with AddressSanitizer, and refuses each growth of memory
+# (tests/crash/growths.py): there is no access to unallocated or freed memory, no double free, and no leak at the end.
+# Use: sanitize.sh, with WORK in the environment for a directory that is kept; it needs a C compiler with AddressSanitizer's library
 set -eu
 top=$(cd "$(dirname "$0")/.." && pwd)
 kit=$(dirname "$(rt doc)")

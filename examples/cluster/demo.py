@@ -1,4 +1,4 @@
-"""The demonstration: see README.md. Use: demo.py PROGRAM FOLDER yes|no (namespaces)"""
+"""The demonstration: see README.md. Use: demo.py PROGRAM DIRECTORY yes|no (namespaces)"""
 import signal
 import sys
 import threading
@@ -7,7 +7,7 @@ import time
 from lab import Lab, os, waits
 
 SERVICES = {"web": ["n1", "n2", "n3"], "db": ["n2", "n3", "n1"], "mail": ["n3", "n1", "n2"]}
-BOUND = 45  # seconds in which every service has to be up again
+BOUND = 45  # seconds within which every service has to be up again
 
 
 def is_up(lab):
@@ -15,7 +15,7 @@ def is_up(lab):
 
 
 def row(lab, second, happened):
-    """A line of the timeline: what is up on each node."""
+    """A line of the timeline: the services that are up on each node."""
     cells = []
     for name, node in lab.nodes.items():
         here = " ".join(service for service in SERVICES for place, _ in lab.up.get(service, []) if place == name)
@@ -47,7 +47,7 @@ class Timeline:
 
 
 def settles(lab, seconds=3):
-    """Waits until all is up, and looks at it for a while."""
+    """Waits until all services are up, and watches them for a while."""
     time.sleep(1)
     waits("every service is up again", lambda: is_up(lab), BOUND)
     time.sleep(seconds)

@@ -1,6 +1,6 @@
 #!/bin/sh
-# Shows a cluster of three nodes on this machine while parts of it are killed: see README.md. It wants etcd (Debian:
-# etcd-server), and ends by itself after about two minutes; all that it starts ends with it.
+# Shows a cluster of three nodes on this machine while parts of it are killed: see README.md. It needs etcd (Debian: etcd-server), and ends
+# by itself after about two minutes, with everything that it started.
 # Use: examples/cluster/demo.sh [PROGRAM], after `make test` or `make install`
 set -eu
 here=$(dirname "$(realpath "$0")")

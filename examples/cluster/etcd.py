@@ -1,4 +1,4 @@
-"""What the manager needs of etcd, by its JSON gateway: one view of all keys, transactions, leases."""
+"""The part of etcd that the manager needs, through its JSON gateway: one view of all keys, transactions, leases."""
 import base64
 import http.client
 import json
@@ -8,7 +8,7 @@ from urllib.parse import urlsplit
 
 
 class Unreachable(Exception):
-    """No member answered in time. What was asked may have been done all the same."""
+    """No member answered in time. The request may have been carried out all the same."""
 
 
 class Item(NamedTuple):
@@ -43,18 +43,18 @@ def delete(key):
 
 
 def now():
-    """The monotonic clock that goes on while the machine sleeps, as a lease's time does."""
+    """The monotonic clock that also counts while the machine sleeps, as the time of a lease does."""
     return time.clock_gettime(time.CLOCK_BOOTTIME)
 
 
 class Etcd:
     def __init__(self, urls, seconds=1.5):
         self.members = [urlsplit(url).netloc for url in urls]
-        self.seconds = seconds  # that a call takes at most, over all members
-        self.until = float("inf")  # when no call may be waited for any more
+        self.seconds = seconds  # seconds that a call takes at most, over all members
+        self.until = float("inf")  # the moment after which no call may be waited for
 
     def call(self, path, body):
-        """The answer of the first member that gives one; that one is asked first the next time."""
+        """The answer of the first member that gives one; the next call asks that member first."""
         end = min(now() + self.seconds, self.until)
         for member in list(self.members):
             left = min(end - now(), self.seconds / 2)
@@ -81,7 +81,7 @@ class Etcd:
         return {plain(kv["key"]): Item(plain(kv.get("value", "")), int(kv["mod_revision"])) for kv in found}
 
     def change(self, comparisons, changes):
-        """Makes the changes at once if the comparisons hold; whether they did."""
+        """Makes the changes in one transaction if the comparisons hold. Returns whether they did."""
         return self.call("/v3/kv/txn", {"compare": comparisons, "success": changes}).get("succeeded", False)
 
     def grant(self, seconds):
@@ -89,7 +89,7 @@ class Etcd:
         return int(self.call("/v3/lease/grant", {"TTL": str(seconds)})["ID"])
 
     def keep_alive(self, lease):
-        """Whether the lease was there, and so has its whole time again."""
+        """Renews the lease. Returns whether it still existed."""
         return int(self.call("/v3/lease/keepalive", {"ID": str(lease)})["result"].get("TTL", 0)) > 0
 
     def revoke(self, lease):

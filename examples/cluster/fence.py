@@ -1,5 +1,5 @@
 #!/usr/bin/env python3
-"""Asks the power switch at a socket to end a node, and ends with 0 when the switch has said that nothing of it is left.
+"""Asks the power switch at a socket to end a node, and ends with 0 when the switch has answered that nothing of it is left.
 Use: fence.py SOCKET NODE"""
 import socket
 import sys

@@ -1,7 +1,7 @@
-"""A cluster on one machine to break: members of etcd, nodes with a manager each, a power switch, and a watch on what is up.
+"""A cluster on one machine to break: members of etcd, nodes with a manager each, a power switch, and a watch for services that are up.
 
-With namespaces a node is a namespace of processes and one of the network, on a bridge, and its end is that of its first process:
-the system ends the others with it. Without, it is a process group, and all share the loopback."""
+With namespaces, a node is a namespace of processes and a network namespace, on a bridge; it ends with its first process, as the system
+then ends the others. Without namespaces, a node is a process group, and all nodes share the loopback interface."""
 import json
 import os
 import signal
@@ -31,7 +31,7 @@ def waits(what, holds, seconds):
 
 
 def command_lines():
-    """The words of each process that is there."""
+    """The command line of each process."""
     for entry in os.scandir("/proc"):
         if entry.name.isdigit():
             try:
@@ -69,7 +69,7 @@ class Member:
 
 
 class Node:
-    """A machine: `process` is its first process, or the one that waits for that."""
+    """A machine: `process` is its first process, or the process that waits for that one."""
 
     def __init__(self, name, number):
         self.name, self.address, self.process, self.boots, self.link = name, f"10.77.0.{number}", None, 0, None
@@ -83,7 +83,7 @@ class Lab:
         (self.folder / "up").mkdir()
         host = HUB if namespaces else "127.0.0.1"
         if namespaces:
-            # an address of its own: else it has that of a port, and another one when that port is gone
+            # an address of its own: otherwise it has that of a port, and another one when that port is gone
             hub = "link add hub address 02:00:00:00:00:01 type bridge"
             for words in ("link set lo up", hub, f"address add {HUB}/24 dev hub", "link set hub up"):
                 subprocess.run(["ip", *words.split()], check=True)
@@ -102,7 +102,7 @@ class Lab:
         return ports
 
     def start(self, services):
-        """Starts all, with this table of placement: the nodes of each service."""
+        """Starts all members and nodes, with this table of placement: the nodes of each service."""
         for member in self.members:
             member.start()
         waits("etcd", self.answers, 30)
@@ -153,7 +153,7 @@ class Lab:
                 subprocess.run(["ip", "link", "set", node.link, "master", "hub", "up"], check=True)
 
     def first(self, node):
-        """The first process of a node's namespace, once it has begun."""
+        """The first process of a node's namespace, once it runs."""
         try:
             child = Path(f"/proc/{node.process.pid}/task/{node.process.pid}/children").read_text().split()
             return int(child[0]) if child and b"node.sh" in Path(f"/proc/{child[0]}/cmdline").read_bytes() else None
@@ -178,7 +178,7 @@ class Lab:
 
     @staticmethod
     def group(number):
-        """The processes of a group that are no zombies."""
+        """The processes of a group that are not zombies."""
         for pid, _ in command_lines():
             try:
                 fields = Path(f"/proc/{pid}/stat").read_text().rpartition(")")[2].split()
@@ -195,7 +195,7 @@ class Lab:
                 quiet("ip", "link", "set", self.nodes[name].link, state)
 
     def serve_switch(self):
-        """The power switch: it ends the node that a line names, and then says so."""
+        """The power switch: it ends the node that a line names, and then answers."""
         while True:
             asker, _ = self.switch.accept()
             with asker:
@@ -206,13 +206,13 @@ class Lab:
                     asker.sendall(b"off")
 
     def watch(self):
-        """Looks which services are up where, five times a second."""
+        """Looks five times a second which services are up on which nodes."""
         while not self.ended:
             found = {}
             for pid, words in command_lines():
                 if len(words) == 5 and words[1].endswith("/counted") and words[4] == str(self.folder / "up"):
                     found.setdefault(words[2], {})[pid] = words[3]
-            # what a shell of it forks has its words for a moment, too
+            # a child that its shell forks has the same command line for a moment
             found = {name: [(node, pid) for pid, node in pids.items() if parent(pid) not in pids] for name, pids in found.items()}
             for name, places in found.items():
                 if len(places) > 1:
@@ -228,12 +228,12 @@ class Lab:
         return [pid for pid, words in command_lines() if words[:2] == [self.program, "serve"] and words[3] == str(self.folder / node / "journal")]
 
     def counts(self):
-        """What the services themselves counted: the numbers of how many were up."""
+        """The counts of the services themselves: how many processes of each were up."""
         log = self.folder / "up" / "log"
         return [int(line.split()[3]) for line in log.read_text().splitlines()] if log.exists() else []
 
     def close(self):
-        """Ends all that was started here, by process id."""
+        """Ends everything that was started here, by process id."""
         with self.lock:
             self.ended = True
             for name in self.nodes:

@@ -1,18 +1,18 @@
 #!/usr/bin/env python3
-"""Manages the services of a cluster on one node: etcd holds what is wanted and who may run what, and ocfexec does it.
+"""Manages the services of a cluster on one node. etcd holds what is wanted and which node may run what; ocfexec runs it.
 
     manager.py --node n1 --etcd http://10.0.0.1:2379 --fence 'fence.py SOCKET' --record FILE \\
         ocfexec serve --journal /var/lib/ocfexec --via with-executor.sh --orphans 20000
 
 Keys of etcd:
-    /services/NAME  the table of placement, which a person writes: {"nodes": ["n1", "n2"], "provider": .., "type": ..,
-                    "params": {..}}; a service belongs on the first of its nodes that is there
-    /nodes/NODE     the node is there; goes with the lease of its manager
-    /active/NAME    the node that alone may run the service, until it gives it up or was fenced
-    /failed/NAME/NODE  it did not start there; goes by itself after a while
+    /services/NAME  the table of placement, which an administrator writes: {"nodes": ["n1", "n2"], "provider": .., "type": ..,
+                    "params": {..}}; a service belongs on the first of its nodes that is up
+    /nodes/NODE     the node is up; the key goes with the lease of its manager
+    /active/NAME    the only node that may run the service, until it gives the service up or was fenced
+    /failed/NAME/NODE  the service did not start there; the key goes by itself after a while
     /fencing/NODE   the node is being fenced, or asks for it, and may not join
 
-What runs here is known by the executor's journal alone, and is found out again whenever the manager or the executor starts.
+Only the executor's journal knows what runs here. It is read again whenever the manager or the executor starts.
 """
 import argparse
 import json
@@ -33,15 +33,15 @@ INTERVAL, TIMEOUT, FENCE_SECONDS, FAILED_SECONDS = 500, 10000, 20, 15
 
 
 class Lease:
-    """What keeps the node in the cluster. Its time counts from the moment when the last keep-alive that was answered was SENT:
-    etcd counts from when it came, which is later, so it is over here first."""
+    """The lease that keeps the node in the cluster. Its time counts from the moment when the last answered keep-alive was SENT. etcd
+    counts from its arrival, which is later, so the lease is over here first."""
 
     def __init__(self, etcd, seconds, reserve):
         self.etcd, self.seconds, self.reserve = etcd, seconds, reserve
         self.id, self.sent, self.tried = None, 0, 0
 
     def held(self):
-        """Whether services may run: for as long as they can still be stopped before the lease's time is over."""
+        """Whether services may run: as long as they can still be stopped before the lease ends."""
         return self.id is not None and now() < self.etcd.until
 
     def has(self, lease, sent):
@@ -49,7 +49,7 @@ class Lease:
         self.etcd.until = sent + self.seconds - self.reserve
 
     def take(self, node):
-        """Joins the cluster, unless the node is being fenced. An old key of the node goes over to the new lease."""
+        """Joins the cluster, unless the node is being fenced. An old key of the node moves to the new lease."""
         sent = now()
         lease = self.etcd.grant(self.seconds)
         if self.etcd.change([absent(f"/fencing/{node}")], [put(f"/nodes/{node}", "here", lease)]):
@@ -58,7 +58,7 @@ class Lease:
             self.etcd.revoke(lease)
 
     def keep(self):
-        """Sends a keep-alive where one is due."""
+        """Sends a keep-alive if one is due."""
         sent = now()
         if self.id is None or sent < self.tried + self.seconds / 8:
             return
@@ -75,8 +75,8 @@ class Lease:
 class Service:
     def __init__(self, name):
         self.name = name
-        self.state = "unknown"  # or "up", "down", "doubtful": perhaps half started, so stopped and probed before all else
-        self.task = None  # what is being done: a generator that asks for actions, and is sent their results
+        self.state = "unknown"  # or "up", "down", "doubtful": perhaps half started, and therefore stopped and probed before anything else
+        self.task = None  # its task: a generator that yields actions and is sent their results
         self.call = None  # the action that it waits for
 
 
@@ -86,7 +86,7 @@ class Manager:
         self.etcd = Etcd(options.etcd)
         self.lease = Lease(self.etcd, options.lease, options.reserve)
         self.record = Record(options.record)
-        # in this session, so that what ends the node by its process group ends the executor, too
+        # in this session, so that ending the node by its process group ends the executor, too
         self.executor = Executor(options.command_line, idle=self.lease.keep, own_session=False)
         self.services, self.view, self.seen = {}, {}, 0
         self.fresh, self.joined = True, False  # whether it has not tried to join yet, and whether it has a lease to lose
@@ -95,7 +95,7 @@ class Manager:
     def say(self, what):
         print(f"{time.time():.2f} {self.node}: {what}", file=sys.stderr, flush=True)
 
-    # What the view says
+    # The view of etcd
 
     def value(self, key):
         return self.view[key].value if key in self.view else None
@@ -104,7 +104,7 @@ class Manager:
         return json.loads(self.value(f"/services/{name}") or '{"nodes": []}')
 
     def place(self, name):
-        """Where the table wants the service: the first of its nodes that is there, and where it did not fail."""
+        """Where the table wants the service: on the first of its nodes that is up and where it did not fail."""
         there = (node for node in self.table(name)["nodes"] if f"/nodes/{node}" in self.view)
         return next((node for node in there if f"/failed/{name}/{node}" not in self.view), None)
 
@@ -114,7 +114,7 @@ class Manager:
     # An opening of the journal
 
     def open(self):
-        """Starts an executor, and takes over from its journal what this manager, or the one before it, has not seen."""
+        """Starts an executor, and takes over from its journal the results that this manager, or an earlier one, has not seen."""
         self.executor.start()
         self.record_results()
         for name, results in self.executor.past.items():
@@ -126,31 +126,31 @@ class Manager:
         self.record.new.clear()
 
     def record_results(self):
-        """Takes all results that have come into the record, before anything is done about them."""
+        """Writes all results that have come into the record, before anything is done about them."""
         for result in self.executor.take():
             self.record.add(result.pop("id"), result)
 
     def recovered(self, name):
-        """What the last action says. The report of the opening is sent once, so it is read from the record: the manager may
-        have been killed between the report and what it did about it."""
+        """The state after the last action. The report of the opening is sent once, so it is read from the record: the manager may have
+        been killed between the report and its reaction."""
         service, last = Service(name), self.record.last(name) or {"action": "monitor", "outcome": "done", "code": 0}
         action, outcome = last["action"], last["outcome"]
         if action == "start" and outcome == "dropped":
-            service.state = "down"  # it never began, and was asked of what was down: it is asked again if it's still wanted
+            service.state = "down"  # it never began, on a service that was down: it is requested again if it is still wanted
         elif action != "monitor" and (outcome != "done" or last["code"] != 0):
-            service.state = "doubtful"  # a stop that was dropped is asked again by this too
+            service.state = "doubtful"  # a dropped stop is requested again by this, too
         if outcome != "done":
             self.say(f"{name}: {action} was {outcome}, so it is {service.state}")
         return service
 
     def register(self, name):
-        """Registers a service of the table, with its parameters as they are there now, and the node's name."""
+        """Registers a service of the table, with its present parameters and the node's name."""
         table = self.table(name)
         params = {**table.get("params", {}), "node": self.node}
         self.executor.ask("exists", op="register", id=name, provider=table["provider"], type=table["type"], params=params)
         self.executor.ask(op="params", id=name, params=params)
 
-    # What is done to a service: each yields the actions that it asks for, and is sent their results
+    # The tasks of a service: each yields the actions that it requests, and is sent their results
 
     def find_out(self, service):
         code = (yield "monitor")["code"]
@@ -172,7 +172,7 @@ class Manager:
         self.etcd.change([], [put(f"/failed/{service.name}/{self.node}", str(code), lease)])
 
     def bring_down(self, service):
-        """Stops it, and believes that it is down when a probe says so; else the node asks to be fenced, and goes."""
+        """Stops it, and takes it as down when a probe says so; otherwise the node asks to be fenced, and leaves."""
         service.state = "doubtful"
         self.executor.ask("no-such-recurring", op="cancel", id=service.name, interval=INTERVAL)
         for _ in range(3):
@@ -185,7 +185,7 @@ class Manager:
         sys.exit(1)
 
     def choose(self, service):
-        """What is to be done to a service now, if anything. Without a lease everything is stopped."""
+        """The next task of a service, if any. Without a lease everything is stopped."""
         name, held = service.name, self.lease.held()
         mine, here = self.is_mine(name), self.place(name) == self.node
         if service.state == "doubtful" or (service.state == "up" and not (held and mine)):
@@ -201,7 +201,7 @@ class Manager:
         return None
 
     def give_up(self, service):
-        """Another node is to run it: it may do so as soon as the key is gone."""
+        """Another node has to run it, and may do so as soon as the key is gone."""
         if service.state != "down":
             yield from self.bring_down(service)
         key = f"/active/{service.name}"
@@ -209,16 +209,16 @@ class Manager:
         self.seen = 0
 
     def claim(self, name):
-        """One node alone gets the key, and only while it is a member."""
+        """Only one node gets the key, and only while it is a member."""
         mine = f"/nodes/{self.node}"
         self.etcd.change([absent(f"/active/{name}"), unchanged(mine, self.view[mine])], [put(f"/active/{name}", self.node)])
         self.seen = 0
 
-    # Nodes that are gone
+    # Lost nodes
 
     def fence_one(self):
-        """Marks a node that is gone and may still run something, and then runs the command that ends it. What it was active
-        for is free only when that command has said that it is done. Without a command nothing is taken over."""
+        """Marks a lost node that may still run something, and then runs the command that ends it. Its services are free only when that
+        command has reported success. Without a command nothing is taken over."""
         gone = {item.value for key, item in self.view.items() if key.startswith("/active/")}
         gone = sorted(node for node in gone if f"/nodes/{node}" not in self.view)
         for node in gone if self.fence else []:
@@ -250,8 +250,8 @@ class Manager:
     # The loop
 
     def look(self):
-        """Keeps the lease and reads the keys. A lease that was lost is taken again when all is stopped, and etcd is not waited
-        for before; a manager that has just started joins with what may run, since its node was not fenced."""
+        """Keeps the lease and reads the keys. A lost lease is renewed only when all services are stopped, and until then etcd is not
+        waited for. A manager that has just started joins with its running services, since its node was not fenced."""
         self.lease.keep()
         if not self.lease.held():
             if not self.fresh and any(service.state != "down" for service in self.services.values()):
@@ -279,16 +279,16 @@ class Manager:
             self.go_on(service)
 
     def go_on(self, service, result=None):
-        """Takes a service's task on: to the next action that it asks for, or to its end."""
+        """Runs a service's task up to the next action that it requests, or to its end."""
         try:
             action = service.task.send(result)
             limit = TIMEOUT if self.lease.held() else int(self.lease.reserve * 1000)
             service.call = self.executor.ask(op="exec", id=service.name, action=action, timeout=limit)["call"]
-        except (StopIteration, Unreachable):  # what could not be written to etcd is chosen again
+        except (StopIteration, Unreachable):  # what could not be written to etcd is tried again
             service.task = None
 
     def hear(self):
-        """Takes what has ended to the services that it belongs to."""
+        """Passes the results that have come to their services."""
         self.executor.hear(0.05)
         self.record_results()
         while self.record.new:
@@ -301,8 +301,8 @@ class Manager:
                 service.state = "doubtful"
 
     def manage(self):
-        """One run of the executor, until it ends. A lease that is lost ends it, since a stop would wait for what runs: the
-        next one has it as interrupted, and stops all."""
+        """One executor, until it ends. When the lease is lost the executor is ended, since a stop would wait for running actions: the
+        next one reports them as interrupted, and stops all."""
         self.open()
         while True:
             try:

@@ -1,6 +1,6 @@
 #!/bin/sh
-# The first process of a node: it sets up the node's network, where it has one of its own, and starts the manager again
-# whenever that ends. What is left of processes falls to it. Use: node.sh ADDRESS|- COMMAND..
+# The first process of a node. It sets up the node's network, if it has one of its own, and starts the manager again whenever that ends. It
+# adopts the orphaned processes. Use: node.sh ADDRESS|- COMMAND..
 address=$1
 shift
 if [ "$address" != - ]; then

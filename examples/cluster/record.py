@@ -1,12 +1,12 @@
-"""The record of all that the executor sent, as the manager keeps it."""
+"""The record of everything that the executor sent, as the manager keeps it."""
 import json
 
 
 class Record:
-    """All results that were seen, in a file: the manager's own memory, to be compared with the journal's."""
+    """All results that were seen, in a file: the manager's own memory, to be compared with the journal."""
 
     def __init__(self, path):
-        self.results, self.new = {}, []  # by resource and by call and run; those that were not looked at yet
+        self.results, self.new = {}, []  # by resource and by call and run; and the results that were not looked at yet
         self.file = open(path, "a+")
         self.file.seek(0)
         for line in self.file:
@@ -15,7 +15,7 @@ class Record:
                 self.keep(entry.pop("id"), entry)
 
     def keep(self, name, result):
-        """Whether it was not there yet."""
+        """Adds a result. Returns whether it is new."""
         key, known = (result["call"], result["run"]), self.results.setdefault(name, {})
         return key not in known and known.setdefault(key, result) is result
 
@@ -26,6 +26,6 @@ class Record:
             self.new.append((name, result))
 
     def last(self, name):
-        """The result of the last action that was no recurring monitor; calls are numbered as they were asked."""
+        """The result of the last action other than a recurring monitor; calls are numbered in the order of their requests."""
         asked = [result for result in self.results.get(name, {}).values() if result["interval"] == 0]
         return max(asked, key=lambda result: result["call"], default=None)

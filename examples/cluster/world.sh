@@ -1,5 +1,5 @@
-# Read by `. world.sh`: runs a program in namespaces of its own, where they can be had, and tells it which way by its last
-# word, `yes` or `no`. What runs there can reach nothing else, and ends with the program. Use: in_world COMMAND..
+# Read by `. world.sh`: runs a program in namespaces of its own, if they are available, and appends `yes` or `no` to its arguments
+# accordingly. What runs there can reach nothing else, and ends with the program. Use: in_world COMMAND..
 # shellcheck shell=sh
 export PYTHONDONTWRITEBYTECODE=1
 world="unshare --net --pid --fork --kill-child --mount-proc"

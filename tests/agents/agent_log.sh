@@ -1,7 +1,7 @@
 #!/bin/sh
-# What agents write: appended to the file of --log, told to standard error by -, and lost without either; a file that cannot be
-# opened, and a named pipe, is refused before the journal is opened; and what an agent leaves in the background goes on writing behind
-# the executor. The lines of a begin and of an end, which tests/agents/logs.py has, are left out here.
+# The output of agents: appended to the file of --log, written to standard error by -, and lost without either. A file that cannot be
+# opened, and a named pipe, are refused before the journal is opened. A process that an agent leaves in the background goes on writing after
+# the executor has ended. The lines of a begin and of an end, which tests/agents/logs.py checks, are left out here.
 # Use: agent_log.sh PROGRAM
 set -u
 . "$(dirname "$0")/../lib/common.sh" "$@"
@@ -15,7 +15,7 @@ exit 5
 AGENT
 chmod +x "$here/root/resource.d/test/Talker"
 
-# One start, drained, by a program that is given these words behind a command. Use: starts_by COMMAND.. run WORD..
+# One start, drained, by a program that is given these arguments after a command. Use: starts_by COMMAND.. run WORD..
 starts_by() {
     status=0
     printf '%s\n' "{\"op\":\"register\",\"id\":\"r1\",\"provider\":\"test\",\"type\":\"Talker\",\"params\":{\"go\":\"$here/go\"}}" \
@@ -27,18 +27,18 @@ starts() {
     starts_by timeout 20 "$program" run "$@" 2> "$here/err"
 }
 
-# What agents themselves wrote to a file. Use: words FILE
+# The agents' own output in a file. Use: words FILE
 words() {
     sed '/^r1: [0-9TZ:.-]* \(call\|run\) [0-9]* /d' "$1"
 }
 
-# without it all is lost
+# without --log the output is lost
 starts --memory
 same "without --log, status" 0 "$status"
 same "without --log, standard error" "" "$(cat "$here/err")"
 same "without --log, the notice" "start done 5 OCF_ERR_INSTALLED" "$(notices "$here/out")"
 
-# to a file: it is made, for its owner alone, and appended to
+# to a file: it is created, for its owner only, and appended to
 printf 'start of r1\nstart fails: no such device\n' > "$here/wanted"
 starts --memory --log "$here/log"
 words "$here/log" > "$here/found"
@@ -57,7 +57,7 @@ words "$here/err" > "$here/found"
 is_wanted "standard error" "$here/found"
 same "with --log -, the notice" "start done 5 OCF_ERR_INSTALLED" "$(notices "$here/out")"
 
-# a file that is not opened, and a named pipe, which would wait for a reader: no journal is made
+# a file that cannot be opened, and a named pipe, which would wait for a reader: no journal is made
 mkfifo "$here/pipe"
 for log in "$here/none/log" "$here/root" "$here/pipe"; do
     starts --journal "$here/journal" --log "$log"
@@ -74,12 +74,12 @@ done
 same "--log $here/pipe, why" "$here/pipe: a named pipe, whose reader may go; give a file, or - for standard error" \
     "$(sed -n 2p "$here/err")"
 
-# closed standard streams take nothing of the log
+# closed standard streams get nothing of the log
 starts --memory --log "$here/alone" 2>&-
 "$program" run --memory --root "$here/root" --log "$here/alone" < /dev/null >&- 2>&- || true
 same "with a closed output, the log" 2 "$(words "$here/alone" | wc -l)"
 
-# what is left in the background goes on writing once the executor has ended
+# a background process goes on writing once the executor has ended
 rm "$here/log"
 printf '%s\n' "{\"op\":\"register\",\"id\":\"r1\",\"provider\":\"test\",\"type\":\"Talker\",\"params\":{\"go\":\"$here/go\"}}" \
     '{"op":"exec","id":"r1","action":"stop"}' '{"op":"drain"}' \
@@ -91,7 +91,7 @@ for _ in $(seq 100); do
 done
 same "what is left behind" "left behind: 0" "$(tail -n 1 "$here/log")"
 
-# a show starts nothing, and so opens no log
+# show starts nothing, and so opens no log
 "$program" show --memory --log "$here/shown" > "$here/out" 2> "$here/err"
 [ ! -e "$here/shown" ] || differs "the log of a show" "none" "$(ls -l "$here/shown")"
 finish "where agents write"

@@ -1,7 +1,7 @@
 #!/usr/bin/env bash
-# Runs `PROGRAM` over real agents, which are small scripts, and compares every reply: each exit code, a signal and a timeout
-# of one agent; two agents that wait for each other; metadata of each length and end; agents that cannot be started; what an
-# agent inherits; and 256 agents at once, in at most 40 MB and with nothing left behind.
+# Runs `PROGRAM` with real agents, which are small scripts, and compares every reply: each exit code, a signal and a timeout of one agent;
+# two agents that wait for each other; metadata of each length and end; agents that cannot be started; the inherited environment of an
+# agent; and 256 agents at once, in at most 40 MB and with nothing left behind.
 # Use: agents.sh PROGRAM
 set -u
 . "$(dirname "$0")/../lib/common.sh" "$@"
@@ -86,7 +86,7 @@ environment() {
         "OCF_ROOT=$1" PATH=/usr/sbin:/usr/bin:/sbin:/bin
 }
 
-# Metadata of the greatest length, of one byte more, and of an agent that fails; and the environment that they are asked for in.
+# Metadata of the greatest length, of one byte more, and of an agent that fails; and the environment of the call for metadata.
 metadata() {
     for agent in Long Longer; do
         echo 'n=0; while [ $n -lt 4096 ]; do echo 123456789012345; n=$((n+1)); done' > "$agents/$agent"
@@ -120,8 +120,8 @@ metadata() {
     replied 'metadata of no agent'
 }
 
-# Metadata of an agent that does not end, of one that ends and leaves its output to another, and of one that closes its output
-# and goes on: each ends at its limit, and the agent is killed.
+# Metadata of an agent that does not end, of one that ends and leaves its output to another process, and of one that closes its output and
+# goes on: each ends at its limit, and the agent is killed.
 limited() {
     local began took
     echo 'echo $$ >> "$HERE/pids"; exec sleep 20' | sed "s,\$HERE,$here," > "$agents/Hangs"
@@ -143,7 +143,7 @@ limited() {
     kill "$(cat "$here/leaver")" 2> /dev/null || differs 'what an agent past its limit has started' 'alive' 'gone'
 }
 
-# A start and metadata through a program that writes what it is given.
+# A start and metadata through a program that prints its arguments.
 through() {
     {
         printf '{"op":"register","id":"r1","provider":"pacemaker","type":"Dummy"}\n'
@@ -163,8 +163,8 @@ through() {
         differs 'a start through cat' 'done with code 1' "$(cat "$here/out")"
 }
 
-# Agents that are run without a program, and cannot be: none is there, its folder is a file, it may not be run, it is a
-# folder, it has no first line, and the program that its first line names is not there.
+# Agents that cannot be run: there is none, its directory is a file, it may not be run, it is a directory, it has no first line, and the
+# program that its first line names is missing.
 refused() {
     printf '#!/bin/sh\nexit 0\n' > "$agents/Denied"
     chmod 644 "$agents/Denied"
@@ -194,7 +194,7 @@ refused() {
     is_wanted 'why agents cannot be started' "$here/err"
 }
 
-# An agent that ignores the signal to end is killed at its timeout, and what it started stays.
+# An agent that ignores the signal to end is killed at its timeout, and its service stays.
 stubborn() {
     printf 'trap "" TERM INT HUP\nsleep 60 & echo $! > "%s"\nwhile :; do :; done\n' "$here/left" > "$agents/Stubborn"
     { register r1 Stubborn; start r1 300; printf '{"op":"drain"}\n'; } > "$here/lines"
@@ -203,7 +203,7 @@ stubborn() {
     kill "$(cat "$here/left")" 2> /dev/null || differs 'what a killed agent has started' 'alive' 'gone'
 }
 
-# What an agent inherits, of a program that has a descriptor more, ignores SIGPIPE, blocks nothing and has a umask of 027.
+# The inheritance of an agent, from a program that has another descriptor, ignores SIGPIPE, blocks no signal and has a umask of 027.
 inherited() {
     cat > "$agents/Shows" <<'AGENT'
 descriptors=$(for n in /proc/$$/fd/*; do echo "${n##*/} $(readlink "$n")"; done | grep -v 'pipe:\|/Shows$\| $')

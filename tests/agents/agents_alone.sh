@@ -1,13 +1,13 @@
 #!/bin/sh
-# The agents of ocf_agents, called as an executor calls them: exit codes, what the state file then holds, and what is printed;
-# and then the same agent under ocfexec.
+# The agents of ocf_agents, called as by an executor: exit codes, the content of the state file, and the output; and then the same agent
+# under ocfexec.
 # Use: agents_alone.sh PROGRAM
 set -u
 . "$(dirname "$0")/../lib/common.sh" "$@"
 agents=${AGENTS:-$top/crates/ocf_agents/out/ocf_agents}
 state=$here/state
 
-# Calls the agents with an environment of these pairs alone. Use: calls WANTED_CODE PAIR.. -- WORD..
+# Calls the agents with an environment of only these pairs. Use: calls WANTED_CODE PAIR.. -- WORD..
 calls() {
     wanted=$1 pairs='' what=''
     shift
@@ -29,7 +29,7 @@ acts() {
     same "$1 $2: standard output" "" "$(cat "$here/out")"
 }
 
-# The state file holds this, or is not there. Use: holds TEXT, holds_nothing
+# The state file has this content, or does not exist. Use: holds TEXT, holds_nothing
 holds() {
     printf %s "$1" | cmp -s - "$state" || differs "the state file" "$1" "$(cat "$state" 2>&1)"
 }
@@ -88,7 +88,7 @@ done
 acts Stateful stop 0
 acts Stateful promote 7
 
-# What is refused, the first that holds
+# Refusals: the first that holds
 calls 2 OCF_RESOURCE_TYPE=Dummy OCF_RESKEY_state="$state" --
 calls 2 --
 calls 5 OCF_RESOURCE_TYPE=Foo OCF_RESKEY_state="$state" -- monitor

@@ -1,9 +1,9 @@
 #!/usr/bin/env python3
 # check: slow
-"""What ends with an action, with real processes. Wanted: behind a timeout, at the end of the input and after a signal the agent has ended
-with all its descendants, in whatever session they are, and with its background jobs; daemons, and services of earlier starts, live.
-The agent whose `start` is slow, and comes up late where only the agent is killed, stays down in `run` and in `serve`, after SIGTERM,
-and after its executor was killed.
+"""What ends with an action, with real processes. Wanted: after a timeout, at the end of the input and after a signal the agent has ended
+with all its descendants, in whatever session they are, and with its background jobs; daemons, and services of earlier starts, live on. An
+agent whose `start` is slow, and comes up late if only the agent is killed, stays down in `run` and in `serve`, after SIGTERM, and after its
+executor was killed.
 Use: endings.py PROGRAM"""
 import os
 import pwd
@@ -44,7 +44,7 @@ def can(*command):
     return shutil.which(command[0]) is not None and subprocess.run(command, capture_output=True, check=False).returncode == 0
 
 
-# What the sleeps of this run have behind the point, so that no other run finds them.
+# The sleeps of this run have these digits after the point, so that no other run finds them.
 MINE = f"{os.getpid():07}"
 
 
@@ -91,7 +91,7 @@ class Endings(helper.Check):
             return err.read()
 
     def timed_out(self, does, timeout=500, way="serve", names=("child",), **params):
-        """Lets a start time out that leaves processes under these names; gives their numbers once it was told."""
+        """Lets a start time out that leaves processes under these names; returns their numbers once the timeout was reported."""
         run = self.opened(way)
         run.tell(self.register(does, **params), helper.action("r1", "start", timeout=timeout))
         if way == "run":
@@ -106,7 +106,7 @@ class Endings(helper.Check):
         self.assertEqual([pid for pid in pids if helper.is_alive(pid)], [], f"all has ended when the notice comes: {self.said()}")
 
     def slow(self, way):
-        # the agent that comes up after the stop where it alone is killed
+        # the agent that comes up after the stop if only the agent is killed
         does = f"sh -c 'sleep 1.5; : > {self.up}/service'"
         run = self.opened(way)
         run.tell(self.register(does), helper.action("r1", "start", timeout=400), helper.action("r1", "stop"))
@@ -140,20 +140,20 @@ class Endings(helper.Check):
         self.ended(pids)
 
     def test_own_session(self):
-        """a child that made a session of its own ends with the agent that waits for it"""
+        """a child in a session of its own ends with the agent that waits for it"""
         _, pids = self.timed_out("setsid -w NOTE child; :")
         self.ended(pids)
 
     @unittest.skipUnless(os.getuid() == 0 and user() and can("su", "-s", "/bin/sh", user(), "-c", "true"), "run as root, with su")
     def test_su(self):
-        """what su started as another user ends on the timeout"""
+        """a process that su started as another user ends on the timeout"""
         _, pids = self.timed_out(f"su -s /bin/sh -c 'OCF_RESKEY_up={self.up} NOTE child' {user()}; :")
         self.assertNotEqual(os.stat(os.path.join(self.up, "child")).st_uid, 0, "another user's")
         self.ended(pids)
 
     @unittest.skipUnless(os.getuid() == 0 and user() and can("su", "-l", "-s", "/bin/sh", user(), "-c", "true"), "run as root, with su")
     def test_su_login(self):
-        """what su -l started, with another environment and in a session of its own, ends on the timeout"""
+        """a process that su -l started, with another environment and in a session of its own, ends on the timeout"""
         _, pids = self.timed_out(f"su -l -s /bin/sh -c 'OCF_RESKEY_up={self.up} NOTE child' {user()}; :")
         self.ended(pids)
 
@@ -170,13 +170,13 @@ class Endings(helper.Check):
         self.ended([int(pid) for pid in found])
 
     def test_daemon(self):
-        """a daemon, which made a session of its own and whose parent has ended, lives on"""
+        """a daemon, in a session of its own and with an ended parent, lives on"""
         _, pids = self.timed_out("(setsid NOTE child &) ; sleep 60")
         self.assertTrue(helper.is_alive(pids[0]), "the daemon lives")
         self.assertEqual(self.said(), "")
 
     def test_earlier_service(self):
-        """the service of an earlier start lives on where a monitor times out, also as a background job of that start"""
+        """the service of an earlier start lives on after a monitor times out, also as a background job of that start"""
         run = self.opened()
         run.tell(self.register("NOTE child & :", monitor="sh -c 'NOTE other; :'"), helper.action("r1", "start", timeout=5000))
         run.awaits(lambda value: helper.is_notice(value, action="start"))
@@ -188,7 +188,7 @@ class Endings(helper.Check):
         self.assertTrue(helper.is_alive(service), "the service lives")
 
     def test_other_resource(self):
-        """what another resource runs lives on"""
+        """processes of another resource live on"""
         run = self.opened()
         run.tell(self.register("NOTE second; :", name="r2"), helper.action("r2", "start", timeout=60000))
         second = self.awaits_pid("second")
@@ -199,7 +199,7 @@ class Endings(helper.Check):
         self.assertTrue(helper.is_alive(second), "the agent of the other resource runs on")
 
     def test_end_of_input(self):
-        """what an agent started ends with the run's input"""
+        """processes that an agent started end with the run's input"""
         run = self.opened()
         run.tell(self.register("NOTE child; :"), helper.action("r1", "start", timeout=60000))
         child = self.awaits_pid("child")
@@ -245,7 +245,7 @@ class Endings(helper.Check):
         self.assertEqual(told, 2, "for the start, and for the stop")
 
     def behind(self, mount):
-        """A run that serves behind a mount of its own, with a copy of the shell to run agents."""
+        """A serving run with a mount of its own, with a copy of the shell to run agents."""
         shell = self.place("sh")
         shutil.copy("/bin/sh", shell)
         os.makedirs(self.place("resource.d/test"), exist_ok=True)
@@ -262,13 +262,13 @@ class Endings(helper.Check):
 
     @unittest.skipUnless(os.getuid() == 0 and can("unshare", "-m", "true"), "run as root, with unshare")
     def test_no_shell(self):
-        """where there is no shell the agent itself is killed, and what it started is named"""
+        """if there is no shell, the agent itself is killed, and the processes that it started are named"""
         child = self.behind("mount --bind /dev/null /bin/sh")
         self.assertRegex(self.said(), rf"pid {child} \(\w+\), started by an action, is still alive after SIGKILL\n")
 
     @unittest.skipUnless(os.getuid() == 0 and can("unshare", "-m", "true"), "run as root, with unshare")
     def test_no_proc(self):
-        """where /proc lists nothing the agent itself is killed, and that what it started cannot be found is said"""
+        """if /proc lists nothing, the agent itself is killed, and a line says that the processes that it started cannot be found"""
         self.behind("mount -t tmpfs none /proc")
         self.assertIn("ocfexec: cannot find and stop all processes that a killed action started: ", self.said())
 

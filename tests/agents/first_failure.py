@@ -1,7 +1,7 @@
 #!/usr/bin/env python3
 # check: slow
-"""What an administrator wants to know at the first failure, by the program's own subcommands alone and within a minute each, with agents
-of Debian: why nginx did not start, which resource of forty is down, whether a start was interrupted, and what an agent does.
+"""The questions of an administrator at the first failure, answered by the program's own subcommands alone and within a minute each, with
+agents of Debian: why nginx did not start, which resource of forty is down, whether a start was interrupted, and what an agent does.
 Use: first_failure.py PROGRAM"""
 import json
 import os
@@ -33,7 +33,7 @@ class FirstFailure(helper.Check):
         super().tearDown()
 
     def asked(self, *words):
-        """What the program says that looks at the journal of the environment, and its status."""
+        """The output of a program that reads the journal of the environment, and its status."""
         done = helper.run(*words, env={**os.environ, "OCFEXEC_JOURNAL": self.journal})
         return done.returncode, done.stdout.decode(), done.stderr.decode()
 
@@ -47,7 +47,7 @@ class FirstFailure(helper.Check):
 
     @unittest.skipUnless(shutil.which("nginx"), "wants nginx")
     def test_why(self):
-        """Why nginx with a broken configuration did not start: its agent gives no reason, and its log has what nginx said."""
+        """Why nginx with a broken configuration did not start: its agent gives no reason, and its log has the output of nginx."""
         broken = self.place("nginx.conf")
         with open(broken, "w", encoding="ascii") as file:
             file.write("events {}\nhttp { server { listen 127.0.0.1:1; lissten 2; } }\n")
@@ -84,7 +84,7 @@ class FirstFailure(helper.Check):
         self.assertEqual([line["id"] for line in states if line.get("state", "started") != "started"], ["r23"])
 
     def test_interrupted(self):
-        """Whether a start was interrupted, with what came after it."""
+        """Whether a start was interrupted, and what came after it."""
         run = self.heard("run", "--journal", self.journal, "--root", self.here)
         self.agent("Slow", "sleep 1\n")
         run.tell({"op": "register", "id": "slow", "provider": "test", "type": "Slow"}, helper.action("slow", "start"), {"op": "drain"})
@@ -100,7 +100,7 @@ class FirstFailure(helper.Check):
         self.assertIn("interrupted", out)
 
     def test_once(self):
-        """What an agent does that is run once."""
+        """What an agent does when it is run once."""
         state = "state=" + self.place("dummy")
         for action, code in (("monitor", 7), ("start", 0), ("monitor", 0), ("stop", 0), ("monitor", 7)):
             self.assertEqual(self.asked("once", "--meta-variables", "heartbeat:Dummy", action, state)[0], code, action)

@@ -1,7 +1,7 @@
 #!/usr/bin/env python3
-"""The logs of agents: with --logs DIR a file for each resource, opened anew for each action, and with --log one for all. Wanted: a line
-with the moment, the call, the run and the action before the agent's own words, and one with its end after them; a log that was renamed
-is left, and a new one made; one that cannot be opened or written is named once, and no action fails by it.
+"""The logs of agents: with --logs DIR a file for each resource, opened anew for each action, and with --log one file for all. Wanted: a
+line with the moment, the call, the run and the action before the agent's own output, and one with its end after it. A renamed log is left
+alone, and a new one is made. A log that cannot be opened or written is named once, and no action fails because of it.
 Use: logs.py PROGRAM"""
 import datetime
 import os
@@ -16,20 +16,20 @@ import unittest
 sys.path[0] += "/../lib"
 import helper  # noqa: E402
 
-# An agent that says what it is asked for, and then does what the parameter `does` says, in the shell.
+# An agent that prints its action, and then does what the parameter `does` says, in the shell.
 SAYS = """echo "$1 of $OCF_RESOURCE_INSTANCE"
 echo "$1 fails: no such device" >&2
 eval "${OCF_RESKEY_does:-:}"
 """
 MOMENT = r"(\d{4}-\d\d-\d\dT\d\d:\d\d:\d\d\.\d{3}Z) "
 OCF = "/usr/lib/ocf"
-# What a start of web that ends with 0 leaves in a log of all resources.
+# The lines of a start of web that ends with 0, in a log of all resources.
 OF_WEB = ("web: MOMENT call 1 begins as run 1: start, timeout 20000 ms\nstart of web\nstart fails: no such device\n"
           "web: MOMENT run 1 ended in N ms: OCF_SUCCESS (0)\n")
 
 
 def without_moments(text):
-    """Lines whose moment is MOMENT, and whose length of time but a timeout is N."""
+    """Lines with MOMENT for their moment, and N for each duration except a timeout."""
     return re.sub(r"(?<!timeout )\b\d+ ms", "N ms", re.sub(MOMENT, "MOMENT ", text))
 
 
@@ -52,7 +52,7 @@ class WithLogs(helper.Check):
             return log.read()
 
     def ends_with(self, done, **wanted):
-        """The run was well, and the notice of its action is as wanted."""
+        """The run ended well, and the notice of its action is as wanted."""
         self.assertEqual(done.returncode, 0, done.stderr)
         found = [value for value in helper.replies(done.stdout) if helper.is_notice(value)]
         self.assertEqual([{key: value[key] for key in wanted} for value in found], [wanted])
@@ -60,7 +60,7 @@ class WithLogs(helper.Check):
 
 class Logs(WithLogs):
     def does(self, does, *words, name="web", timeout=20000):
-        """A run of one start of an agent that does this, with its log in a directory if no other words are given."""
+        """A run with one start of an agent that does this; its log is in a directory if no other arguments are given."""
         words = words or ("--logs", self.logs)
         return helper.run("run", "--memory", "--root", self.here, *words, told=helper.lines(
             helper.register(name, "Says", does=does), helper.action(name, "start", timeout=timeout), {"op": "drain"}))
@@ -73,7 +73,7 @@ class Logs(WithLogs):
                          "MOMENT run 1 ended in N ms: OCF_ERR_CONFIGURED (6)\n")
 
     def test_moments(self):
-        """the moments of its lines are of now, in UTC, and the length of time is that of the action"""
+        """the moments of its lines are the present, in UTC, and the duration is that of the action"""
         before = datetime.datetime.now(datetime.timezone.utc)
         self.ends_with(self.does("sleep 0.3"), code=0)
         after = datetime.datetime.now(datetime.timezone.utc)
@@ -88,7 +88,7 @@ class Logs(WithLogs):
         self.assertLessEqual(took, (after - before).total_seconds() * 1000 + 1)
 
     def test_mode(self):
-        """a new log is its owner's alone"""
+        """a new log is readable only by its owner"""
         self.does("true")
         self.assertEqual(stat.S_IMODE(os.stat(os.path.join(self.logs, "web.log")).st_mode), 0o600)
 
@@ -102,7 +102,7 @@ class Logs(WithLogs):
             self.assertIn(f"start of {name}\n", self.read(f"{name}.log"))
 
     def test_appended(self):
-        """a log that is there is appended to"""
+        """an existing log is appended to"""
         self.does("exit 0")
         first = self.read()
         self.does("exit 1")
@@ -129,7 +129,7 @@ class Logs(WithLogs):
                          "MOMENT run 1 was not started: the agent's file is missing\n")
 
     def test_end_of_input(self):
-        """an agent that runs where the input ends was killed"""
+        """an agent that runs when the input ends was killed"""
         run = self.heard("serve", "--memory", "--root", self.here, "--logs", self.logs)
         run.tell(helper.register("web", "Says", does="exec sleep 60"), helper.action("web", "start"))
         self.awaits_log("start fails: no such device\n")
@@ -145,7 +145,7 @@ class Logs(WithLogs):
         self.fail(f"{name} has not {text!r} after {seconds} s: {os.listdir(self.logs)}")
 
     def test_rotated(self):
-        """a log that was renamed keeps the words of what runs, and a new one has the next action"""
+        """a renamed log gets the output of the running agent, and a new one has the next action"""
         run = self.heard("serve", "--memory", "--root", self.here, "--logs", self.logs)
         go = self.place("go")
         run.tell(helper.register("web", "Says", does=f"while [ ! -e {go} ]; do sleep 0.05; done; echo went on"),
@@ -163,7 +163,7 @@ class Logs(WithLogs):
             "MOMENT run 1 ended in N ms: OCF_SUCCESS (0)", "MOMENT call 2 begins as run 2: stop, timeout 20000 ms", "stop of web"])
 
     def test_daemon(self):
-        """a daemon that keeps its log goes on writing there after it was renamed and the executor has ended"""
+        """a daemon that keeps its log open goes on writing there after it was renamed and the executor has ended"""
         go, ready = self.place("go"), self.place("ready")
         self.ends_with(self.does(f"(while [ ! -e {go} ]; do sleep 0.05; done; echo daemon: $?; : > {ready}) &"), code=0)
         os.rename(os.path.join(self.logs, "web.log"), os.path.join(self.logs, "web.log.1"))
@@ -201,7 +201,7 @@ class Logs(WithLogs):
         self.names(done, f"{self.logs}/web.log: Permission denied")
 
     def test_no_file(self):
-        """a link and a named pipe in the place of a log are left alone, and the action is done"""
+        """a link and a named pipe in place of a log are left alone, and the action is done"""
         log, target = os.path.join(self.logs, "web.log"), self.place("target")
         for make in (lambda: os.symlink(target, log), lambda: os.mkfifo(log), lambda: os.mkdir(log)):
             make()
@@ -234,13 +234,13 @@ class Logs(WithLogs):
             self.assertEqual(without_moments(file.read()), OF_WEB)
 
     def test_standard_error(self):
-        """with --log - they stand on standard error"""
+        """with --log - the lines are on standard error"""
         done = self.does("exit 0", "--log", "-")
         self.ends_with(done, code=0)
         self.assertEqual(without_moments(done.stderr.decode()), OF_WEB)
 
     def test_both(self):
-        """with --log and --logs the words are in the logs of the directory"""
+        """with --log and --logs the output is in the logs of the directory"""
         log = self.place("log")
         self.ends_with(self.does("exit 0", "--log", log, "--logs", self.logs), code=0)
         self.assertIn("start of web\n", self.read())

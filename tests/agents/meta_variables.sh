@@ -1,6 +1,6 @@
 #!/bin/sh
-# What agents see of Pacemaker's own variables: nothing without --meta-variables; with it the interval, the name and the
-# timeout of their own action; and a parameter of one of these names wins.
+# Pacemaker's own variables in the environment of agents: none without --meta-variables; with it the interval, the name and the timeout of
+# their own action; and a parameter of one of these names wins.
 # Use: meta_variables.sh PROGRAM
 set -u
 . "$(dirname "$0")/../lib/common.sh" "$@"
@@ -11,7 +11,7 @@ env | LC_ALL=C sort | grep -v -e '^PWD=' -e '^SHLVL=' -e '^_=' > "$OCF_RESKEY_to
 AGENT
 chmod +x "$here/root/resource.d/test/Teller"
 
-# A start and a monitor that recurs, each by itself. Use: lives PARAMETERS WORD..
+# A start and a recurring monitor, each alone. Use: lives PARAMETERS WORD..
 lives() {
     more=$1
     shift
@@ -23,7 +23,7 @@ lives() {
         | "$program" run --memory --root "$here/root" "$@" > "$here/out" 2> "$here/err" || differs "status" 0 $?
 }
 
-# What an agent is to see beside what each has. Use: sees ACTION LEVEL [VARIABLE..]
+# The variables that an agent has to see besides those of each agent. Use: sees ACTION LEVEL [VARIABLE..]
 sees() {
     action=$1 level=$2
     shift 2

@@ -1,8 +1,8 @@
 #!/usr/bin/env python3
-"""Metadata: while a run serves, turns go on and the reply comes before those of the lines after it; a limit ends an agent with all that
-it started, and so do a client that goes away and a journal that is removed. A run of commands alone waits for its agent, without a limit
-where the line names none. It prints the bytes of metadata behind a line with their length, where one that serves has one line with their
-text; how a question without an answer ended both say alike.
+"""Metadata. In serve, turns go on and the reply comes before those of later lines. A limit ends an agent with everything that it started,
+and so do a client that goes away and a journal that is removed. In run, the program waits for its agent, without a limit if the line has
+none. Run prints the bytes of metadata after a line with their length, and serve one line with their text; both report a question without an
+answer in the same way.
 Use: metadata.py PROGRAM"""
 import json
 import shutil
@@ -15,7 +15,7 @@ import helper  # noqa: E402
 import schema  # noqa: E402
 from helper import PROGRAM, action  # noqa: E402
 
-# An agent that gives its metadata after n seconds, n being in the file `takes`; the file `pids` has its number and its child's.
+# An agent that prints its metadata after n seconds, n being in the file `takes`; the file `pids` has its number and its child's.
 SLOW = """here={here}
 sleep "$(cat "$here/takes")" & echo $$ $! > "$here/pids.new"
 mv "$here/pids.new" "$here/pids"
@@ -51,14 +51,14 @@ class Metadata(helper.Check):
         return self.heard(*words, "--root", self.here)
 
     def monitored(self, word="serve", interval=100):
-        # a run in which a monitor is due each n milliseconds, and a resource more is registered
+        # a run in which a monitor is due each n milliseconds, and another resource is registered
         run = self.heard_with(word, "--memory")
         run.tell(helper.register("m", "Works"), helper.register("s", "Works"), {"op": "recur", "id": "m", "interval": interval})
         run.awaits(lambda value: "key" in value)
         return run
 
     def pids(self):
-        # the numbers of the agent that is asked and of its child
+        # the numbers of the agent that runs and of its child
         return self.numbers_in(self.place("pids"))
 
     def gone(self, pids):
@@ -70,14 +70,14 @@ class Metadata(helper.Check):
             return sum(began < at < ended and '"monitor"' in line for at, line in run.lines)
 
     def after(self, run, began, least, most, holds, seconds=helper.PATIENCE):
-        # the moment of a line that comes so many seconds after another moment
+        # the moment of a line that comes this many seconds after another moment
         at, value = run.awaits(holds, seconds)
         self.assertGreaterEqual(at - began, least, f"seconds to {value}")
         self.took_less(most, at - began, f"waiting for {value}")
         return at
 
     def replies(self, run):
-        # what came but for notices and replies to commands
+        # all lines that came except notices and replies to commands
         return [value for value in run.values() if value.keys() & {"metadata", "resources"}]
 
     def test_turns(self):
@@ -134,7 +134,7 @@ class Metadata(helper.Check):
         self.gone(pids)
 
     def test_two(self):
-        """two questions one after the other are answered in that order, also where the input ends behind them"""
+        """two questions one after the other are answered in that order, also if the input ends after them"""
         self.takes(1)
         began = time.monotonic()
         done = helper.run("serve", "--memory", "--root", self.here, told=helper.lines(meta("Slow"), meta("Other"), LIST))
@@ -145,7 +145,7 @@ class Metadata(helper.Check):
         self.assertEqual((done.returncode, helper.replies(done.stdout)), (0, wanted))
 
     def test_run(self):
-        """a run of commands alone waits for its agent, and makes no turn"""
+        """run waits for its agent, and makes no turn"""
         run = self.monitored("run")
         began = time.monotonic()
         run.tell(meta("Slow"), LIST)
@@ -155,7 +155,7 @@ class Metadata(helper.Check):
         self.assertEqual(run.ends(), 0)
 
     def answers(self, word, *lines):
-        """What a run of these lines answers, in its own words."""
+        """The answers of a run to these lines, in its own words."""
         done = helper.run(word, "--memory", "--root", self.here, told=helper.lines(*lines))
         self.assertEqual(done.returncode, 0)
         return [line for line in done.stdout.decode().splitlines() if '"ready"' not in line]
@@ -173,7 +173,7 @@ class Metadata(helper.Check):
         self.assertEqual((run.ends(), serve.ends()), (0, 0))
 
     def test_limits(self):
-        """what is no number as a limit is passed over by run and refused by serve, and a number out of range is refused by both"""
+        """a limit that is not a number is ignored by run and refused by serve, and a number out of range is refused by both"""
         self.agent("Brief", "sleep 0.5\nprintf brief\n")
         for limit in ("5", "", None, True, -1, 1.5, 1e3, [5], {"limit": 5}, 2 ** 64):
             with self.subTest(limit):
@@ -190,7 +190,7 @@ class Metadata(helper.Check):
             self.assertEqual(helper.bare(helper.value_of(refused)), {"error": "syntax", "number": 1})
 
     def test_same(self):
-        """a run that serves gives the replies of one of commands alone, whatever an agent answers, but for the form of metadata"""
+        """serve and run reply the same, whatever an agent answers, except for the form of metadata"""
         many = "n=0; while [ $n -lt 4096 ]; do echo 123456789012345; n=$((n+1)); done\n"
         kinds = {"Long": many, "Longer": many + "echo\n", "Fails": "echo half; exit 5\n", "Dies": "kill -9 $$\n",
                  "Closes": "exec sleep 5 > /dev/null\n", "Leaves": "sleep 2 &\n", "Nothing": "exit 0\n", "Hangs": "exec sleep 5\n"}

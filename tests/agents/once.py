@@ -1,6 +1,6 @@
 #!/usr/bin/env python3
-"""An action that is run once: its status is that of its agent, or tells why there is none; its agent finds just the variables of an
-action, and writes where the program does; past its timeout it is gone with all that it started.
+"""An action that is run once. Its status is that of its agent, or says why there is none. Its agent finds exactly the variables of an
+action, and writes to the program's output. Past its timeout it has ended with everything that it started.
 Use: once.py PROGRAM"""
 import sys
 import time
@@ -24,13 +24,13 @@ class Once(helper.Check):
             self.assertEqual(self.once("test:Dies", "start", f"signal={signal}"), (128 + signal, "", ""))
 
     def test_output(self):
-        """What the agent writes is written here, each stream for itself, and the agent has nothing to read."""
+        """The agent's output is the program's output, each stream by itself, and the agent's input is empty."""
         self.agent("Talks", 'cat; echo out; echo "ocf-exit-reason:no" >&2; exit 6\n')
         self.assertEqual(self.once("test:Talks", "start", told=b"unread"), (6, "out\n", "ocf-exit-reason:no\n"))
         self.assertEqual(self.once("test:Talks", "meta-data"), (6, "out\n", "ocf-exit-reason:no\n"))
 
     def test_variables(self):
-        """The agent finds the variables of an action of this resource and no others, and for its metadata those of no resource."""
+        """The agent finds exactly the variables of an action of this resource, and for its metadata those without a resource."""
         self.agent("Env", "echo \"$1\"; env -0 | tr '\\0' '\\n' | grep -v -e ^PWD= -e ^SHLVL= -e ^_= -e ^OLDPWD= | sort\n")
         own = [f"OCF_ROOT={self.here}", "OCF_RA_VERSION_MAJOR=1", "OCF_RA_VERSION_MINOR=1", "OCF_RESOURCE_PROVIDER=test",
                "OCF_RESOURCE_TYPE=Env", "PATH=/usr/bin:/bin"]
@@ -45,7 +45,7 @@ class Once(helper.Check):
                          (0, "\n".join(["monitor", *sorted(own + pacemaker), ""]), ""))
 
     def test_timeout(self):
-        """Past its timeout it is 124, and nothing that the agent started is left."""
+        """Past its timeout the status is 124, and no process that the agent started is left."""
         self.agent("Waits", 'sleep 60 & echo $! > "$OCF_RESKEY_pid"; wait\n')
         began = time.monotonic()
         self.assertEqual(self.once("--timeout", "300", "test:Waits", "start", f"pid={self.place('pid')}"), (124, "", ""))
@@ -54,7 +54,7 @@ class Once(helper.Check):
             self.assertFalse(helper.is_alive(file.read().strip()), "what the agent started is gone")
 
     def test_not_run(self):
-        """It is 125 where nothing was run, with a line that says why."""
+        """The status is 125 if nothing was run, with a line that says why."""
         self.agent("Ends", "exit 0\n")
         for words, why in ((["test:None", "start"], "the agent was not started: "), (["Ends", "start"], "give an agent as "),
                            (["test:Ends", "fly"], "give an action: "), (["test:Ends", "start", "novalue"], "give parameters as "),
@@ -64,7 +64,7 @@ class Once(helper.Check):
             self.assertTrue(err.startswith("ocfexec: " + why), err)
 
     def test_words(self):
-        """It is 2 where the words are not those of the command line."""
+        """The status is 2 if the arguments are not those of the command line."""
         for words in (["test:Ends"], ["--timeout", "0", "test:Ends", "start"], ["--timeout", "1s", "test:Ends", "start"],
                       ["--journal", self.here, "test:Ends", "start"]):
             self.assertEqual(self.once(*words)[0], 2, words)

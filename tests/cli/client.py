@@ -1,6 +1,6 @@
 #!/usr/bin/env python3
-"""The client of examples/, which keeps the resources of a file: what it starts, what it finds running and keeps, what the file changes,
-what it gives up, how its signals end it, what it tells systemd, and that no kill of its executor loses a result.
+"""The client of examples/, which keeps the resources of a file: which resources it starts, which it finds running and keeps, what a change
+of the file does, what it gives up, how its signals end it, what it reports to systemd; and that no kill of its executor loses a result.
 Use: client.py PROGRAM"""
 import json
 import os
@@ -22,7 +22,8 @@ sys.path.insert(1, os.path.join(helper.TOP, "examples"))
 import resources  # noqa: E402
 
 CLIENT = os.path.join(helper.TOP, "examples/client.py")
-# an agent whose service is a file, and which fails as the file `fails` beside it names its action; its monitor ends as the file `code` says
+# an agent whose service is a file; it fails if the file `fails` beside it names its action, and its monitor ends with the code in the file
+# `code`
 AGENT = """state=$OCF_RESKEY_state
 echo "$OCF_RESOURCE_TYPE $1 $state" >> {here}/calls
 if [ -e "$state.fails" ] && grep -q -x "$1" "$state.fails"; then exit 1; fi
@@ -32,7 +33,7 @@ stop) rm -f "$state" ;;
 monitor) [ -e "$state" ] || exit 7; [ ! -e "$state.code" ] || exit "$(cat "$state.code")" ;;
 esac
 """
-# what a file may not hold, and how the message begins that says so
+# invalid content of a file, and how the message about it begins
 WRONG = (
     ("[]", "the file: expected an object"),
     ("{", "not JSON: "),
@@ -53,7 +54,7 @@ WRONG = (
     ('{"resources": {"a": {"provider": "p", "type": "T", "timeouts": {"promote": 1}}}}', "resources.a.timeouts.promote: unknown key"),
     ('{"resources": {"a": {"provider": "p", "type": "T", "restarts": -1}}}', "resources.a.restarts: expected a whole number from 0"),
 )
-# and what it may
+# and valid content
 RIGHT = (
     '{"resources": {}}',
     '{"resources": {"a": {"provider": "p", "type": "T"}, "b:0": {"provider": ".p", "type": "T", "params": {"_x1": ""}, "interval": 1}}}',
@@ -61,7 +62,7 @@ RIGHT = (
     json.dumps({"resources": {str(n): {"provider": "p", "type": "T", "params": {f"p{n}": "x" * 1024 for n in range(64)}}
                               for n in range(256)}}),
 )
-# what is no JSON, or is hidden where it is read as JSON: that no schema refuses
+# content that is not JSON, or is hidden when it is read as JSON, so that no schema refuses it
 BEFORE = ("not JSON", "a: this key occurs twice")
 
 
@@ -73,7 +74,7 @@ class Kept(helper.Check):
         self.journal()
 
     def wants(self, **wanted):
-        """Writes the file, of resources by their keys in it."""
+        """Writes the file, with resources by their keys in it."""
         with open(self.place("new"), "w", encoding="ascii") as file:
             json.dump({"resources": wanted}, file)
         os.rename(self.place("new"), self.place("resources.json"))
@@ -105,7 +106,7 @@ class Kept(helper.Check):
         return found
 
     def ended(self, client, number):
-        """Sends a signal, which ends the client; its status."""
+        """Sends a signal, which ends the client; returns its status."""
         os.kill(client.run.pid, number)
         status = client.run.wait(helper.PATIENCE)
         client.reader.join()
@@ -122,7 +123,7 @@ class Kept(helper.Check):
         return int(found[0]) if found else None
 
     def test_kept(self):
-        """resources are probed as stopped, started, monitored, restarted where they stop, and stopped at the end"""
+        """resources are probed as stopped, started, monitored, restarted when they stop, and stopped at the end"""
         self.wants(a=self.dummy("a"), b=self.dummy("b"))
         client = self.client()
         for name in "ab":
@@ -137,7 +138,7 @@ class Kept(helper.Check):
         self.assertEqual(self.starts(), 3)
 
     def test_left(self):
-        """one that leaves keeps them running, and the next one goes on without a start or a failure"""
+        """a client that leaves keeps them running, and the next one continues without a start or a failure"""
         self.wants(a=self.dummy("a"))
         self.assertEqual(self.starts_and_leaves(), 0)
         self.assertTrue(os.path.exists(self.place("a")), "the service of a is up")
@@ -154,7 +155,7 @@ class Kept(helper.Check):
         return self.ended(client, signal.SIGUSR1)
 
     def test_found(self):
-        """one that runs already is kept as it is"""
+        """a resource that runs already is kept as it is"""
         self.wants(a=self.dummy("a"))
         with open(self.place("a"), "w", encoding="ascii"):
             pass
@@ -163,7 +164,7 @@ class Kept(helper.Check):
         self.assertEqual(self.starts(), 0)
 
     def test_degraded(self):
-        """one that is degraded or promoted runs, and is left as it is; one whose monitor ends otherwise is started again"""
+        """a degraded or promoted resource runs, and is left alone; one whose monitor ends otherwise is started again"""
         self.wants(a=self.dummy("a"))
         client = self.client()
         self.comes(client, id="a", interval=100, code=0)
@@ -182,7 +183,7 @@ class Kept(helper.Check):
         self.assertEqual(self.said().count("does not run"), 1)
 
     def test_changed(self):
-        """one whose agent changes is stopped as it was, and runs by the other one; so it is with parameters, and behind a new start"""
+        """a resource whose agent or parameters change is stopped as it was, and started as it is now, also after a restart"""
         self.wants(a=self.dummy("a"))
         client = self.client()
         self.comes(client, id="a", interval=100, code=0)
@@ -199,7 +200,7 @@ class Kept(helper.Check):
         self.assertFalse(os.path.exists(self.place("other")), "the one before is stopped")
 
     def test_gone(self):
-        """one that the file names no more is stopped and taken out of the journal; a wrong file changes nothing"""
+        """a resource that the file no longer names is stopped and taken out of the journal; a wrong file changes nothing"""
         self.wants(a=self.dummy("a"), b=self.dummy("b"))
         client = self.client()
         self.runs("a", "b")
@@ -214,7 +215,7 @@ class Kept(helper.Check):
         self.assertEqual(self.ended(client, signal.SIGUSR1), 0)
 
     def test_given_up(self):
-        """one that fails is tried again after a pause, then given up, stopped and named, while others run; and tried after a SIGHUP"""
+        """a failing resource is tried again after a pause, then given up, stopped and named, while others run; SIGHUP tries it again"""
         with open(self.place("a.fails"), "w", encoding="ascii") as file:
             file.write("start\n")
         self.wants(a=self.dummy("a", restarts=3), b=self.dummy("b"))
@@ -229,7 +230,7 @@ class Kept(helper.Check):
         self.assertEqual(self.ended(client, signal.SIGTERM), 0)
 
     def test_not_stopped(self):
-        """nothing is started over what did not stop, and at the end the status says so"""
+        """a resource that did not stop is never started, and at the end the status says so"""
         self.wants(a=self.dummy("a", restarts=1))
         client = self.client()
         self.comes(client, id="a", interval=100, code=0)
@@ -240,14 +241,14 @@ class Kept(helper.Check):
         self.assertEqual(self.ended(client, signal.SIGTERM), 1)
 
     def test_missing(self):
-        """one whose agent is not there is given up and named, though nothing else is to be heard"""
+        """a resource whose agent is missing is given up and named, even if no other line comes"""
         self.wants(a=self.dummy("a", "Nothing", restarts=1))
         client = self.client()
         self.waits("end of its tries", lambda: "client: a is given up: stop was not started, with 5 (OCF_ERR_INSTALLED)" in self.said())
         self.assertEqual(self.ended(client, signal.SIGTERM), 1)
 
     def test_wrong(self):
-        """what a file may not hold is refused by its key, before anything is started"""
+        """invalid content of a file is refused by its key, before anything is started"""
         for text, begins in WRONG:
             with open(self.place("resources.json"), "w", encoding="ascii") as file:
                 file.write(text)
@@ -262,7 +263,7 @@ class Kept(helper.Check):
 
     @unittest.skipIf(schema.library() is None, "there is no python3-jsonschema")
     def test_schema(self):
-        """docs/resources.schema.json takes what the client takes, and refuses what it refuses"""
+        """docs/resources.schema.json accepts and refuses the same files as the client"""
         with open(os.path.join(helper.TOP, "docs/resources.schema.json"), encoding="utf-8") as file:
             whole = json.load(file)
         schema.library().Draft202012Validator.check_schema(whole)
@@ -297,7 +298,7 @@ class Kept(helper.Check):
         self.assertEqual(self.ended(client, signal.SIGTERM), 0)
 
     def test_systemd(self):
-        """systemd is told when all run, of a new reading of the file, how all is, and of the end"""
+        """systemd is notified when all resources run, of a reload, of their state, and of the end"""
         with socket.socket(socket.AF_UNIX, socket.SOCK_DGRAM) as told:
             told.bind(self.place("notify"))
             told.settimeout(15)
@@ -314,7 +315,7 @@ class Kept(helper.Check):
             self.assertEqual(client.run.wait(helper.PATIENCE), 0)
 
     def test_damaged(self):
-        """a damaged journal ends it with that status, and so does one word wrong"""
+        """a damaged journal ends it with that status, and so does a wrong argument"""
         self.wants(a=self.dummy("a"))
         self.spelled("damaged", b"\x01 no journal", b"")
         for words, status in ((("--journal", self.place("damaged")), 3), (("--journey", "x"), 2)):
@@ -324,7 +325,7 @@ class Kept(helper.Check):
 
     @helper.slow
     def test_kills(self):
-        """no result is lost or told twice through kills of its executor"""
+        """no result is lost or reported twice when its executor is killed"""
         dice, kills = random.Random(helper.number("SEED", 20261127)), helper.number("KILLS", 100)
         self.wants(**{name: self.dummy(name, interval=50) for name in "abcd"})
         client, killed = self.client(), None
@@ -340,8 +341,8 @@ class Kept(helper.Check):
         runs = sorted(value["run"] for value in client.told() if value["run"])
         self.assertEqual(runs, list(range(1, len(runs) + 1)), "each run once")
         self.assertGreater(len(runs), kills)
-        # an opening reports what was interrupted before what was dropped, which a history has the other way round; of what the client
-        # itself withdrew at its end there is no notice
+        # an opening reports interrupted actions before dropped ones, which a history has in the other order; there is no notice of an
+        # action that the client itself withdrew at its end
         told = {(value["call"], value["run"]): {**helper.result_of(value), "id": value["id"]} for value in client.told()}
         for name, results in helper.results(self.place("journal")).items():
             for result in results:

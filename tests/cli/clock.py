@@ -1,7 +1,7 @@
 #!/usr/bin/env python3
-"""Steps of the wall clock, by a shim over clock_gettime (clock.c): an action's timeout, a watch's limit and recurring monitors keep
-their length while the clock is set back or forward, a journal that was written ten years ahead goes on, and a status counts ages by the
-clock of the executor, or says that a moment is in the future.
+"""Steps of the wall clock, by a shim over clock_gettime (clock.c): an action's timeout, a watch's limit and recurring monitors keep their
+length while the clock is set back or forward; a journal that was written ten years ahead continues; and a status computes ages by the clock
+of the executor, or says that a moment is in the future.
 Use: clock.py PROGRAM"""
 import os
 import re
@@ -44,7 +44,7 @@ class Clock(helper.Check):
         return helper.action("r1", "start", timeout=timeout)
 
     def takes(self, run, word, began, least, most):
-        # the end of a drain or a watch, of this word, so many milliseconds behind a moment
+        # the end of a drain or a watch, of this word, so many milliseconds after a moment
         at, end = run.awaits(lambda value: value.get("end") == word)
         self.assertGreaterEqual((at - began) * 1000, least, f"milliseconds to the end {word}")
         self.took_less(most / 1000, at - began, f"waiting for the end {word}")
@@ -53,7 +53,7 @@ class Clock(helper.Check):
         return [(value["outcome"], value["code"]) for value in run.told() if value["action"] == action]
 
     def test_ahead(self):
-        """a journal of ten years ahead"""
+        """a journal from ten years ahead"""
         folder = self.journal()
         self.set_ahead(YEARS)
         run = self.shimmed("--journal", folder)
@@ -95,7 +95,7 @@ class Clock(helper.Check):
         self.assertEqual(run.ends(), 0)
 
     def monitored(self):
-        # an executor with a start that runs and a monitor of 2 s with a result
+        # an executor with a running start and a monitor of 2 s with a result
         run = self.shimmed("--journal", self.journal(), word="serve")
         run.tell(helper.register("r1", "Sleeper", **{"for": "30"}), helper.action("r1", "start", timeout=90000),
                  helper.register("r2", "Sleeper"), {"op": "recur", "id": "r2", "interval": 2000})
@@ -103,14 +103,14 @@ class Clock(helper.Check):
         return run
 
     def status(self, seconds, name="journal", *words):
-        # the table, while the wall clock is so many seconds ahead, with one space in place of each gap
+        # the table, while the wall clock is this many seconds ahead, with one space in place of each gap
         self.set_ahead(seconds)
         done = helper.run("status", "--journal", self.place(name), *words, env=self.environment())
         self.assertEqual((done.returncode, done.stderr), (0, b""))
         return re.sub(" +", " ", done.stdout.decode())
 
     def copied(self, name, executor=None):
-        # the parts alone, and what the file of the executor is to be
+        # only the parts, and the file of the executor with this text
         shutil.copytree(self.place("journal"), self.place(name), ignore=shutil.ignore_patterns("executor*"))
         if executor is not None:
             with open(os.path.join(self.place(name), "executor"), "w", encoding="ascii") as file:
@@ -118,7 +118,7 @@ class Clock(helper.Check):
         return name
 
     def is_true_to(self, table, seconds):
-        # no length of time is longer, and no moment is in the future
+        # no duration is longer, and no moment is in the future
         spans = [int(count) * UNITS[unit] for count, unit in re.findall(r"(\d+) (ms|s|min|h|days)\b", table)]
         self.assertGreaterEqual(len(spans), 4, table)
         self.assertLess(max(spans), seconds * 1000, table)
@@ -141,7 +141,7 @@ class Clock(helper.Check):
         self.is_true_to(self.status(-3600), 5 + time.monotonic() - began)
 
     def test_status_alone(self):
-        """a status of the parts alone, the clock set back and forward"""
+        """a status of only the parts, the clock set back and forward"""
         began, run = time.monotonic(), self.monitored()
         run.run.kill()
         run.run.wait()

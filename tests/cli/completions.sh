@@ -1,5 +1,5 @@
 #!/usr/bin/env bash
-# The completions of the program's words, each asked for in the shell itself: bash, zsh and fish, where they are there.
+# The completions of the program's arguments, each requested in the shell itself: bash, zsh and fish, if they are installed.
 # Use: completions.sh PROGRAM
 set -u
 . "$(dirname "$0")/../lib/common.sh" "$@"
@@ -8,12 +8,12 @@ mkdir -p "$here/zsh" "$here/lib" "$here/libexec"
 "$top/package/completions.sh" "$program" zsh > "$here/zsh/_ocfexec" || exit 1
 "$top/package/completions.sh" "$program" fish > "$here/fish" || exit 1
 
-# Says that a shell is not there. Use: missing SHELL
+# Says that a shell is not installed. Use: missing SHELL
 missing() {
     printf 'skipped    0.00 s  completions: %s: it is not there (apt-get install %s)\n' "$1" "$1"
 }
 
-# What bash offers for words, the last of them being completed, each behind a space. Use: in_bash WORD..
+# The offers of bash for words, the last of which is being completed, each after a space. Use: in_bash WORD..
 in_bash() {
     bash --norc -c '. "$1"; shift; complete -p ocfexec > /dev/null || exit 1
         COMP_WORDS=("$@"); COMP_CWORD=$(($# - 1)); _ocfexec; printf "%s\n" "${COMPREPLY[@]}"' bash "$here/bash" "$@" | sort | xargs
@@ -34,7 +34,7 @@ same "bash, ids of the journal that is named" "db web" "$(PATH=$here/bin:$PATH i
 same "bash, an id of the journal of the environment" "web" "$(PATH=$here/bin:$PATH OCFEXEC_JOURNAL=$here/journal in_bash ocfexec log w)"
 checked "bash"
 
-# What fish offers for a line. Use: in_fish LINE
+# The offers of fish for a line. Use: in_fish LINE
 in_fish() {
     HOME=$here fish --no-config -c 'source $argv[1]; complete -C $argv[2]' "$here/fish" "$1" | cut -f 1 | sort | xargs
 }
@@ -50,8 +50,8 @@ else
     missing fish
 fi
 
-# What zsh makes of lines that are typed and completed, on a terminal of its own: the words of each. It says when it has prompted, and when
-# it has completed, and is waited for. Use: in_zsh LINE..
+# Typed and completed lines of zsh, on a terminal of its own: the words of each line. It waits until zsh has prompted, and until it has
+# completed. Use: in_zsh LINE..
 in_zsh() {
     cat > "$here/set_up" <<'ZSH'
 fpath=($here/zsh $fpath)

@@ -1,8 +1,8 @@
 #!/usr/bin/env python3
-"""The two ends of a run: a reader that goes away ends a drain, a watch, a run that waits for a line and one that serves within a
-second, with its agents, and an opening that waits for what is left; descriptors that do not block are waited for; lines come a byte at a
-time, break off, or are a million at once; behind a device that fails a run waits, too; starts with signals ignored, which are named; and
-starts that are refused: with SIGCHLD ignored, and with a root that is not absolute.
+"""Both ends of a session. A reader that goes away ends a drain, a watch, a waiting run and a serving one within a second, with its agents,
+and an opening that waits for orphans. Descriptors that do not block are waited for. Lines come a byte at a time, break off, or are a
+million at once. After a device fault a run waits, too. Starts with ignored signals name them. Starts are refused if SIGCHLD is ignored or
+the root is not absolute.
 Use: ends.py PROGRAM"""
 import fcntl
 import os
@@ -23,7 +23,7 @@ class Ends(helper.Check):
         return self.numbers_in(path)[0]
 
     def ends_unheard(self, run):
-        # its status and its first word, within a second after nobody reads any more
+        # its status and its first word, within a second after its reader has gone
         run.stdout.close()
         began = time.monotonic()
         self.assertEqual(run.wait(helper.PATIENCE), 7)
@@ -48,11 +48,11 @@ class Ends(helper.Check):
         self.assertFalse(helper.is_alive(pid), "its agent lives on")
 
     def test_drain(self):
-        """a reader that goes away amid a drain"""
+        """a reader that goes away during a drain"""
         self.gone("run", {"op": "drain"})
 
     def test_watch(self):
-        """a reader that goes away amid a watch"""
+        """a reader that goes away during a watch"""
         self.gone("run", {"op": "watch", "limit": 43200000})
 
     def test_serve(self):
@@ -110,15 +110,15 @@ class Ends(helper.Check):
         self.assertEqual(found.count(b"bad-name"), 2000)
 
     def test_run_not_blocking(self):
-        """run where neither end blocks"""
+        """run with both ends non-blocking"""
         self.not_blocking("run")
 
     def test_serve_not_blocking(self):
-        """serve where neither end blocks"""
+        """serve with both ends non-blocking"""
         self.not_blocking("serve")
 
     def test_byte_at_a_time(self):
-        """run and serve answer lines that come a byte at a time as those that come at once"""
+        """run and serve answer lines that come a byte at a time like lines that come at once"""
         told = helper.lines(helper.register("r1", "Dummy"), {"op": "list"}, helper.register("r2", "Dummy")) + b'\n{"op":"list"}\n'
         for word in ("run", "serve"):
             whole = helper.run(word, "--memory", told=told)
@@ -131,7 +131,7 @@ class Ends(helper.Check):
             self.assertEqual(len(helper.replies(found)), 4, word)
 
     def test_half_a_line(self):
-        """an input that ends amid a line: its half is refused as syntax, and what was recorded before is left"""
+        """an input that ends in the middle of a line: the half is refused as syntax, and earlier records are left"""
         for word in ("run", "serve"):
             folder = self.journal(word)
             done = helper.run(word, "--journal", folder, told=helper.lines(helper.register("r1", "Dummy")) + b'{"op":"li')
@@ -141,7 +141,7 @@ class Ends(helper.Check):
             self.assertEqual(helper.replies(again.stdout), [{"ok": True, "resources": ["r1"]}], word)
 
     def test_gone_amid_a_line(self):
-        """a client that is gone amid a line: run and serve end within a second, and what was recorded before is left"""
+        """a client that goes away in the middle of a line: run and serve end within a second, and earlier records are left"""
         for word in ("run", "serve"):
             folder = self.journal(word)
             run = subprocess.Popen([PROGRAM, word, "--journal", folder],
@@ -158,7 +158,7 @@ class Ends(helper.Check):
 
     @helper.slow
     def test_many(self):
-        """a million lines that are there at once are answered by a run, each"""
+        """a run answers each of a million lines that are there at once"""
         asked = self.place("asked")
         with open(asked, "wb") as file:
             file.write(b'{"op":"list"}\n' * 1_000_000)
@@ -222,7 +222,7 @@ class Ends(helper.Check):
         self.lost(replace, "replaced while in use")
 
     def test_fault(self):
-        """a device that fails in a turn ends a run that is served, while its input is open"""
+        """a device that fails in a turn ends a serving run, while its input is open"""
         self.agent("Brief", "sleep 1\n")
         folder = self.journal()
         run = subprocess.Popen([PROGRAM, "serve", "--journal", folder, "--root", self.here], restore_signals=False,
@@ -233,7 +233,7 @@ class Ends(helper.Check):
         helper.opening(run.stdout)
         run.stdout.readline(), run.stdout.readline()
         time.sleep(0.5)
-        # no file of it may grow any more, so the record of the agent's end is refused
+        # its files may not grow any more, so the record of the agent's end is refused
         size = os.path.getsize(os.path.join(folder, "part-a"))
         resource.prlimit(run.pid, resource.RLIMIT_FSIZE, (size, size))
         self.assertEqual(helper.value_of(run.stdout.readline()), {"end": "disk"})

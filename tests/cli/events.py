@@ -1,6 +1,6 @@
 #!/usr/bin/env python3
-"""The lines of --events: one on standard error for each result, in the words of status, with a priority in front where that is the
-system's journal. What goes to standard output is the same with them and without.
+"""The lines of --events: one on standard error for each result, in the words of status, and with a priority in front if standard error is
+the system's journal. Standard output is the same with and without the option.
 Use: events.py PROGRAM"""
 import os
 import re
@@ -14,7 +14,7 @@ import helper  # noqa: E402
 # An agent that ends with the code that a parameter names, or by a signal.
 ENDS = """case $OCF_RESKEY_code in kill) kill -9 $$ ;; sleep) exec sleep 20 ;; *) exit "$OCF_RESKEY_code" ;; esac
 """
-# what is said of a start that ends so, and its priority
+# the line of a start that ends so, and its priority
 STARTS = [
     ("0", "web: start ok (0) in N ms", 6),
     ("1", "web: start error (OCF_ERR_GENERIC, 1) in N ms", 3),
@@ -38,7 +38,7 @@ class Events(helper.Check):
         return helper.lines(helper.register("web", "Ends", code=code), helper.action("web", what, **more), {"op": "drain"})
 
     def events(self, told, *words, run=helper.run):
-        """The lines that are said of these commands, without what else is said on standard error."""
+        """The lines for these commands, without other lines on standard error."""
         done = run("run", "--memory", "--root", self.here, "--events", *words, told=told)
         self.assertEqual(done.returncode, 0, done.stderr)
         return [line for line in without_times(done.stderr.decode()).splitlines() if not line.startswith("ocfexec: ")]
@@ -61,12 +61,12 @@ class Events(helper.Check):
                          ["web: start failed: it ran past its timeout and was killed after N ms"])
 
     def test_probe(self):
-        """a probe that finds it not running is no failure"""
+        """a probe that finds it not running is not a failure"""
         self.assertEqual(self.events(self.commands("7", "monitor", expect=7), run=helper.explained),
                          ["<6>web: monitor not running (OCF_NOT_RUNNING, 7) in N ms"])
 
     def test_together(self):
-        """of two results of one turn each has failed: a monitor that finds it not running, and a start of an agent that is gone by then"""
+        """both results of a turn have failed: a monitor that finds it not running, and a start of an agent that is missing by then"""
         self.agent("Goes", 'rm "$0"\nexit 7\n')
         told = helper.lines(helper.register("web", "Goes"), helper.action("web", "monitor"), helper.action("web", "start"), {"op": "drain"})
         self.assertEqual(self.events(told, run=helper.explained), ["<3>web: monitor not running (OCF_NOT_RUNNING, 7) in N ms",
@@ -84,7 +84,8 @@ class Events(helper.Check):
         self.assertEqual(first, "<3>web: monitor not running (OCF_NOT_RUNNING, 7) in N ms")
 
     def stream(self):
-        """What names the file of standard error as the stream to the system's journal: it is made here, and emptied for the run."""
+        """A file of standard error that the environment names as the stream to the system's journal; it is created here, and emptied for
+        the run."""
         with open(self.place("err"), "wb") as err:
             return helper.journal_stream(err.fileno())
 
@@ -95,7 +96,7 @@ class Events(helper.Check):
         self.assertEqual(self.events(told, run=helper.explained), [])
 
     def test_interrupted(self):
-        """what was interrupted is said at the next opening"""
+        """an interruption has its line at the next opening"""
         journal = self.journal()
         run = self.heard("serve", "--journal", journal, "--root", self.here)
         run.tell(helper.register("web", "Ends", code="sleep"), helper.action("web", "start"))
@@ -118,7 +119,7 @@ class Events(helper.Check):
                 self.assertEqual(helper.run(*words, "--events", told=told).stdout, helper.run(*words, told=told).stdout)
 
     def test_none(self):
-        """without the option nothing is said of a result"""
+        """without the option there is no line for a result"""
         done = helper.run("run", "--memory", "--root", self.here, told=self.commands("1"))
         self.assertEqual(done.stderr, b"")
 

@@ -1,6 +1,6 @@
 #!/usr/bin/env python3
-"""An orderly end: a run that serves and reads `leave` begins nothing more, waits for what runs within its timeout, records and tells
-it, replies, and ends with 0. What was queued is dropped by the next opening, and monitors are kept.
+"""An orderly end: a serving run that reads `leave` begins no more actions, waits for running ones within their timeouts, records and
+reports them, replies, and ends with 0. The next opening drops queued actions, and monitors are kept.
 Use: leave.py PROGRAM"""
 import os
 import subprocess
@@ -30,7 +30,7 @@ class Leave(helper.Check):
         self.eventually("the agent begins", lambda: os.path.exists(self.place("pids")))
 
     def leaves(self, run, began, least, most):
-        # the reply comes in so many seconds, is the last line, and the run ends with 0 without the end of its input
+        # the reply comes within this many seconds, is the last line, and the run ends with 0 without the end of its input
         at, _ = run.awaits(lambda value: value == LEFT)
         self.assertGreaterEqual(at - began, least, "seconds to the reply")
         self.took_less(most, at - began, "waiting for the reply")
@@ -39,7 +39,7 @@ class Leave(helper.Check):
         self.assertEqual(run.values()[-1], LEFT)
 
     def test_nothing(self):
-        """where nothing runs a run ends at once, and the lines behind are not read"""
+        """if nothing runs, a run ends at once, and later lines are not read"""
         run = self.serves("--memory")
         began = time.monotonic()
         run.tell(helper.register("a", "Works"), LEAVE, LIST)
@@ -47,7 +47,7 @@ class Leave(helper.Check):
         self.assertEqual(run.values(), [{"ok": True}, LEFT])
 
     def test_runs(self):
-        """what runs ends, is recorded and told; what is queued and a monitor that is due do not begin"""
+        """running actions end, and are recorded and reported; queued actions and a due monitor do not begin"""
         folder = self.journal()
         run = self.serves("--journal", folder)
         run.tell(helper.register("a", "Works"), action("a", "start"), action("a", "stop"), helper.register("b", "Works"),
@@ -70,7 +70,7 @@ class Leave(helper.Check):
         self.assertEqual(again.ends(), 0)
 
     def test_timeout(self):
-        """an action that hangs is ended at its timeout with its child, and told; then the run ends"""
+        """an action that hangs is ended at its timeout with its child, and reported; then the run ends"""
         run = self.serves("--memory")
         began = time.monotonic()
         run.tell(helper.register("h", "Hangs"), action("h", "start", timeout=1000))
@@ -82,7 +82,7 @@ class Leave(helper.Check):
             self.assertEqual([pid for pid in map(int, file.read().split()) if helper.is_alive(pid)], [], "processes that live on")
 
     def test_run(self):
-        """a run of commands alone does not know the line, and goes on"""
+        """run does not know the line, and goes on"""
         done = helper.run("run", "--memory", "--root", self.here, told=helper.lines(LEAVE, LIST))
         self.assertEqual((done.returncode, helper.replies(done.stdout)),
                          (0, [{"error": "unknown-op", "number": 2}, {"ok": True, "resources": []}]))

@@ -1,6 +1,6 @@
 #!/usr/bin/env python3
-"""The library for clients in Python, examples/ocfexec.py: replies and refusals, results by call, tags, more commands than pipes hold, what
-an opening says and reports, and each result once, however often the executor is killed.
+"""The library for clients in Python, examples/ocfexec.py: replies and refusals, results by call, tags, more commands than pipes hold, the
+ready line and the report of an opening, and each result once, however often the executor is killed.
 Use: library.py PROGRAM"""
 import os
 import random
@@ -18,12 +18,12 @@ sys.path.insert(1, os.path.join(helper.TOP, "examples"))
 import ocfexec  # noqa: E402
 
 KILLS = 100
-# a program that answers with this where an executor says that it is ready
+# a program that answers with this instead of the ready line of an executor
 TALKS = "#!/bin/sh\nread -r line\necho '%s'\nread -r line\n"
 
 
 class Held(ocfexec.Executor):
-    """One each of whose lines is held against the schema."""
+    """A library whose lines are each checked against the schema."""
 
     def _take_line(self, value):
         schema.hold(value)
@@ -50,7 +50,7 @@ class Library(helper.Check):
             executor.process.stdout.close()
 
     def begun(self, count):
-        """Waits until so many slow actions have begun."""
+        """Waits until this many slow actions have begun."""
         self.eventually(f"{count} slow actions begin", lambda: len(self.slow().split()) >= count)
 
     def slow(self):
@@ -60,7 +60,7 @@ class Library(helper.Check):
             return file.read()
 
     def test_asked(self):
-        """a command is replied, or refused by name and number; an order that serves no client is none here"""
+        """a command is answered, or refused by name and number; drain and watch are refused here"""
         executor = self.executor("--memory")
         self.assertEqual(executor.ask(**register("a", "Fast")), {"ok": True})
         self.assertEqual(helper.bare(executor.ask("exists", **register("a", "Fast"))), {"error": "exists", "number": 6})
@@ -74,7 +74,7 @@ class Library(helper.Check):
         self.assertRaises(ocfexec.Ended, executor.ask, op="list")
 
     def test_ready(self):
-        """it has what the program says when it is ready, also behind a report of more than a pipe holds"""
+        """it has the ready line of the program, also after a report that is longer than a pipe"""
         folder, names, version = self.journal(), [f"r{number}" for number in range(120)], helper.run("--version").stdout.decode().split()[1]
         executor = self.executor("--journal", folder)
         fresh = {"dropped": 0, "interrupted": 0, "journal": folder, "ready": True, "resources": 0, "version": version}
@@ -91,7 +91,7 @@ class Library(helper.Check):
         self.assertEqual(executor.leave(), 0)
 
     def test_status(self):
-        """it is asked how all resources are, for the version, and for metadata, whose end is no trouble of a turn"""
+        """it returns the status of all resources, the version, and metadata, whose end is no trouble of a turn"""
         self.agent("Tells", "[ $1 = meta-data ] || exit 7\nprintf '<agent name=\"%s\"/>\\n' \"$OCF_RESOURCE_TYPE\"\n")
         executor = self.executor("--journal", self.journal())
         executor.ask_all([register("a", "Fast"), register("b", "Tells")])
@@ -123,7 +123,7 @@ class Library(helper.Check):
         self.assertEqual(executor.leave(), 0)
 
     def test_calls(self):
-        """a result is found by its call, and the others stay; of a call whose result was taken none comes"""
+        """a result is found by its call, and the others stay; a call whose result was taken has no other one"""
         executor = self.executor("--memory")
         executor.ask_all([register(name, "Fast") for name in "abc"])
         calls = [reply["call"] for reply in executor.ask_all([action(name, "start") for name in "abc"])]
@@ -133,7 +133,7 @@ class Library(helper.Check):
         self.assertRaises(ocfexec.Late, executor.result, calls[1], 0.1)
 
     def test_waits(self):
-        """a result that came with a reply is there to be taken at once"""
+        """a result that came with a reply can be taken at once"""
         executor = self.executor("--memory")
         executor.ask(**register("n", "Nothing"))
         executor.ask(**action("n", "start"))
@@ -145,7 +145,7 @@ class Library(helper.Check):
         self.assertEqual([result["outcome"] for result in executor.take()], ["not-started"])
 
     def test_many(self):
-        """commands and replies of more than all pipes hold are written and read side by side"""
+        """commands and replies longer than all pipes are written and read at the same time"""
         executor = self.executor("--memory", patience=240)
         long = {f"p{number}": "x" * 1000 for number in range(15)}
         executor.ask(**register("a", "Fast", **long))
@@ -153,7 +153,7 @@ class Library(helper.Check):
         self.assertEqual([len(reply["params"]) for reply in replies[1::2]], [15] * 500)
 
     def test_late(self):
-        """a reply that does not come in time is passed over when it comes, and the next one is that of its own command"""
+        """a reply that does not come in time is ignored when it comes, and the next one is that of its own command"""
         executor = self.executor("--memory")
         executor.patience = 0.2
         os.kill(executor.process.pid, signal.SIGSTOP)
@@ -163,7 +163,7 @@ class Library(helper.Check):
         self.assertEqual(executor.ask(**register("a", "Fast")), {"ok": True})
 
     def test_idle(self):
-        """a wait for a reply calls what the client has to do meanwhile, and a descriptor ends a wait for anything"""
+        """a wait for a reply calls the client's own function meanwhile, and a descriptor ends a wait for anything"""
         called, (wake, waker) = [], os.pipe()
         self.addCleanup(os.close, wake)
         self.addCleanup(os.close, waker)
@@ -177,7 +177,7 @@ class Library(helper.Check):
         self.took_less(1, time.monotonic() - began, "what a byte wakes")
 
     def test_reported(self):
-        """an opening reports what was interrupted and dropped, by call too; another one reports nothing more"""
+        """an opening reports interrupted and dropped actions, by call too; the next one reports nothing more"""
         folder = self.journal()
         executor = self.executor("--journal", folder)
         executor.ask(**register("s", "Slow"))
@@ -193,7 +193,7 @@ class Library(helper.Check):
         self.assertEqual((executor.reported, executor.take(), len(executor.past["s"])), ([], [], 2))
 
     def test_damaged(self):
-        """a journal that is damaged, and one that another program holds, end the executor with a status; the first wants a person"""
+        """a damaged journal, and one that another program holds, end the executor with a status; the first needs an administrator"""
         folder = self.spelled("journal", b"\x01 no journal", b"")
         with self.assertRaises(ocfexec.Ended) as ended:
             self.executor("--journal", folder)
@@ -204,7 +204,7 @@ class Library(helper.Check):
         self.assertEqual((ended.exception.status, ended.exception.wants_person), (5, False))
 
     def test_garbled(self):
-        """what is no line of an executor is named, and so is a program that does not say that it is ready"""
+        """a line that no executor writes is named, and so is a program that sends no ready line"""
         for line, error in (("good morning", ocfexec.Garbled), ('{"ok":true,"resources":[]}', ocfexec.Error)):
             with open(self.place("talks"), "w", encoding="ascii") as file:
                 file.write(TALKS % line)
@@ -215,7 +215,7 @@ class Library(helper.Check):
 
     @helper.slow
     def test_kills(self):
-        """through kills of the executor at any moment each result is told once, and by the call that asked for it"""
+        """when the executor is killed at any moment, each result is reported once, and with the call that requested it"""
         dice = random.Random(helper.number("SEED", 20261127))
         folder, told, calls = self.journal(), [], []
         executor = self.executor("--journal", folder, "--orphans", "0")
@@ -230,7 +230,7 @@ class Library(helper.Check):
                     told += executor.take()
             except ocfexec.Refused as refused:
                 self.assertEqual(refused.word, "queue-full")
-            # what it wrote up to here is not read before the kill
+            # its output up to here is not read before the kill
             time.sleep(dice.uniform(0, 0.03))
             executor.kill()
             executor.start()

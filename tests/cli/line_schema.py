@@ -1,6 +1,7 @@
 #!/usr/bin/env python3
-"""docs/protocol.schema.json says the lines that the program takes and prints: the lines of FORMAT.md hold, lines that no program prints do
-not, and the program refuses as malformed just the commands that the schema refuses. Every other check holds its lines against it, too."""
+"""docs/protocol.schema.json describes the lines that the program reads and prints: the lines of FORMAT.md are valid, lines that no
+program prints are not, and the program refuses as malformed exactly the commands that the schema refuses. Every other check validates
+its lines against it, too."""
 import json
 import os
 import re
@@ -11,7 +12,7 @@ sys.path[0] += "/../lib"
 import helper  # noqa: E402
 import schema  # noqa: E402
 
-# what says that a line itself was wrong, and not what it asked for
+# refusals of the line itself, and not of its request
 MALFORMED = ("syntax", "unknown-op", "bad-name", "bad-value")
 REGISTER = {"op": "register", "id": "r1", "provider": "heartbeat", "type": "Dummy"}
 TAKEN = [
@@ -46,14 +47,14 @@ SERVED = [
     {**REGISTER, "tag": "x" * 64},
     {"op": "list", "tag": "\u00e9" * 32},
 ]
-# and those that `serve` alone refuses as malformed, each with the key that is at fault
+# and commands that only `serve` refuses as malformed, each with the offending key
 SERVED_FAULTY = [
     *(("tag", {"op": "list", "tag": tag}) for tag in (5, None, True, ["a"], {"a": "b"}, "x" * 65)),
     ("tag", {**REGISTER, "tag": "\u20ac" * 65}),
     ("id", {"op": "version", "id": "r1"}),
     ("json", {"op": "status", "json": True, "tag": 5}),
 ]
-# commands that are refused as malformed, each with the key that is at fault
+# commands that are refused as malformed, each with the offending key
 FAULTY = [
     ("op", {}),
     ("op", {"op": 1}),
@@ -122,7 +123,7 @@ NO_LINES = [
     {"metadata": 4, "ok": True},
     {**NEVER, "tag": "a"},
 ]
-# and lines that one that serves prints
+# and lines that serve prints
 LINES = [
     READY,
     {**READY, "journal": None, "interrupted": 256, "dropped": 8192, "resources": 256},
@@ -152,7 +153,7 @@ def documented():
 @unittest.skipIf(schema.lines() is None, "there is no python3-jsonschema")
 class Schema(helper.Check):
     def test_schema(self):
-        """the schema is one of its own standard"""
+        """the schema conforms to its own standard"""
         schema.library().Draft202012Validator.check_schema(schema.schema())
 
     def test_documented(self):
@@ -164,17 +165,17 @@ class Schema(helper.Check):
             self.assertTrue(kind.is_valid(value), json.dumps(value))
 
     def test_no_lines(self):
-        """a line that no program prints is none of the schema"""
+        """a line that no program prints is invalid"""
         for value in NO_LINES:
             self.assertFalse(schema.lines().is_valid(value), json.dumps(value))
 
     def test_lines(self):
-        """a line that one that serves prints is one of the schema"""
+        """a line that serve prints is valid"""
         for value in LINES:
             self.assertTrue(schema.lines().is_valid(value), json.dumps(value))
 
     def test_served_alone(self):
-        """what is for serve alone it takes, or refuses by its key, as the schema does; to run the words are unknown, and a tag is no key"""
+        """keys and operations of serve alone are accepted or refused as by the schema; run knows neither these words nor a tag"""
         commands = schema.validator_of("served_command")
         for key, command in [(None, command) for command in SERVED] + SERVED_FAULTY:
             asked = json.dumps(command)[:200]
@@ -185,7 +186,7 @@ class Schema(helper.Check):
             self.assertEqual([of_serve.get("error"), of_serve.get("key")], ["bad-value", key] if key else [None, None], asked)
 
     def test_served(self):
-        """serve refuses as run does, and keys that are not named, too: with the key that is at fault, and a sentence"""
+        """serve refuses like run, and also unknown keys: with the offending key, and a sentence"""
         commands = schema.validator_of("served_command")
         for key, command in [(None, command) for command in TAKEN] + FAULTY:
             asked, key = json.dumps(command)[:200], "unknown" if "unknown" in command else key
@@ -199,7 +200,7 @@ class Schema(helper.Check):
                 self.assertIn(f"{key} must be " if key != "unknown" else "no such key", of_serve["message"], asked)
 
     def test_commands(self):
-        """the program refuses as malformed just the commands that the schema refuses"""
+        """the program refuses as malformed exactly the commands that the schema refuses"""
         commands = schema.validator_of("command")
         for command in TAKEN + REFUSED:
             self.assertEqual(commands.is_valid(command), command in TAKEN, json.dumps(command))

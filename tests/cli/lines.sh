@@ -1,6 +1,6 @@
 #!/usr/bin/env bash
-# Gives `PROGRAM run --memory` inputs that a stored run cannot hold, and compares the exit status and all that it writes:
-# inputs of no line, of empty lines and without a last newline, and lines as long as a line may be, and longer.
+# Gives `PROGRAM run --memory` inputs that a stored run cannot contain, and compares the exit status and all output: inputs without a line,
+# with empty lines and without a last newline, and lines of the greatest length, and longer.
 # Use: lines.sh PROGRAM
 set -u
 . "$(dirname "$0")/../lib/common.sh" "$@"
@@ -21,7 +21,7 @@ answers() {
     is_wanted "$name" "$here/out"
 }
 
-# The text, and spaces behind it up to this length. Use: padded TEXT LENGTH
+# The text, followed by spaces up to this length. Use: padded TEXT LENGTH
 padded() {
     printf '%-*s' "$2" "$1"
 }

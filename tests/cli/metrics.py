@@ -1,7 +1,7 @@
 #!/usr/bin/env python3
-"""What `metrics` prints of a journal: read by a parser of its own, after the text format of Prometheus, and by promtool where it is
-installed; compared with what `show` and `status` print, and with a second reader of the journal, at rest, while an action runs, after a
-timeout, an interruption and a tidy. How many runs ended and failed is counted anew from the journal's bytes.
+"""The output of `metrics` for a journal: read by a parser of its own, written after the text format of Prometheus, and by promtool if that
+is installed; compared with the output of `show` and `status`, and with a second reader of the journal, at rest, while an action runs, and
+after a timeout, an interruption and a tidy. The numbers of ended and failed runs are counted anew from the journal's bytes.
 Use: metrics.py PROGRAM"""
 import os
 import re
@@ -76,19 +76,19 @@ def parsed(text):
     return families
 
 
-# The exit codes with which a monitor has found what is expected of it: that, or the same but degraded.
+# The exit codes with which a monitor has found what was expected: that, or the same but degraded.
 EXPECTED = {0: (0, 190), 7: (7,), 8: (8, 191)}
 
 
 def has_failed(running, kind, code):
-    """Whether what runs has failed by the outcome of a result."""
+    """Whether the running action has failed by the outcome of a result."""
     if kind != journal_format.DONE:
         return True
     return code not in (EXPECTED[running["expect"]] if running["action"] == journal_format.MONITOR else (0,))
 
 
 def begun(resource, call):
-    """What a begin of that call makes of a resource: the action that runs."""
+    """The running action after a begin of that call."""
     queue = resource["queue"]
     if queue and queue[0]["call"] == call:
         return queue.pop(0)
@@ -97,8 +97,8 @@ def begun(resource, call):
 
 
 def counted(part):
-    """How many runs of each resource ended in a part's records, and how many of them failed: by the state of its snapshot, and what each
-    event since makes of what is queued, recurs and runs."""
+    """The numbers of runs of each resource that ended in a part's records, and of those that failed: from the state of its snapshot, and
+    the effect of each later event on queue, monitors and running action."""
     found = {each["id"]: {**each, "runs": 0, "failures": 0} for each in part.state["resources"]}
     for event in part.events():
         kind, resource = event["event"], found.get(event.get("id"))
@@ -139,7 +139,7 @@ class Metrics(helper.Check):
         self.assertEqual(done.returncode, 0, done.stderr)
 
     def metrics(self, *words):
-        """The families that are printed of a journal, which changes nothing; the same by promtool."""
+        """The families that are printed for a journal, which changes nothing; the same by promtool."""
         before = helper.parts(self.folder)
         done = helper.run("metrics", *(words or ("--journal", self.folder)))
         self.assertEqual((done.returncode, done.stderr), (0, b""))
@@ -157,7 +157,7 @@ class Metrics(helper.Check):
                 for name, (_, samples) in families.items()}
 
     def is_whole(self):
-        """What is printed is what `show`, `status` and the second reader tell."""
+        """The output agrees with that of `show` and `status` and with the second reader."""
         now = time.time()
         found = self.metrics()
         lines = helper.replies(helper.run("status", "--json", "--journal", self.folder).stdout)
@@ -215,7 +215,7 @@ class Metrics(helper.Check):
         return web["running"] and web["queued"] == 1 and helper.results(self.folder)["web"][-1]["outcome"] == "cancelled"
 
     def test_none(self):
-        """a journal without resources, one in memory and a folder without a journal"""
+        """a journal without resources, one in memory and a directory without a journal"""
         found = helper.run("metrics", "--journal", self.here)
         self.assertEqual((found.returncode, found.stdout, found.stderr), (9, b"", b"ocfexec: no journal here yet\n"))
         self.asks()
@@ -237,7 +237,7 @@ class Metrics(helper.Check):
         self.is_whole()
 
     def test_cut_off(self):
-        """what runs and is queued, a timeout, an interruption, what was withdrawn, and ages that rise"""
+        """running and queued actions, a timeout, an interruption, a withdrawal, and ages that rise"""
         self.asks(register("web", "Told", code="sleep"), action("web", "start", timeout=100), {"op": "drain"})
         self.is_whole()
         run = self.heard("serve", *self.words)
@@ -257,7 +257,7 @@ class Metrics(helper.Check):
         self.assertGreaterEqual(dict(self.metrics()["ocfexec_resource_last_age_seconds"])[("web",)], before + 2)
 
     def test_counts(self):
-        """runs and failures: probes that find what they expect or not, a kill, an unregister, and a tidy while an action runs"""
+        """runs and failures: probes that find the expected state or not, a kill, an unregister, and a tidy while an action runs"""
         self.asks(register("web", "Told", code="7"), register("db", "Told", code="0"), register("slow", "Told", code="sleep"))
         probe = {"expect": 7}
         self.asks(action("web", "monitor", **probe), action("web", "monitor"), action("web", "start"), action("db", "monitor", **probe),
@@ -287,13 +287,13 @@ class Metrics(helper.Check):
 
     @unittest.skipUnless(PROMTOOL, "install prometheus, for promtool")
     def test_promtool(self):
-        """promtool takes the metrics of a resource that has failed, and has nothing to say of them"""
+        """promtool accepts the metrics of a failed resource without a complaint"""
         self.asks(register("web", "Told", code="1"), action("web", "start"), {"op": "drain"}, {"op": "recur", "id": "web", "interval": 100},
                   {"op": "watch", "limit": 300})
         self.is_whole()
 
     def test_tidied(self):
-        """counters that a tidy leaves, an epoch that it raises, and a journal that an executor holds"""
+        """counters that a tidy keeps, an epoch that it raises, and a journal that an executor holds"""
         self.asks(register("web", "Told", code="0"), action("web", "start"), {"op": "drain"})
         before = self.is_whole()
         run = self.heard("serve", *self.words)
@@ -307,7 +307,7 @@ class Metrics(helper.Check):
         self.assertEqual(run.ends(), 0)
 
     def test_damaged(self):
-        """a damaged journal and words that are none"""
+        """a damaged journal and wrong arguments"""
         self.asks(register("web", "Told", code="0"))
         with open(os.path.join(self.folder, "part-a"), "r+b") as part:
             part.seek(1)

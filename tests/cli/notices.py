@@ -1,6 +1,6 @@
 #!/usr/bin/env python3
-"""What a notice of serve says besides its result: the key of its operation, the code that was expected, and whether the result has failed,
-which is what info then has as the last failure. So do the notices of an opening's report. A notice of run says none of this.
+"""The keys of a notice of serve besides its result: the key of its operation, the expected code, and whether the result has failed, in
+which case info has it as the last failure. The notices of an opening's report have the same keys. A notice of run has none of them.
 Use: notices.py PROGRAM"""
 import sys
 
@@ -15,7 +15,7 @@ sleep) echo >> "$OCF_RESKEY_begun"; exec sleep 30 ;;
 *) exit "$OCF_RESKEY_code" ;;
 esac
 """
-# by what is expected of a monitor the codes with which it has not failed: Pacemaker Administration, exit codes
+# for each code that may be expected of a monitor, the codes with which it has not failed: Pacemaker Administration, exit codes
 EXPECTED = {0: (0, 190), 7: (7,), 8: (8, 191)}
 CODES = (0, 1, 2, 5, 7, 8, 9, 77, 190, 191, 255)
 OF_RUN = {"action", "call", "code", "id", "interval", "name", "outcome", "run"}
@@ -30,7 +30,7 @@ class Notices(helper.Check):
         return self.heard("serve", *(words or ["--memory"]), "--root", self.here)
 
     def judged(self, run, command):
-        """The notice of a command's result; info has the result as the last failure exactly where the notice says that it has failed."""
+        """The notice of a command's result; info has the result as the last failure exactly when the notice says that it has failed."""
         after = len(run.values())
         run.tell(command)
         _, reply = run.awaits(lambda value: "call" in value and "ok" in value, after=after)
@@ -43,7 +43,7 @@ class Notices(helper.Check):
         return notice
 
     def test_monitors(self):
-        """a monitor has failed where its code is none that was expected, degraded or not"""
+        """a monitor has failed if its code is not an expected one, degraded or not"""
         run = self.serves()
         for code in CODES:
             run.tell(register(f"c{code}", "Ends", code=str(code)))
@@ -53,7 +53,7 @@ class Notices(helper.Check):
         self.assertEqual(run.ends(), 0)
 
     def test_others(self):
-        """of every other action 0 is expected; one has also failed that was killed, or not started"""
+        """of every other action 0 is expected; an action that was killed or not started has also failed"""
         run = self.serves()
         run.tell(*[register(f"c{code}", "Ends", code=code, begun="/dev/null") for code in ("0", "190", "7", "kill", "sleep")],
                  register("none", "NoSuchAgent"))
@@ -66,7 +66,7 @@ class Notices(helper.Check):
         self.assertEqual(run.ends(), 0)
 
     def test_recurring(self):
-        """a recurring monitor's key has its interval; the same monitor once has another"""
+        """a recurring monitor's key has its interval; the same one-time monitor has another key"""
         run = self.serves()
         run.tell(register("a", "Ends", code="7"), {"op": "recur", "id": "a", "interval": 60000, "expect": 7}, action("a", "monitor"))
         run.awaits(lambda value: helper.is_notice(value, call=2))
@@ -76,7 +76,7 @@ class Notices(helper.Check):
         self.assertEqual(run.ends(), 0)
 
     def test_reported(self):
-        """what an opening reports has its key and what was expected, and has not failed"""
+        """a notice of an opening's report has its key and the expected code, and has not failed"""
         journal, begun = self.journal(), self.place("begun")
         run = self.serves("--journal", journal)
         for name in "ab":

@@ -1,8 +1,8 @@
 #!/usr/bin/env python3
 # check: trials
-"""The program over a host that is played, `tests/trials program`: directories in memory, scripted agents, and a clock that is moved by who
-waits. So each call of the system fails in turn, and no process is started. What is wanted was counted by hand from docs/FORMAT.md and the
-manual page.
+"""The program with a simulated host, `tests/trials program`: directories in memory, scripted agents, and a clock that the waiting caller
+advances. So each call of the system fails in turn, and no process is started. The expected values were counted by hand from docs/FORMAT.md
+and the manual page.
 Use: played.py [PROGRAM]"""
 import json
 import subprocess
@@ -27,8 +27,7 @@ def refusal(word, number):
 
 
 class Run:
-    """What a played program said: of each line the word that it begins with, and the rest. What serves says once that it is ready, and that
-    line is none of its output here."""
+    """The output of a simulated program: for each line its first word, and the rest. The ready line of serve is not included."""
 
     def __init__(self, lines):
         self.lines = [line.split(" ", 1) for line in lines]
@@ -40,7 +39,7 @@ class Run:
         return [text for first, text in self.lines if first == word]
 
     def asked(self):
-        """What was asked for, in its order, without what was written."""
+        """The requests, in their order, without what was written."""
         return [" ".join(line).rstrip() for line in self.lines if line[0] not in (">", "!")]
 
 
@@ -66,7 +65,7 @@ def begun(at, call, run):
 
 class Played(helper.Check):
     def play(self, *plan):
-        """The runs of a plan, which is in lines."""
+        """The runs of a plan, which is given as lines."""
         told = "".join(line + "\n" for line in plan).encode()
         done = subprocess.run([helper.trials(), "program"], input=told, capture_output=True, timeout=300)
         self.assertEqual((done.returncode, done.stderr), (0, b""))
@@ -86,7 +85,7 @@ class Played(helper.Check):
         return run
 
     def is_ready(self, run, **said):
-        """A run that serves says so, once, with this: what it found, and its version."""
+        """A serving run sends one ready line, with this: what it found, and its version."""
         version = self.play("ocfexec --version")[0].out[0].split(" ")[1]
         found = {"dropped": 0, "interrupted": 0, "journal": "/j", "ready": True, "resources": 0, "version": version, **said}
         self.assertEqual(run.ready, [json.dumps(found, separators=(",", ":"))])
@@ -112,7 +111,7 @@ class Rows(Played):
         self.memory([OK, ACCEPTED, failed, IDLE], REG, action("r1", "start"), DRAIN, more=["poll exited 1"])
 
     def test_timeout(self):
-        """a timeout is told where the clock has it: once, after one kill"""
+        """a timeout is reported when the clock has reached it: once, after one kill"""
         late = STARTED.replace('"code":0', '"code":1').replace("OCF_SUCCESS", "OCF_ERR_GENERIC").replace('"done"', '"timed-out"')
         run = self.memory([OK, ACCEPTED, late, IDLE], REG, action("r1", "start", timeout=1000), DRAIN)
         self.assertEqual(run.of("kill"), ["1"])
@@ -139,7 +138,7 @@ class Rows(Played):
         self.memory([OK] * 256 + [refusal("too-many-resources", 11)], *[register(f"r{n}", "Dummy", "pacemaker") for n in range(257)])
 
     def test_busy(self):
-        """a resource that runs something is kept, and one that is registered again has no history"""
+        """a resource with a running action is kept, and one that is registered again has no history"""
         call = [REG, action("r1", "start"), {"op": "drain", "limit": 0}, {"op": "unregister", "id": "r1"}, DRAIN]
         again = [{"op": "unregister", "id": "r1"}, REG, {"op": "history", "id": "r1"}]
         self.memory([OK, ACCEPTED, '{"end":"limit"}', refusal("busy", 7), STARTED, IDLE, OK, OK, '{"ok":true,"results":[]}'],
@@ -195,7 +194,7 @@ class Rows(Played):
         self.ends("0", [history], *plan, *lines({"op": "history", "id": "r1"}), "ocfexec run --journal /j")
 
     def test_full(self):
-        """parameters of 15,438 bytes fill a part 541 times, and a tidy makes room"""
+        """parameters of 15,438 bytes fill a part 541 times, and a tidy frees space"""
         large = {"op": "params", "id": "r1", "params": dict.fromkeys("abcdefghijklmno", "v" * 1024)}
         full = refusal("journal-full", 14)
         self.ends("0", [*[OK] * 542, full, OK, '{"end":"done"}', OK], "directory /j",
@@ -205,7 +204,7 @@ class Rows(Played):
 
 class Asked(Played):
     def test_run(self):
-        """what a run over a directory asks for, in its order"""
+        """the requests of a run over a directory, in their order"""
         words = "--journal /j --root /r --path /p --via v --meta-variables --orphans 7 --leave-orphans --any-owner --log l --logs d"
         run = self.ends("0", [OK], "directory /j", "clock 500", *lines(REG), f"ocfexec run {words}")
         self.assertEqual(run.asked(), [
@@ -213,7 +212,7 @@ class Asked(Played):
             "moment 500", "word /j 500", "source /r /p v yes", "writer -", "give-up", "ran well", "ended 0"])
 
     def test_serve(self):
-        """what a run that serves asks for: its directory is watched; where no option is given agents are where the manual page says"""
+        """the requests of a serving run: its directory is watched; by default agents are where the manual page says"""
         run = self.ends("0", [OK], "directory /j", *lines(REG), "ocfexec serve --journal /j")
         self.assertEqual(run.asked(), [
             "ignored", "signals", "log - -", "files /j no", "reader", "agents 768", "watch /j", "orphans /j 20000 no 1",
@@ -222,7 +221,7 @@ class Asked(Played):
         self.is_ready(run)
 
     def test_memory(self):
-        """a run in memory asks for no directory, waits for nothing and leaves no word"""
+        """a run in memory requests no directory, waits for nothing and writes nothing on standard error"""
         run = self.ends("0", [], "ocfexec serve --memory")
         self.assertEqual(run.asked(), ["ignored", "signals", "log - -", "reader", "agents 768", "watch -", "moment 0",
                                        f"source {ROOT} {PATH} - no", "writer -", "give-up", "ran well", "ended 0"])
@@ -240,7 +239,7 @@ class Asked(Played):
         self.assertNotIn("CRM_meta", " ".join(plain))
 
     def test_looks(self):
-        """a look at a directory, at that of the environment, and at memory"""
+        """status of a directory, of that of the environment, and of memory"""
         self.assertEqual(self.ends("0", [ONE_LISTED[:24] + "]}"], "ocfexec show --memory").asked(), ["shown -", "ended 0"])
         for more, words in [([], "ocfexec show --journal /j"), (["environment /j"], "ocfexec show")]:
             run = self.play("directory /j", *lines(REG), "ocfexec run --journal /j", *more, words)[-1]
@@ -249,12 +248,12 @@ class Asked(Played):
         self.assertEqual(self.ends("5 disk", [], "ocfexec log").asked(), ["shown /var/lib/ocfexec", "ended 5 disk"])
 
     def test_once(self):
-        """an action that is run once has its own status, and asks for no journal"""
+        """an action that is run once has its own status, and requests no journal"""
         run = self.ends("77", [], "ocfexec once heartbeat:Dummy start --root /r")
         self.assertEqual(run.asked(), ["once heartbeat:Dummy start", f"site /r {PATH} - no", "ended 77"])
 
     def test_left(self):
-        """what lives on is named by its number in a run that serves alone, and the wait for it comes before the moment of the opening"""
+        """serve names an orphan by its number, run does not; the wait for it comes before the moment of the opening"""
         running = part_a(registered(), executed(10, 1, START), begun(10, 1, 1))
         for word, keys in [("run", {}), ("serve", {"lives": 4711})]:
             run = self.play("directory /j", running, "left 1 4711", "clock 500", f"ocfexec {word} --journal /j --leave-orphans")[0]
@@ -268,7 +267,7 @@ class Asked(Played):
             self.assertLess(asked.index("orphans /j 20000 yes 2"), asked.index("moment 500"))
 
     def test_events(self):
-        """--events: a line of each result, marked where standard error is the system's journal"""
+        """--events: a line for each result, marked if standard error is the system's journal"""
         for fails, mark in [([], ""), (["fail marked"], "<6>")]:
             run = self.memory([OK, ACCEPTED, STARTED, IDLE], REG, action("r1", "start"), DRAIN, more=["poll exited 0", *fails],
                               words="ocfexec run --memory --events")
@@ -285,11 +284,11 @@ class Fails(Played):
     TOLD = lines(REG, action("r1", "start"), DRAIN, LIST)
 
     def fails(self, ended, asked, *plan):
-        """A run that writes nothing, asks for this alone, and ends so."""
+        """A run that writes nothing, makes only these requests, and ends so."""
         self.assertEqual(self.ends(ended, [], *plan).asked(), [*asked, f"ended {ended}"])
 
     def test_before(self):
-        """each call before the opening fails in turn: nothing is asked for after it, and nothing is written"""
+        """each call before the opening fails in turn: no request follows, and nothing is written"""
         run, before = "ocfexec run --journal /j --log l", ["ignored", "signals", "log l -", "files /j no", "reader", "agents 768"]
         for word, ended, count in [("ignored", "8 SIGCHLD is ignored", 1), ("log", "7 input or output", 3), ("files", "5 disk", 4),
                                    ("reader", "4 memory", 5), ("agents", "4 memory", 6)]:
@@ -299,7 +298,7 @@ class Fails(Played):
         self.fails("7 input or output", before + unheard, "directory /j", "fail orphans", *self.TOLD, run)
 
     def test_device(self):
-        """each device call fails in turn: the run ends with 5, says what the device met, and what it acknowledged is found again"""
+        """each device call fails in turn: the run ends with 5, reports the fault, and what it acknowledged is found again"""
         whole = [OK, ACCEPTED, STARTED, IDLE, ONE_LISTED]
         for calls in range(200):
             plan = ["directory /j", f"device {calls}", "poll exited 0", *self.TOLD, "ocfexec run --journal /j"]
@@ -319,14 +318,14 @@ class Fails(Played):
         self.fail("there are more device calls than were thought")
 
     def test_streams(self):
-        """standard input that fails, and standard output that takes less than the replies, end with 7"""
+        """standard input that fails, and standard output that accepts less than the replies, end with 7"""
         for plan in (["fail read"], ["room 0"], ["room 11"], ["room 12"]):
             run = self.play(*plan, *lines(REG, LIST), "ocfexec run --memory")[0]
             self.assertEqual((run.ended, run.of("ran")), (["7 input or output"], ["input or output"]), plan)
         self.assertEqual(self.play("fail read", *lines(REG), "ocfexec run --memory")[0].out, [OK])
 
     def test_served(self):
-        """a journal that is removed ends its server with 5 and a line, and a reader that goes with 7; one that serves none goes on"""
+        """a removed journal ends serve with 5 and a line, and a reader that goes away with 7; run goes on"""
         gone = ["directory /j", "gone /j 2000", "end 10000", *lines(REG)]
         run = self.ends("5 disk", [OK, '{"end":"disk"}'], *gone, "ocfexec serve --journal /j")
         self.assertEqual([run.of("check"), len(run.of("met"))], [[""], 1])

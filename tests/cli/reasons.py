@@ -1,6 +1,6 @@
 #!/usr/bin/env python3
-"""The reason of a last failure that `status --logs DIR` prints: the last line of the resource's log that begins with ocf-exit-reason:,
-of logs that agents wrote and of hostile ones, as a table and as JSON, and what is said of a log that cannot be read.
+"""The reason of a last failure that `status --logs DIR` prints: the last line of the resource's log that begins with ocf-exit-reason:, from
+logs that agents wrote and from hostile ones, as a table and as JSON, and the line about a log that cannot be read.
 Use: reasons.py PROGRAM"""
 import os
 import sys
@@ -9,12 +9,12 @@ sys.path[0] += "/../lib"
 import helper  # noqa: E402
 
 WORD = b"ocf-exit-reason:"
-# how much of a log is read, and how much of a reason is printed
+# how many bytes of a log are read, and how many of a reason are printed
 TAIL, LIMIT = 65536, 512
 
 
 def shown(reason):
-    """A reason as it is printed: all that is no graphic character of ASCII or a space by its number, the backslash too."""
+    """A reason as it is printed: every character except graphic ASCII and the space is printed by its number, and the backslash too."""
     return "".join(chr(byte) if 32 <= byte < 127 and byte != 92 else f"\\x{byte:02x}" for byte in reason[:LIMIT])
 
 
@@ -44,13 +44,13 @@ class Reasons(helper.Check):
         self.does(name, "exit 6")
 
     def status(self, *words, err=b"", logs=None):
-        """What a status prints that looks at these logs, and what it says on standard error."""
+        """The output of a status with these logs, and its standard error."""
         done = helper.run("status", "--journal", self.folder, "--logs", logs or self.logs, *words)
         self.assertEqual((done.returncode, done.stderr), (0, err), done.stdout)
         return done.stdout
 
     def reasons(self, **how):
-        """The reasons in a table and those in JSON, which are the same."""
+        """The reasons in a table and those in JSON, which are equal."""
         table = [line[16:] for line in self.status(**how).decode().split("\n") if line.startswith("  exit reason   ")]
         values = [value for value in helper.replies(self.status("--json", **how)) if "state" in value]
         found = {value["id"]: value["failed"] and value["failed"]["reason"] for value in values}
@@ -62,7 +62,7 @@ class Reasons(helper.Check):
             file.write(text)
 
     def test_written(self):
-        """the last one that an agent wrote is printed, below what failed"""
+        """the last reason that an agent wrote is printed, below the failure"""
         self.does("web", "echo ocf-exit-reason:first >&2; echo ocf-exit-reason:no such file /etc/x >&2; echo more; exit 6")
         self.assertEqual(self.reasons(), {"web": "no such file /etc/x"})
         lines = self.status("web").decode().split("\n")
@@ -79,7 +79,7 @@ class Reasons(helper.Check):
         self.assertIn(b'"reason":null', done.stdout)
 
     def test_not_failed(self):
-        """of a resource that has not failed there is none"""
+        """a resource that has not failed has none"""
         self.does("web", "echo ocf-exit-reason:first >&2")
         self.assertEqual(self.reasons(), {"web": None})
 
@@ -92,7 +92,7 @@ class Reasons(helper.Check):
         self.assertNotIn(b"of web", self.status("data"))
 
     def test_logs(self):
-        """of any log it is the last line that begins so"""
+        """for any log it is the last line that begins so"""
         self.fails()
         far = WORD + b"far\n"
         for text in (b"", WORD, WORD + b"\n", WORD + b"x", b" " + WORD + b"x\n", b"x" + WORD + b"y\n", WORD + b"a\n" + WORD + b"b\n",
@@ -106,7 +106,7 @@ class Reasons(helper.Check):
                 self.assertEqual(self.reasons(), {"web": last_reason(text)})
 
     def test_large(self):
-        """a log of a terabyte is no matter"""
+        """a log of a terabyte makes no difference"""
         self.fails()
         with open(os.path.join(self.logs, "web.log"), "wb") as file:
             file.truncate(1 << 40)
@@ -115,14 +115,14 @@ class Reasons(helper.Check):
         self.assertEqual(self.reasons(), {"web": "at the end"})
 
     def test_missing(self):
-        """no log and no directory are no reason, and no word of it"""
+        """a missing log or directory is no reason, and no line reports it"""
         self.fails()
         os.remove(os.path.join(self.logs, "web.log"))
         self.assertEqual(self.reasons(), {"web": None})
         self.assertEqual(self.reasons(logs=self.place("none")), {"web": None})
 
     def test_other_files(self):
-        """what is no plain file is not read, and the first one is named"""
+        """anything but a plain file is not read, and the first one is named"""
         for name in ("web", "data"):
             self.fails(name)
             os.remove(os.path.join(self.logs, f"{name}.log"))
@@ -139,7 +139,7 @@ class Reasons(helper.Check):
         self.assertEqual(self.reasons(err=f"ocfexec: log {path} cannot be read: not a plain file\n".encode()), {"web": None, "data": None})
 
     def test_no_journal(self):
-        """a status that ends by a fault does so with --logs too"""
+        """a status that ends by a fault also does so with --logs"""
         done = helper.run("status", "--journal", self.folder, "--logs", self.logs, "nobody")
         self.assertEqual(done.returncode, 9, done.stderr)
         self.fails()

@@ -1,6 +1,6 @@
 #!/usr/bin/env python3
-"""A refusal of serve says which key of the line it is about, where there is one, and a sentence with what that key may hold; one of run has
-its word and its number alone, and is the same but for that. A key that an operation does not have is refused by name.
+"""A refusal of serve has the offending key of the line, if there is one, and a sentence that says what that key may hold. A refusal of run
+has only its word and its number, and is otherwise the same. A key that an operation does not have is refused by name.
 Use: refusals.py PROGRAM"""
 import json
 import sys
@@ -10,7 +10,7 @@ import helper  # noqa: E402
 from helper import action, register  # noqa: E402
 
 LARGE = {f"p{place}": "x" * 1024 for place in range(16)}
-# Commands, and of each that is refused its word, its key and what its sentence has, by FORMAT.
+# Commands, and for each refused one its word, its key and a part of its sentence, from FORMAT.
 SPOKEN = [
     (register("r1", "None"), None),
     (register("r1", "None"), ("exists", None, "this id is registered")),
@@ -31,7 +31,7 @@ SPOKEN = [
     ({"op": "watch", "limit": 0}, ("bad-value", "limit", "a number from 1 to 4294967295")),
     ({"op": "start", "id": "r1"}, ("unknown-op", "op", "the name of an operation")),
 ]
-# Lines that are no command at all.
+# Lines that are no commands.
 BROKEN = [b"x", b"{", b'"list"', b"[]", b" " * 131_073, b'{"op":"list","op":"list"}', b"\xff"]
 
 
@@ -41,7 +41,7 @@ def asked(word, *commands):
 
 class Refusals(helper.Check):
     def test_keys(self):
-        """each refusal has the key that it is about and a sentence in serve, and neither in run"""
+        """each refusal has the offending key and a sentence in serve, and neither in run"""
         for word in ("run", "serve"):
             values = [value for value in asked(word, *[command for command, _ in SPOKEN]) if not helper.is_notice(value)]
             self.assertEqual(len(values), len(SPOKEN), word)
@@ -55,7 +55,7 @@ class Refusals(helper.Check):
                         self.assertEqual(set(value), {"error", "number"})
 
     def test_unknown(self):
-        """a key that an operation does not have is refused by its name in serve, after all else, and passed over by run"""
+        """a key that an operation does not have is refused by its name in serve, after all else, and ignored by run"""
         for key in ("timout", "Id", "", "interval", "x" * 100, "\u00e9\u0000\""):
             command = {"op": "exec", "id": "r1", "action": "start", key: 5}
             self.assertEqual(asked("run", command), [{"error": "unknown-resource", "number": 5}])

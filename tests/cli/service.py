@@ -1,8 +1,8 @@
 #!/usr/bin/env python3
-"""What serve says to a manager beside the replies that run gives too: that it is ready, and what its opening found; its version; how all
-resources are; metadata as a text. And tags, by which a reply is known to be that of its line and a notice that of its call: on every kind
-of line and of reply, in what comes together, among lines without one, of what waits, recurs and is withdrawn, of lines by chance, as many
-as are kept, and none after an end. To `run` a tag is no key.
+"""The lines of serve to a manager besides the replies that run also has: the ready line, and what the opening found; the version; the
+status of all resources; metadata as a text. And tags, which show that a reply belongs to its line and a notice to its call: on every kind
+of line and of reply, in batches, among lines without a tag, for queued, recurring and withdrawn actions, for random lines, as many as are
+kept, and none after an end. `run` knows no tags.
 Use: service.py PROGRAM, with ROUNDS and SEED in the environment"""
 import json
 import os
@@ -17,7 +17,7 @@ from helper import action, register  # noqa: E402
 from journal_format import CLOSED, MOST, head, state  # noqa: E402
 
 LIST, STATUS, VERSION, LEAVE = {"op": "list"}, {"op": "status"}, {"op": "version"}, {"op": "leave"}
-# An agent that ends with the code that a parameter names, by a signal, not soon, or once a file is there.
+# An agent that ends with the code that a parameter names, by a signal, not soon, or once a file exists.
 ENDS = """case $OCF_RESKEY_code in
 kill) kill -9 $$ ;;
 sleep) exec sleep 30 ;;
@@ -27,22 +27,22 @@ esac
 """
 LARGE = {f"p{place}": "x" * 1024 for place in range(16)}
 REFUSED_TAG = {"error": "bad-value", "key": "tag", "message": "tag must be a text of at most 64 bytes", "number": 4}
-# tags of at most 64 bytes, and what is no such tag
+# valid tags, of at most 64 bytes, and invalid ones
 TAGS = ["", "a", " ", "x" * 64, "\u00e9" * 32, "\u20ac" * 21, "\U0001f389" * 16, 'a "quote", a \\ and a /', "\n\t\r\b\f\0\x01\x1f\x7f",
         "{}", "\u2028\ufeff\ufffd", "null", "tag"]
 NO_TAGS = ["x" * 65, "x" * 63 + "\u00e9", "\u00e9" * 33, "\u20ac" * 22, "\U0001f389" * 17, "x" * 100_000, 5, -1, 1.5, None, True, [], ["a"],
            {}, {"tag": "a"}]
-# how many calls there are whose tags are kept
+# the number of calls whose tags are kept
 KEPT = 16_384
 
 
 def tagged(command, tag):
-    """A command with this tag; without one where it is None."""
+    """A command with this tag; without a tag if it is None."""
     return command if tag is None else {**command, "tag": tag}
 
 
 def timeless(value):
-    """A value without the moments in it and its parts."""
+    """A value without the moments in it and in its parts."""
     if isinstance(value, dict):
         return {key: timeless(part) for key, part in value.items() if key not in ("since", "at")}
     return [timeless(part) for part in value] if isinstance(value, list) else value
@@ -71,31 +71,31 @@ class Service(helper.Check):
         return self.heard("serve", *(words or ["--memory"]), "--root", self.here, **how)
 
     def opens(self):
-        """Lets what waits for its gate end."""
+        """Lets the action that waits for its gate end."""
         with open(self.gate, "wb"):
             pass
 
     def asked(self, run, *commands):
-        """The replies to these commands. Between them nothing but notices comes."""
+        """The replies to these commands. Between them only notices come."""
         before = len(run.lines)
         run.tell(*commands)
         return self.replied(run, before, len(commands))
 
     def replied(self, run, before, count):
-        """So many replies, of those to so many lines."""
+        """This many replies, to as many lines."""
         def found():
             values = [helper.value_of(line) for _, line in run.lines[before:] if not line.startswith('{"action"')]
             return values if len(values) >= count else None
         return self.eventually(f"{count} replies", found) if count else []
 
     def told(self, run, **wanted):
-        """The notice of this, as soon as it is there."""
+        """The notice of this call, as soon as it has come."""
         return run.awaits(lambda value: helper.is_notice(value, **wanted))[1]
 
 
 class Ready(Service):
     def is_ready(self, run, **said):
-        """It says so, with this: what it found, and its version."""
+        """It sends the ready line, with this: what it found, and its version."""
         found = {"dropped": 0, "interrupted": 0, "journal": None, "ready": True, "resources": 0, "version": self.version(), **said}
         self.assertEqual(run.ready(), found)
         self.assertEqual(run.said[-1].decode(), written(found) + "\n", "as it is written")
@@ -104,7 +104,7 @@ class Ready(Service):
         return helper.run("--version").stdout.decode().split()[1]
 
     def test_version(self):
-        """the version is that which --version prints; another key is refused"""
+        """the version is that of --version; another key is refused"""
         run = self.serves()
         self.assertEqual(helper.run("--version").stdout.decode(), f"ocfexec {self.version()}\n")
         self.assertEqual(self.asked(run, VERSION, {**VERSION, "id": "r1"}),
@@ -113,7 +113,7 @@ class Ready(Service):
         self.assertEqual(run.ends(), 0)
 
     def test_first(self):
-        """it says that it is ready before it is asked anything, once, and where nothing is asked this is its only line"""
+        """it sends the ready line before any request, once, and without requests this is its only line"""
         run = self.serves()
         self.is_ready(run)
         self.assertEqual(run.values(), [])
@@ -134,7 +134,7 @@ class Ready(Service):
         self.is_ready(run, journal=f"{self.here}//.//{name.rsplit('/', 1)[1]}")
 
     def test_report(self):
-        """it is ready after the report of its opening, and before the first reply; it counts what that has, and the resources"""
+        """the ready line comes after the report of its opening, and before the first reply; it counts the report and the resources"""
         folder, more = self.journal(), {"code": "gate", "gate": self.gate}
         run = self.serves("--journal", folder)
         self.is_ready(run, journal=folder)
@@ -149,7 +149,7 @@ class Ready(Service):
         self.assertEqual(outcomes[5:], ["ready", "reply"])
         self.assertEqual(helper.opened(done.stdout)[1],
                          {"dropped": 3, "interrupted": 3, "journal": folder, "ready": True, "resources": 3, "version": self.version()})
-        # (what was begun after that opening was ended with the input)
+        # (actions begun after that opening were ended with the input)
         self.assertEqual(helper.run("run", "--journal", folder).returncode, 0)
         run = self.serves("--journal", folder)
         self.is_ready(run, journal=folder, resources=3)
@@ -171,7 +171,7 @@ class Ready(Service):
         self.assertEqual(run.ends(), 0)
 
     def test_not_opened(self):
-        """where no journal is opened it says nothing"""
+        """if no journal is opened it sends nothing"""
         folder = self.spelled("journal", b"\x01 no journal", b"")
         for words, status in ((["--journal", folder], 3), (["--journal", self.place("none")], 5), ([], 2)):
             done = helper.run("serve", *words)
@@ -180,14 +180,14 @@ class Ready(Service):
 
 class Statuses(Service):
     def is_as_printed(self, run, folder):
-        """How all resources are, as status --json says of the same journal."""
+        """The status of all resources, as status --json prints it for the same journal."""
         [found] = self.asked(run, STATUS)
         printed = helper.replies(helper.run("status", "--json", "--journal", folder).stdout)
         self.assertEqual(found, {"ok": True, "status": [value for value in printed if "state" in value]})
         return {value["id"]: value for value in found["status"]}
 
     def test_states(self):
-        """how all resources are it says as status --json does: never run, in each other state, and with what runs and is queued"""
+        """the status of all resources is that of status --json: never run, in each other state, and with running and queued actions"""
         folder = self.journal()
         run = self.serves("--journal", folder, "--logs", self.here)
         self.assertEqual(self.is_as_printed(run, folder), {})
@@ -221,7 +221,7 @@ class Statuses(Service):
         self.assertEqual(run.ends(), 0)
 
     def test_opened(self):
-        """so it does after an opening, which has interrupted what ran"""
+        """the same after an opening, which has interrupted a running action"""
         folder = self.journal()
         run = self.serves("--journal", folder)
         self.asked(run, register("a", "Ends", code="sleep"), register("b", "Ends"), action("a", "start"), action("a", "stop"))
@@ -232,7 +232,7 @@ class Statuses(Service):
         self.assertEqual(run.ends(), 0)
 
     def test_among(self):
-        """among commands that come together it says how all is after those before it"""
+        """in a batch of commands the status is that after the commands before it"""
         run = self.serves()
         found = self.asked(run, STATUS, register("a", "Ends"), STATUS, register("b", "Ends"), {"op": "unregister", "id": "a"}, STATUS)
         self.assertEqual([[one["id"] for one in value["status"]] for value in found if "status" in value], [[], ["a"], ["b"]])
@@ -243,7 +243,7 @@ class Statuses(Service):
         self.assertEqual(run.ends(), 0)
 
     def test_run(self):
-        """run knows neither the version nor how all resources are"""
+        """run knows neither the version nor the status of all resources"""
         done = helper.run("run", "--memory", told=helper.lines(STATUS, VERSION))
         self.assertEqual(helper.replies(done.stdout), [{"error": "unknown-op", "number": 2}] * 2)
 
@@ -254,7 +254,7 @@ class Metadata(Service):
         self.agent("Tells", f'cat {self.here}/text\nexit "$(cat {self.here}/code)"\n')
 
     def answered(self, text, code=0, **more):
-        """What serve replies to a question for metadata where the agent gives these bytes, and what run prints."""
+        """The reply of serve to a question for metadata if the agent prints these bytes, and the output of run."""
         for name, content in (("text", text), ("code", str(code).encode())):
             with open(self.place(name), "wb") as file:
                 file.write(content)
@@ -265,7 +265,7 @@ class Metadata(Service):
         return helper.value_of(line), of_run
 
     def test_texts(self):
-        """metadata are one line with their text: with quotes, newlines and whatever else a text has; run prints their bytes"""
+        """metadata are one line with their text: with quotes, newlines and anything else in a text; run prints their bytes"""
         long = '"' * 65_536
         for text in ("", "<?xml version=\"1.0\"?>\n<agent name='x'>\n\t\\\n</agent>\n", "{}", '{"ok":true}\n', "\n\n",
                      "\u00e9\u20ac\U0001f389", "\0\x01\x1f\x7f\r\b\f\u2028\ufeff", long, "\u20ac" * 21_845):
@@ -275,7 +275,7 @@ class Metadata(Service):
                 self.assertEqual(of_run, b'{"meta":%d}\n' % len(text.encode()) + text.encode() + b"\n")
 
     def test_no_text(self):
-        """bytes that are no text are not repeated by serve, which says so, and are by run"""
+        """serve does not repeat bytes that are not a text, and says so; run repeats them"""
         for text in (b"\xff", b"<agent>\xe9</agent>", b"\x80", b"\xc0\x80", b"\xed\xa0\x80", b"\xf4\x90\x80\x80", b"text\xe2\x82",
                      b"x" * 65_535 + b"\xc3"):
             with self.subTest(text[:30]):
@@ -284,7 +284,7 @@ class Metadata(Service):
                 self.assertEqual(of_run, b'{"meta":%d}\n' % len(text) + text + b"\n")
 
     def test_ends(self):
-        """without metadata it says what happened as run does, whatever the bytes are"""
+        """without metadata it reports the cause as run does, whatever the bytes are"""
         for text, code, value in ((b"x" * 65_537, 0, {"end": "too-long"}), (b"\xff" * 65_537, 0, {"end": "too-long"}),
                                   (b"\xff", 5, {"code": 5, "end": "failed"}), (b"half", 1, {"code": 1, "end": "failed"})):
             of_serve, of_run = self.answered(text, code)
@@ -297,7 +297,7 @@ class Metadata(Service):
 
 
 class Tags(Service):
-    # one command after another, with every kind of reply, and what some of them are refused with
+    # one command after another, with every kind of reply, and some of their refusals
     KINDS = [
         (register("a", "Ends", tag="no tag"), None), (register("a", "Ends"), 6), (register("a b", "Ends"), 3),
         ({"op": "params", "id": "a", "params": {"code": "0"}}, None), ({"op": "params", "id": "a", "params": LARGE}, 12),
@@ -325,7 +325,7 @@ class Tags(Service):
         return [value for value in helper.replies(done.stdout) if not helper.is_notice(value)]
 
     def test_kinds(self):
-        """each kind of line has its tag in its reply, whatever that is, and the reply is else the same without it"""
+        """each kind of line has its tag in its reply, whatever that is, and the reply is otherwise the same as without it"""
         self.agent("Text", "printf '<a b=\"c\"/>'\n")
         self.agent("Bytes", "printf '\\377'\n")
         plain = self.replies([None] * len(self.KINDS))
@@ -334,13 +334,13 @@ class Tags(Service):
         tags = [f"{place} {TAGS[place % len(TAGS)][:10]}" for place in range(len(self.KINDS))]
         found = self.replies(tags)
         self.assertEqual([value.get("tag") for value in found], tags)
-        # (what runs and is queued then is a matter of time)
+        # (running and queued actions are then a matter of time)
         loose = ("running", "queued", "results", "status", "tag")
         for pair in zip(found, plain):
             self.assertEqual(*[{key: part for key, part in timeless(value).items() if key not in loose} for value in pair])
 
     def test_texts(self):
-        """a tag is any text of at most 64 bytes, and repeated as such, however it is written; what is none is refused, and does nothing"""
+        """a tag is any text of at most 64 bytes, repeated as that text however it is written; an invalid one is refused, with no effect"""
         run = self.serves()
         for tag in TAGS:
             self.assertEqual(self.asked(run, tagged(LIST, tag)), [{"ok": True, "resources": [], "tag": tag}])
@@ -359,7 +359,7 @@ class Tags(Service):
         self.assertEqual(run.ends(), 0)
 
     def test_lost(self):
-        """a line that is no object, that is too long or has a key twice has no tag; one without an operation has"""
+        """a line that is not an object, is too long or has a repeated key has no tag; one without an operation has"""
         run = self.serves()
         lost = [b'{"op":"list","tag":"a"', b'["tag","a"]', b'"tag"', b"5", b'{"op":"list","tag":"a"} x',
                 b'{"op":"list","tag":"a","tag":"a"}', b'{"op":"list","op":"list","tag":"a"}',
@@ -376,7 +376,7 @@ class Tags(Service):
         self.assertEqual(run.ends(), 0)
 
     def test_order(self):
-        """a tag that is none is refused after all else that is wrong with its line, without a tag, and before what its resource refuses"""
+        """an invalid tag is refused after all other faults of its line, without a tag, and before refusals by its resource"""
         run = self.serves()
         for command, number, key in ((action("/", "start"), 3, "id"), (action("a", "fly"), 4, "action"), ({"op": "fly"}, 2, "op"),
                                      ({}, 1, "op"), (action("a", "start", timout=5), 4, "timout"), ({"op": "info", "id": "a"}, 4, "tag"),
@@ -388,7 +388,7 @@ class Tags(Service):
         self.assertEqual(run.ends(), 0)
 
     def test_limits(self):
-        """a refusal of what is full or spent has the tag of its line, and so has that of a device that failed, but not the last line"""
+        """a refusal of what is full or spent has the tag of its line, and so has that of a failed device, but not the last line"""
         run = self.serves()
         names = [f"r{place}" for place in range(258)]
         found = self.asked(run, *[tagged(register(name, "Ends"), name) for name in names])
@@ -406,7 +406,7 @@ class Tags(Service):
         run = self.serves("--journal", folder, restore_signals=False)
         [refused] = self.asked(run, action("a", "start", tag="spent"))
         self.assertEqual((refused["number"], refused["tag"]), (13, "spent"))
-        # no file of it may grow any more, so the record of a command is refused
+        # its files may not grow any more, so the record of a command is refused
         size = os.path.getsize(os.path.join(folder, "part-a"))
         resource.prlimit(run.run.pid, resource.RLIMIT_FSIZE, (size, size))
         run.tell(tagged(register("b", "Ends"), "device"), tagged(LIST, "behind"))
@@ -417,7 +417,7 @@ class Tags(Service):
 
     @helper.slow
     def test_full(self):
-        """so has that of a full journal; a turn that finds it so has none"""
+        """so has a refusal by a full journal; the line of a turn that finds it full has none"""
         run = self.serves("--memory", "--tidy-at", "0")
         large = {key: part for key, part in LARGE.items() if key != "p0"}
         self.asked(run, register("a", "Ends"), register("b", "Ends"), recur("b", 20))
@@ -435,7 +435,7 @@ class Tags(Service):
         self.assertEqual(run.ends(), 0)
 
     def test_together(self):
-        """sixty-four commands in one batch, each with its own tag, and the notices of their calls; so many more with others between them"""
+        """sixty-four commands in one batch, each with its own tag, and the notices of their calls; and as many with others between them"""
         run = self.serves("--journal", self.journal())
         names = [f"r{place}" for place in range(64)]
         found = self.asked(run, *[tagged(register(name, "Ends"), f"registers {name}") for name in names])
@@ -458,7 +458,7 @@ class Tags(Service):
         self.assertEqual(run.ends(), 0)
 
     def test_notices(self):
-        """each notice has the tag of its call, or none where that has none, of resources side by side and of monitors that recur"""
+        """each notice has the tag of its call, or none if that has none, for resources in parallel and recurring monitors"""
         run = self.serves()
         tags = {"a": "tag of a", "b": None, "c": "", "d": "\u20ac"}
         self.asked(run, *[register(name, "Ends", code="7") for name in tags])
@@ -467,7 +467,7 @@ class Tags(Service):
         calls = {reply["call"]: reply.get("tag") for reply in replies}
         self.assertEqual([*calls.values()], [*tags.values(), *[None] * 4, *[f"once {name}" for name in tags] * 3])
         self.eventually("a hundred monitors", lambda: len(run.told()) > 100)
-        told = run.told()  # (more come while these are looked at)
+        told = run.told()  # (more come while these are checked)
         self.assertEqual([value.get("tag") for value in told], [calls[value["call"]] for value in told])
         self.assertEqual({value["call"] for value in told}, set(calls))
         for _, line in run.lines:
@@ -475,7 +475,7 @@ class Tags(Service):
         self.assertEqual(run.ends(), 0)
 
     def test_outcomes(self):
-        """however its action ended: by its code, a signal or a timeout, or where it was not started"""
+        """however its action ended: by its code, a signal or a timeout, or if it was not started"""
         run = self.serves()
         kinds = [("kill", "signaled"), ("sleep", "timed-out"), ("7", "done"), ("none", "not-started")]
         self.asked(run, *[register(code, "None" if code == "none" else "Ends", code=code) for code, _ in kinds])
@@ -486,7 +486,7 @@ class Tags(Service):
         self.assertEqual(run.ends(), 0)
 
     def test_withdrawn(self):
-        """what is queued and withdrawn, cancelled, or gone with its resource leaves its tag to no other call"""
+        """a queued action that is withdrawn, cancelled, or gone with its resource leaves its tag to no other call"""
         run = self.serves()
         self.asked(run, register("a", "Ends", code="gate", gate=self.gate), register("b", "Ends"))
         found = self.asked(run, action("a", "start", tag="start"), action("a", "stop", tag="stop"), action("a", "monitor"),
@@ -509,7 +509,7 @@ class Tags(Service):
         self.assertEqual(run.ends(), 0)
 
     def test_held(self):
-        """lines that wait while an agent gives its metadata, or after a drain, keep theirs, as do the notices that come meanwhile"""
+        """lines that wait during metadata, or after a drain, keep their tags, as do the notices that come meanwhile"""
         self.agent("Slow", "sleep 1\nprintf text\n")
         run = self.serves()
         self.asked(run, register("a", "Ends"), recur("a", 30, tag="recurs"))
@@ -526,7 +526,7 @@ class Tags(Service):
         self.assertEqual(run.ends(), 0)
 
     def test_left(self):
-        """after an end nothing has a tag: neither a report nor a monitor that goes on; what still runs at a leave has its own"""
+        """after an end there are no tags, on a report or for a monitor that goes on; an action that still runs at a leave keeps its own"""
         folder = self.journal()
         run = self.serves("--journal", folder)
         self.asked(run, register("a", "Ends", code="gate", gate=self.gate), register("b", "Ends"))
@@ -563,7 +563,7 @@ class Tags(Service):
 
     @helper.slow
     def test_told(self):
-        """a call whose result was told keeps no tag: after 18,000 of them one that recurs has its own"""
+        """a call whose result was reported keeps no tag: after 18,000 of them a recurring one has its own"""
         run, names = self.serves(), [f"r{place}" for place in range(200)]
         self.asked(run, register("a", "Ends"), recur("a", 50, tag="the oldest"), *[register(name, "None") for name in names])
         for _ in range(3):
@@ -579,7 +579,7 @@ class Tags(Service):
         self.assertEqual(run.ends(), 0)
 
     def test_kept(self):
-        """the tags of 16,384 calls are kept that have a result to come or were withdrawn; of more the oldest is forgotten"""
+        """the tags of 16,384 calls are kept whose result is to come or that were withdrawn; if there are more the oldest is dropped"""
         run = self.serves()
         self.asked(run, register("a", "Ends", code="gate", gate=self.gate), register("b", "Ends"), action("a", "start"),
                    recur("b", 50, tag="the oldest"), recur("b", 51, tag="the next"))
@@ -621,7 +621,7 @@ class Chance(Service):
             lambda: {dice.choice(["op", "id"]): 5}])()
 
     def line(self, dice):
-        """A line by chance, and whether its reply has to have a tag: of some the line is broken, or its tag is none."""
+        """A random line, and whether its reply has to have a tag: some lines are broken, or their tag is invalid."""
         command = self.command(dice)
         if dice.random() < 0.7:
             text = dice.choice(TAGS) if dice.random() < 0.3 else f"{dice.randrange(1 << 60):x}"
@@ -639,7 +639,7 @@ class Chance(Service):
         return bytes(line)
 
     def tag_of(self, line):
-        """The tag that a line's reply has to have, by what is written of tags; None where it has none."""
+        """The tag that a line's reply has to have, by the documentation of tags; None if it has none."""
         def once(pairs):
             if len({key for key, _ in pairs}) < len(pairs):
                 raise ValueError
@@ -654,7 +654,7 @@ class Chance(Service):
 
     @chance.by_chance(4)
     def test_chance(self, dice):
-        """of lines by chance, in pieces, each reply has the tag of its line, in their order, and each notice that of its call"""
+        """for random lines, in pieces, each reply has the tag of its line, in their order, and each notice that of its call"""
         self.agent("Tells", "printf '<agent/>'\n")
         asked = [line for line in (self.line(dice) for _ in range(600)) if line]
         text, wanted = b"".join(line + b"\n" for line in asked), [self.tag_of(line) for line in asked]

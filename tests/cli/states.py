@@ -1,6 +1,6 @@
 #!/usr/bin/env python3
-"""How resources are, as a status tells it: by what their last actions ended with, over an agent that ends as it is told to, after a
-timeout, an interruption and a withdrawal, with the status of --exit-code, of all resources and of one, as a table and as JSON.
+"""The states of resources as a status prints them: by the ends of their last actions, with an agent that ends as told, after a timeout, an
+interruption and a withdrawal, with the status of --exit-code, for all resources and for one, as a table and as JSON.
 Use: states.py PROGRAM"""
 import re
 import sys
@@ -9,11 +9,11 @@ import time
 sys.path[0] += "/../lib"
 import helper  # noqa: E402
 
-# The exit status of a status by which a person is asked for, or not.
+# Whether an administrator has to act, by the exit status.
 ALARM = {"failed": 9, "unknown": 9}
-# a length of time, and the room that it leaves in its column
+# a duration, and the space that it leaves in its column
 LENGTH = re.compile(r"\d+ (ms|s|min)\b *|(?<=STATE) +")
-# What each action ended with in turn, and how the resource is then.
+# The ends of actions, one after the other, and the state of the resource after them.
 BY_CODES = [
     (0, "monitor", "started"), (7, "monitor", "failed"), (0, "start", "started"), (0, "validate-all", "started"),
     (0, "promote", "promoted"), (0, "reload-agent", "promoted"), (0, "demote", "started"), (0, "stop", "stopped"),
@@ -21,7 +21,7 @@ BY_CODES = [
     (0, "start", "started"), (1, "stop", "failed"), (0, "stop", "stopped"), (9, "monitor", "failed"), (255, "monitor", "failed"),
     (0, "promote", "promoted"), (190, "promote", "failed"),
 ]
-# The code of a monitor, what it was expected to end with, and how the resource is then.
+# The code of a monitor, the expected code, and the state of the resource after it.
 EXPECTED = [(7, 7, "stopped"), (8, 8, "promoted"), (191, 8, "promoted"), (0, 8, "failed"), (0, 7, "failed")]
 
 
@@ -41,17 +41,17 @@ class States(helper.Check):
         self.asks({"op": "params", "id": "r1", "params": {"code": str(code)}}, helper.action("r1", action, **more), {"op": "drain"})
 
     def status(self, *words, status=0):
-        """What a status prints, which ends so."""
+        """The output of a status, which ends so."""
         done = helper.run("status", "--journal", self.folder, *words)
         self.assertEqual((done.returncode, done.stderr), (status, b""), f"status {' '.join(words)}:\n{done.stdout.decode()}")
         return done.stdout
 
     def condition(self, name):
-        """The line of a resource in JSON that tells its state."""
+        """The line of a resource in JSON that has its state."""
         return helper.replies(self.status("--json", name))[-1]
 
     def is_so(self, name, state):
-        """A resource is in this state, in a table and as JSON, and --exit-code says whether a person is asked for."""
+        """A resource is in this state, in a table and as JSON, and --exit-code says whether an administrator has to act."""
         table = self.status().decode()
         row = re.search(rf"^{name} +\S+ +(.*?)( since \d+ [a-z]+)?  ", table, re.MULTILINE)
         self.assertEqual(row and row[1], state, table)
@@ -63,7 +63,7 @@ class States(helper.Check):
         return plain.decode()
 
     def test_none(self):
-        """none has run"""
+        """no action has run"""
         for name in ("r1", "r2"):
             self.is_so(name, "never run")
 
@@ -75,7 +75,7 @@ class States(helper.Check):
                 self.is_so("r1", state)
 
     def test_expected(self):
-        """by what a monitor was expected to find"""
+        """by the expected code of a monitor"""
         for code, expected, state in EXPECTED:
             with self.subTest(f"{code}, where {expected} was expected"):
                 self.ends(code, "monitor", expect=expected)
@@ -103,7 +103,7 @@ class States(helper.Check):
         self.is_so("r1", "unknown")
 
     def test_all(self):
-        """of all resources, one that asks for a person is enough"""
+        """for all resources, a failed or unknown one is enough"""
         self.status("--exit-code")
         self.ends(1, "monitor")
         self.status("--exit-code", status=9)
@@ -112,7 +112,7 @@ class States(helper.Check):
         self.status("--exit-code")
 
     def test_since(self):
-        """since the first of the results from which on all tell the same"""
+        """since the first of the results after which no other state follows"""
         self.ends(0, "start")
         self.ends(6, "monitor")
         first = self.condition("r1")

@@ -1,6 +1,6 @@
 #!/usr/bin/env bash
-# A journal as a table for a person: of nothing, of what has ended or was withdrawn, of what runs and is queued under an executor that
-# holds the journal, of one resource, as JSON of all and of one, and in colour on a terminal alone. Nothing is changed by a look.
+# A journal as a table for people: an empty one, ended and withdrawn actions, running and queued actions of an executor that holds the
+# journal, one resource, JSON for all and for one, and colours only on a terminal. Status changes nothing.
 # Use: status.sh PROGRAM
 set -u
 . "$(dirname "$0")/../lib/common.sh" "$@"
@@ -15,7 +15,7 @@ esac
 AGENT
 chmod +x "$here/resource.d/test/Slow"
 
-# A status in which each length of time is TIME. Sets $status. Use: tells WORD..
+# A status with TIME in place of each duration. Sets $status. Use: tells WORD..
 tells() {
     status=0
     "$program" status "$@" > "$here/told" 2> "$here/err" || status=$?

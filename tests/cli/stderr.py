@@ -1,9 +1,8 @@
 #!/usr/bin/env python3
-"""What is written on standard error while a run goes on, and that nothing waits for it: a start that the system refuses is named with
-its run, its resource and the system's error; a pipe that is full and that nobody reads stops no reply, and the first line that is
-written after it has been read says how many were left out; a line is cut at 4,096 bytes; a reader that goes away stops nothing; a
-signal that ends an agent is named. And what is written of a fault that ends the program: one line for a program; at a terminal and in
-the system's journal the cause and what can be done, too.
+"""The lines on standard error during a run, for which nothing waits. A start that the system refuses is named with its run, its resource
+and the system's error. A full pipe that nobody reads delays no reply, and the first line that is written after it has been read has the
+number of lines that were left out. A line is cut at 4,096 bytes. A reader that goes away stops nothing. A signal that ends an agent is
+named. A fault that ends the program has one line for programs; at a terminal and in the system's journal also the cause and the remedy.
 Use: stderr.py PROGRAM"""
 import os
 import pty
@@ -40,7 +39,7 @@ def fill(pipe):
 
 
 def taken(pipe):
-    """All that a pipe has."""
+    """All that a pipe holds."""
     os.set_blocking(pipe, False)
     found = b""
     try:
@@ -54,7 +53,7 @@ def taken(pipe):
 class StandardError(helper.Check):
     def setUp(self):
         super().setUp()
-        # the system starts no file that has no first line
+        # the system does not start a file without a first line
         self.agent("Bare", "")
         with open(self.place("resource.d/test/Bare"), "w", encoding="ascii") as script:
             script.write("exit 0\n")
@@ -73,7 +72,7 @@ class StandardError(helper.Check):
         return self.heard(*(words or ("serve", "--memory")), "--root", self.here, err=f"/proc/{os.getpid()}/fd/{self.writer}", **how)
 
     def starts(self, run, count, name="r1"):
-        """Starts that the system refuses; each is reported, and a question behind it is answered."""
+        """Starts that the system refuses; each is reported, and a question after it is answered."""
         for _ in range(count):
             before, ends = len(run.values()), len(run.told())
             run.tell(helper.action(name, "start"), {"op": "list"})
@@ -82,7 +81,7 @@ class StandardError(helper.Check):
             self.assertEqual(run.told()[-1]["outcome"], "not-started")
 
     def test_refused(self):
-        """a start that the system refuses is named with its run, its resource and the error, but a missing agent and a denied one"""
+        """a start that the system refuses is named with its run, its resource and the error, except a missing agent and a denied one"""
         os.symlink("Loop", self.place("resource.d/test/Loop"))
         self.agent("Denied", "")
         os.chmod(self.place("resource.d/test/Denied"), 0o644)
@@ -99,7 +98,7 @@ class StandardError(helper.Check):
         self.assertEqual(taken(self.reader), "".join(wanted))
 
     def test_descriptors(self):
-        """so is one for which there is no descriptor more, with and without a log"""
+        """so is one for which no descriptor is left, with and without a log"""
         for words in ([], ["--log", self.place("log")]):
             with self.subTest(words):
                 run = self.opened("serve", "--memory", *words)
@@ -131,7 +130,7 @@ class StandardError(helper.Check):
                 self.assertEqual(taken(self.reader), wanted)
 
     def test_full(self):
-        """a full pipe stops no reply and no notice, and the next line that is written says how many were left out"""
+        """a full pipe delays no reply and no notice, and the next line that is written has the number of lines left out"""
         fill(self.writer)
         run = self.opened()
         run.tell(helper.register("r1", "Bare"))
@@ -142,7 +141,7 @@ class StandardError(helper.Check):
         self.assertEqual(taken(self.reader), "".join(wanted))
 
     def test_full_opening(self):
-        """a full pipe stops no opening that has something to say, and no end"""
+        """a full pipe delays no opening that has something to report, and no end"""
         folder = self.journal()
         os.mkdir(os.path.join(folder, "executor.new"))
         for word in ("run", "serve"):
@@ -171,10 +170,10 @@ class StandardError(helper.Check):
         self.assertEqual((done.returncode, first, len(advice)), (7, b"ocfexec: input or output\n", 1))
         self.assertEqual(cut, b"/" + b"x" * 4094 + b"\n")
 
-    # What is written of a fault that ends the program.
+    # The lines of a fault that ends the program.
 
     def faults(self):
-        """Runs that end by a fault: their words, their status, their line, and how the lines for a person begin."""
+        """Runs that end by a fault: their arguments, their status, their line, and how the lines for people begin."""
         return [
             (["run"], 2, "give one of --journal and --memory", []),
             (["status", "--memory", "r9"], 2, "no resource of this id", ["Nothing was changed. "]),
@@ -194,7 +193,7 @@ class StandardError(helper.Check):
             self.assertTrue(one.startswith(wanted), f"{wanted} and found {one}")
 
     def on(self, words, err, **named):
-        """The status of a run whose standard error is this, and whose environment names these."""
+        """The status of a run with this standard error, and with these variables."""
         return subprocess.run([PROGRAM, *words], stdin=subprocess.DEVNULL, stdout=subprocess.DEVNULL, stderr=err, timeout=120,
                               env={**os.environ, **named}).returncode
 
@@ -211,7 +210,7 @@ class StandardError(helper.Check):
                     self.is_told((code, taken(self.reader)), status, line, [])
 
     def test_journal(self):
-        """the system's journal has the cause and what can be done, too"""
+        """the system's journal also has the cause and the remedy"""
         for words, status, line, more in self.faults():
             with self.subTest(words):
                 code = self.on(words, self.writer, **helper.journal_stream(self.writer))
@@ -227,7 +226,7 @@ class StandardError(helper.Check):
         os.close(terminal), os.close(main)
 
     def test_unread(self):
-        """where nobody reads standard output any more a person is told so"""
+        """if nobody reads standard output any more, a line for people says so"""
         run = subprocess.Popen([PROGRAM, "serve", "--memory"], stdin=subprocess.PIPE, stdout=subprocess.PIPE, stderr=self.writer,
                                env={**os.environ, **helper.journal_stream(self.writer)})
         helper.opening(run.stdout)

@@ -1,22 +1,22 @@
 #!/usr/bin/env bash
-# Runs `PROGRAM` with words and with input and output that the gate cannot give it, and compares the exit status and all
-# that it writes on standard error: one line for a program, and what a person is told too where it goes to the system's journal. The
-# statuses 3, 5 and 6 of journals in files are those of files.sh.
+# Runs `PROGRAM` with arguments and with input and output that the gate cannot give it, and compares the exit status and all lines on
+# standard error: one line for programs, and the lines for people if it goes to the system's journal. The statuses 3, 5 and 6 of journals in
+# files are in files.sh.
 # Use: words.sh PROGRAM
 set -u
 . "$(dirname "$0")/../lib/common.sh" "$@"
 
-# What a person can do, as it stands behind the line of a fault.
+# The remedy, as it is printed after the line of a fault.
 check_streams="Check what standard input and output are connected to. A command without a reply may be recorded."
 output_line="ocfexec: input or output"
 
-# Compares the status, and what was written on standard error. Use: ended NAME STATUS WANTED_STATUS TEXT
+# Compares the status, and the lines on standard error. Use: ended NAME STATUS WANTED_STATUS TEXT
 ended() {
     same "$1, status" "$3" "$2"
     same "$1, standard error" "$4" "$(cat "$here/err")"
 }
 
-# Runs the program with these words. Use: ends STATUS TEXT WORD..
+# Runs the program with these arguments. Use: ends STATUS TEXT WORD..
 ends() {
     local wanted=$1 text=$2
     shift 2
@@ -24,7 +24,7 @@ ends() {
     ended "$*" $? "$wanted" "$text"
 }
 
-# A usage fault that clap tells, in a text of its own that holds this. Use: misused PART WORD..
+# A usage fault that clap reports, with a text of its own that contains this. Use: misused PART WORD..
 misused() {
     local part=$1 status
     shift
@@ -40,7 +40,7 @@ wrote() {
     same "$1, standard output" "$2" "$(cat "$here/out")"
 }
 
-# Whether each of these parts stands in standard output. Use: holds NAME PART..
+# Whether standard output contains each of these parts. Use: holds NAME PART..
 holds() {
     local name=$1 part
     shift
@@ -49,14 +49,14 @@ holds() {
     done
 }
 
-# What a person is told where standard output fails for this reason; of what reads commands with what can be done.
+# The lines for people if standard output fails for this reason; for a program that reads commands also the remedy.
 # Use: unwritten REASON WORD..
 unwritten() {
     printf '%s\nstandard output could not be written: %s\n' "$output_line" "$1"
     case $2$3 in run--memory | serve*) echo "$check_streams" ;; esac
 }
 
-# Runs the program with standard output on a device that is full. Use: full_output WORD..
+# Runs the program with standard output on a full device. Use: full_output WORD..
 full_output() {
     printf '{"op":"list"}\n' | "$program" "$@" > /dev/full 2> "$here/err"
     ended "$* > /dev/full" "${PIPESTATUS[1]}" 7 "$output_line"
@@ -77,19 +77,19 @@ closed_output() {
     ended "$* >&-, to a person" "${PIPESTATUS[1]}" 7 "$(unwritten "Bad file descriptor (os error 9)" "$@" "")"
 }
 
-# Runs the program behind a pipe whose reader is gone. Use: broken_output WORD..
+# Runs the program with a pipe whose reader is gone. Use: broken_output WORD..
 broken_output() {
     { sleep 0.2 && printf '{"op":"list"}\n' | explained "$here/err" "$program" "$@"; echo "${PIPESTATUS[1]}" > "$here/status"; } | true
     ended "$* | true" "$(cat "$here/status")" 7 "$(unwritten "Broken pipe (os error 32)" "$@" "")"
 }
 
-# The same of a look, whose reader has read enough. Use: left_output WORD..
+# The same for a reading subcommand, whose reader has read enough. Use: left_output WORD..
 left_output() {
     { sleep 0.2 && explained "$here/err" "$program" "$@" < /dev/null; echo "$?" > "$here/status"; } | true
     ended "$* | true" "$(cat "$here/status")" 0 ""
 }
 
-# What is asked for
+# Texts that are requested
 ends 0 "" --help
 holds --help "Usage: ocfexec" "run " "show " --version Example: "ocfexec run --memory" "man ocfexec"
 for command in register unregister params exec recur cancel withdraw forget list info history drain watch meta tidy; do
@@ -127,7 +127,7 @@ wrote "show --memory" '{"ok":true,"resources":[]}'
 
 checked "texts that are asked for"
 
-# The options of a run, as the metadata of an agent show them: what they are, and that there are none. Use: takes REPLY WORD..
+# The options of a run, as the metadata of an agent show them: their values, and their absence. Use: takes REPLY WORD..
 takes() {
     local wanted=$1
     shift
@@ -147,7 +147,7 @@ wrote "show of a new journal" '{"ok":true,"resources":[]}'
 
 checked "the options of a run"
 
-# The journal that is looked at where no word names one
+# The default journal, if no argument names one
 export OCFEXEC_JOURNAL=$here/journal
 ends 0 "" show
 wrote "show of the journal of the environment" '{"ok":true,"resources":[]}'
@@ -169,7 +169,7 @@ fi
 
 checked "the journal that is looked at"
 
-# Words that are not those of the command line
+# Arguments that are not those of the command line
 ends 2 "ocfexec: give one of --journal and --memory" run
 ends 2 "ocfexec: give one of --journal and --memory" show --memory --journal folder
 ends 2 "ocfexec: give one of --journal and --memory" run --memory --journal folder
@@ -249,8 +249,8 @@ same "run --journal none 2> /dev/full, status" 5 $?
 
 checked "output and input that fail"
 
-# Memory that is refused: from little memory to enough, each run ends with 4 and its line, or as it should, or is ended by
-# the system before it begins. At least one that is refused and one that is answered are wanted.
+# Refused memory: from little memory to enough, each run ends with 4 and its line, or as it should, or the system ends it before it begins.
+# At least one has to be refused and one answered.
 printf '{"op":"list"}\n' > "$here/line"
 refused=0
 answered=0

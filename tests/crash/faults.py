@@ -1,7 +1,7 @@
 #!/usr/bin/env python3
-"""A device that fails under a program that serves, at a turn of its own and at a command, a drain and a tidy: it sends the line of the
-fault and ends at once, its agents are gone, and the next opening reports what ran. A run answers on, to the end of its input. A
-journal that is full: a serving program says so once, and again once it was not.
+"""A device that fails under serve, in a turn of its own and in a command, a drain and a tidy: serve sends the line of the fault and ends at
+once, its agents are gone, and the next opening reports the running action. A run goes on answering, to the end of its input. A full
+journal: serve reports it once, and again after it was not full.
 Use: faults.py PROGRAM"""
 import errno
 import os
@@ -42,7 +42,7 @@ class Faults(helper.Check):
         return self.numbers_in(self.place_of_pid("slow"))[0]
 
     def ends_by_fault(self, run, began):
-        # the program ends by itself while its input is open, and says why
+        # the program ends by itself while its input is open, and reports the cause
         status = run.run.wait(helper.PATIENCE)
         self.took_less(1, time.monotonic() - began, "an end after a fault")
         run.reader.join()
@@ -53,13 +53,13 @@ class Faults(helper.Check):
         self.assertTrue(told and told[0].startswith("ocfexec: disk"), told)
 
     def interrupted(self, journal):
-        # what the next opening reports
+        # the report of the next opening
         done = helper.run("run", "--journal", journal, "--root", self.here)
         self.assertEqual(done.returncode, 0, done.stderr)
         return {(value["id"], value["action"]) for value in helper.replies(done.stdout) if value["outcome"] == "interrupted"}
 
     def test_own_turn(self):
-        """the device fails as a monitor is recorded: the line, status 5, no agent left, what ran is reported"""
+        """the device fails as a monitor is recorded: the line, status 5, no agent left, the running action is reported"""
         for name, number in (("io", errno.EIO), ("space", errno.ENOSPC)):
             with self.subTest(name):
                 journal = self.journal(name)
@@ -125,14 +125,14 @@ class Faults(helper.Check):
         return sum(text in line for _, line in run.lines[before:])
 
     def asks(self, run, command, many):
-        # asks it so often, waits for all replies, and says whether one is that the journal is full
+        # sends it this often, waits for all replies, and returns whether one says that the journal is full
         before = len(run.lines)
         run.tell(*[command] * many, {"op": "list"})
         self.eventually("the resources", lambda: self.told(run, before, '"resources"'))
         return self.told(run, before, '"number":14') > 0
 
     def fill(self, run):
-        # long commands until none fits, and then short ones; how many lines have told that the journal is full then
+        # long commands until none fits, and then short ones; returns how many lines have reported then that the journal is full
         params = {f"p{place}": "x" * 1000 for place in range(15)}
         while not self.asks(run, {"op": "params", "id": "full", "params": params}, 20):
             pass
@@ -142,7 +142,7 @@ class Faults(helper.Check):
         return self.told(run, 0, '{"end":"full"}')
 
     def test_full(self):
-        """a full journal is told once by a program that serves, and again once it was not full"""
+        """serve reports a full journal once, and again after it was not full"""
         run = self.heard("serve", "--memory", "--tidy-at", "0", "--root", self.here)
         run.tell(register("full", "Quick"), register("quick", "Quick"), {"op": "recur", "id": "quick", "interval": 20})
         self.assertEqual(self.fill(run), 1)

@@ -1,12 +1,12 @@
 #!/usr/bin/env python3
 # check: slow
-"""Refuses each growth of memory of whole runs, one in each run: the K-th malloc, calloc or realloc of the program answers that there
-is no memory (tests/shims/growths.c, loaded before the C library), for K = 1, 2, .. until a run has none; of the opening of a full journal
-only one in 199. Wanted of each: no signal; an opening that finds no memory ends with status 4, has answered nothing and leaves the files
-as they were, but for a creation; a command is refused with `memory`, and all else is that of a run without it; a turn ends as `memory`,
-or an agent is not started, and nothing that was asked for is lost; a reply or a notice ends the run with status 7, and what was told
-stands in the journal; else the run is as any other.
-Use: growths.py PROGRAM, with LINKED in the environment where tests/shims/growths.c is linked into the program"""
+"""Refuses each growth of memory of whole runs, one in each run: the K-th malloc, calloc or realloc of the program fails
+(tests/shims/growths.c, loaded before the C library), for K = 1, 2, .. until a run has no K-th one; for the opening of a full journal only
+one in 199. Wanted each time: no signal. An opening to which memory is refused ends with status 4, has answered nothing and leaves the files
+as they were, except for a creation. A command is refused with `memory`, and everything else is as in a run without it. A turn ends as
+`memory`, or an agent is not started, and no request is lost. A reply or a notice ends the run with status 7, and what was sent is in the
+journal. Otherwise the run is like any other.
+Use: growths.py PROGRAM, with LINKED in the environment if tests/shims/growths.c is linked into the program"""
 import collections
 import json
 import os
@@ -22,14 +22,14 @@ import helper  # noqa: E402
 from helper import PROGRAM  # noqa: E402
 
 MEMORY = {"error": "memory", "number": 15}
-# How standard error begins with each status, where it goes to the system's journal.
+# How standard error begins with each status, if it goes to the system's journal.
 ENDS = {0: b"", 4: b"ocfexec: memory\nFree memory ", 7: b"ocfexec: input or output\nA reply or a notice found no memory."}
 DRAIN, LIST = {"op": "drain"}, {"op": "list"}
 
 
 class Step:
-    """A command, how long is waited before it, in seconds, whether what it asked for is awaited where turns make themselves, and
-    whether the next one is written with it."""
+    """A command; how long to wait before it, in seconds; whether its result is awaited when turns make themselves; and whether the next
+    command is written with it."""
 
     def __init__(self, command, pause=0.0, awaits=False, joins=False):
         self.command, self.pause, self.awaits, self.joins = command, pause, awaits, joins
@@ -86,7 +86,7 @@ def own_runs(notices):
 
 
 def files_of(folder):
-    """The bytes of a journal's parts; a file that is not there has none."""
+    """The bytes of a journal's parts; a missing file has none."""
     found = []
     for name in ("part-a", "part-b"):
         path = os.path.join(folder, name)
@@ -98,7 +98,7 @@ def files_of(folder):
 
 
 def state(folder):
-    """What `show` tells of a journal, without moments: a pair of replies for each id."""
+    """The output of `show` for a journal, without moments: a pair of replies for each id."""
     values = plain(helper.replies(helper.shown(folder)))
     return {name: values[1 + 2 * place:3 + 2 * place] for place, name in enumerate(values[0]["resources"])}
 
@@ -107,7 +107,7 @@ class Growths(helper.Check):
     def setUp(self):
         super().setUp()
         self.counts, self.gate = self.place("counts"), self.place("gate")
-        # a sanitized program has the counts in it
+        # a sanitized program contains the counters
         self.shim = {} if helper.number("LINKED", 0) else {"LD_PRELOAD": helper.shim("growths.c", self.here)}
 
     # A run.
@@ -118,7 +118,7 @@ class Growths(helper.Check):
         return {**self.shim, "GROWTHS": self.counts, "REFUSE": str(refuse)}
 
     def value(self, run):
-        # the next value that is answered; None at the end of the output
+        # the next value that is sent; None at the end of the output
         line = run.stdout.readline()
         if not line.endswith(b"\n"):
             return None
@@ -132,7 +132,7 @@ class Growths(helper.Check):
         return plain(value)
 
     def open_gate(self):
-        # what the first of two agents waits for
+        # the first of two agents waits for this
         with open(self.gate, "w", encoding="ascii"):
             pass
 
@@ -171,14 +171,15 @@ class Growths(helper.Check):
                     return
 
     def play(self, words, steps, refuse=0):
-        """A run of these words, whose steps are asked one after another."""
+        """A run with these arguments, whose steps are sent one after another."""
         if os.path.exists(self.gate):
             os.remove(self.gate)
         if helper.action("r2", "start") not in [step.command for step in steps]:
             self.open_gate()
         played = Played()
         reader, writer = os.pipe()
-        # in a session of its own: a run ends the background jobs of its session that name its resource, and parts of this run at once
+        # in a session of its own: a run ends the background jobs of its session that name its resource, and other runs go on at the same
+        # time
         run = subprocess.Popen([PROGRAM, *words], stdin=subprocess.PIPE, stdout=subprocess.PIPE, stderr=writer,
                                env={**self.environment(refuse), **helper.journal_stream(writer)}, start_new_session=True)
         os.close(writer)
@@ -200,14 +201,14 @@ class Growths(helper.Check):
             played.made, played.refused = struct.unpack("ll", file.read())
         return played
 
-    # What is wanted of it.
+    # The requirements.
 
     def is_told(self, found):
         self.assertIn(found.status, ENDS, found.err)
         self.assertTrue(found.err.startswith(ENDS[found.status]) or found.status == 0, found.err)
 
     def stands(self, steps, found, folder):
-        # what was acknowledged and told is in the journal; what was written at once may be there before it is acknowledged
+        # what was acknowledged and reported is in the journal; commands that were written at once may be there before they are acknowledged
         end = len(found.answers) + 1
         while end < len(steps) and steps[end - 1].joins:
             end += 1
@@ -238,7 +239,7 @@ class Growths(helper.Check):
         return "reply"
 
     def turned(self, base, found, lost):
-        # a turn that ended as memory, or an agent that was not started: all else is done
+        # a turn that ended as memory, or an agent that was not started: everything else is done
         starts = sum(value["outcome"] == "not-started" for value in found.told())
         ends = sum(value == {"end": "memory"} for values in found.answers for value in values)
         self.assertEqual(starts + ends, 1, "one turn that found no memory")
@@ -294,7 +295,8 @@ class Growths(helper.Check):
         return shutil.copytree(self.before, self.place("journal"))
 
     def sweep(self, words, steps, lost=0, before=None, opens=True, stride=1):
-        """Each growth of a run refused, or only those from shortly before the first line on, or one of so many, and how each ended."""
+        """Refuses each growth of a run, or only those from shortly before the first line on, or one in this many; returns how each run
+        ended."""
         self.known, self.places, self.before, ends = {}, set(), before, collections.Counter()
         folder = self.fresh()
         words = [word.replace("JOURNAL", folder) for word in words]
@@ -340,7 +342,7 @@ class Growths(helper.Check):
                 Step({"op": "cancel", **monitor}), Step(DRAIN), Step({"op": "cancel", **monitor}), Step(DRAIN)]
 
     def together(self):
-        # registrations, of which the last one but one is refused, with other commands and questions between them, all written at once
+        # registrations, of which the last but one is refused, with other commands and questions between them, all written at once
         names = ["r1", "r2", "r3", "r4"]
         commands = [*[helper.register(name, "Dummy", a="b") for name in names], LIST, {"op": "params", "id": "r2", "params": {"a": "c"}},
                     helper.register("r5", "Dummy"), {"op": "recur", "id": "r5", "interval": 3_600_000},
@@ -349,7 +351,7 @@ class Growths(helper.Check):
         return [*[Step(command, joins=True) for command in commands], Step({"op": "info", "id": "r2"})]
 
     def prepared(self, *commands):
-        # a journal that was left by a killed run behind these commands
+        # a journal left by a run that was killed after these commands
         folder = self.journal("prepared")
         run = helper.Heard("run", "--journal", folder, "--root", self.here, "--via", "sleep", "--tidy-at", "0")
         run.tell(*commands, LIST)
@@ -363,7 +365,7 @@ class Growths(helper.Check):
         self.sweep(self.words("serve"), self.listed(), opens=False)
 
     def test_together(self):
-        """commands that come together: one of them is refused, and the others go on"""
+        """a batch of commands: one of them is refused, and the others go on"""
         for word in ("run", "serve"):
             steps = self.together()
             if word == "run":
@@ -379,7 +381,7 @@ class Growths(helper.Check):
         self.sweep(self.words("serve", "--via", "echo"), self.started(), opens=False)
 
     def test_beside(self):
-        """two resources side by side"""
+        """two resources in parallel"""
         for word in ("run", "serve"):
             self.sweep(self.words(word), self.beside(), opens=False)
 
@@ -421,7 +423,7 @@ class Growths(helper.Check):
         self.sweep(self.words("run"), [Step(LIST), Step(LIST)], before=before)
 
     def shows(self, folder, words, ended):
-        # each growth of a show refused
+        # refuses each growth of a show
         files, base = files_of(folder), self.play(words, [])
         ends, refuse = collections.Counter(), 1
         while (found := self.play(words, [], refuse)).refused:
@@ -437,10 +439,10 @@ class Growths(helper.Check):
         print(f"growths: {' '.join(words[:2])}: {base.made} growths, by status: {dict(sorted(ends.items()))}", flush=True)
 
     def test_show(self):
-        """what is shown"""
+        """the output of show"""
         folder = self.prepared(helper.register("r1", "Dummy", a="b"), helper.action("r1", "start"))
         self.shows(folder, ["show", "--journal", folder], (0, 4, 7))
-        # a part in memory that can't grow is a device that failed
+        # a part in memory that cannot grow counts as a failed device
         self.shows(folder, ["show", "--memory"], (0, 4, 5, 7))
 
     def test_status(self):
@@ -449,7 +451,7 @@ class Growths(helper.Check):
         self.shows(folder, ["status", "--json", "--journal", folder], (0, 4, 7))
 
     def noticed(self, words, steps, key, before=None):
-        # each growth refused: a notice with this key is the one of a run without it, or the run ends by a reply without memory
+        # refuses each growth: a notice with this key is that of a run without a refusal, or the run ends by a reply without memory
         self.before = before
         folder = self.fresh()
         words = [word.replace("JOURNAL", folder) for word in words]
@@ -471,7 +473,7 @@ class Growths(helper.Check):
         print(f"growths: {words[0]} {self._testMethodName}: {base.made} growths, by status: {dict(sorted(ends.items()))}", flush=True)
 
     def test_tags(self):
-        """lines with tags: each reply and each notice has its own, or the run ends; of what comes together, too"""
+        """lines with tags: each reply and each notice has its own, or the run ends; in batches, too"""
         def tagged(steps):
             return [Step({**step.command, "tag": f"tag {place}"}, awaits=step.awaits, joins=step.joins) for place, step in enumerate(steps)]
 
@@ -506,7 +508,7 @@ class Growths(helper.Check):
         self.noticed(self.words("serve", "--leave-orphans"), [Step(LIST)], "lives", folder)
 
     def test_memory(self):
-        """a journal in memory: a part that can't grow is a device that failed"""
+        """a journal in memory: a part that cannot grow counts as a failed device"""
         base, ends, refuse = self.play(["run", "--memory"], self.listed()), collections.Counter(), 1
         while (found := self.play(["run", "--memory"], self.listed(), refuse)).refused:
             with self.subTest(refused=refuse):

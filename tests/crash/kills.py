@@ -1,8 +1,8 @@
 #!/usr/bin/env python3
-"""Kills `PROGRAM run` with signal 9 at random moments of a session whose agents are scripts, again and again on one journal. Wanted
-after each kill: what was acknowledged and what was told is found; what ran is reported as interrupted, and what was queued as
-dropped; a second opening reports nothing and writes nothing. The same is wanted of a copy of the journal's folder, made just before
-the kill. Wanted at the end: no agent ran that the journal does not know as begun, and none ran twice.
+"""Kills `PROGRAM run` with signal 9 at random moments of a session whose agents are scripts, again and again on one journal. Wanted after
+each kill: everything acknowledged and reported is found; running actions are reported as interrupted, and queued ones as dropped; a second
+opening reports nothing and writes nothing. The same holds for a copy of the journal's directory, made just before the kill. Wanted at the
+end: no agent ran without a begin in the journal, and none ran twice.
 Use: kills.py PROGRAM, with ROUNDS, at most 16, and SEED in the environment"""
 import random
 import shutil
@@ -22,7 +22,7 @@ class Kills(helper.Check):
         return [PROGRAM, "run", "--journal", folder, "--root", self.here]
 
     def session(self, number):
-        # each resource runs one action, so that its history tells what became of it
+        # each resource runs one action, so that its history shows the end of that action
         commands = []
         for place in range(AGENTS):
             name = f"r{number}-{place}"
@@ -35,7 +35,7 @@ class Kills(helper.Check):
             return out.read().split(b"\n")[:-1]
 
     def killed(self, number):
-        # what the program wrote before its folder was copied, and before it was killed, which is at a random line or later
+        # the output of the program before its directory was copied, and before it was killed, which is at a random line or later
         with open(self.place("in"), "wb") as text:
             text.write(self.session(number))
         wanted, later = random.randrange(3 * AGENTS), time.monotonic() + 30
@@ -59,7 +59,7 @@ class Kills(helper.Check):
         return helper.replies(done.stdout)
 
     def found(self, folder, acknowledged, told):
-        # what was acknowledged and told is found
+        # everything acknowledged and reported is found
         results = helper.results(folder)
         for name, call in acknowledged.items():
             self.assertIn(name, results, "a resource that was registered")
@@ -70,7 +70,7 @@ class Kills(helper.Check):
             self.assertEqual((end["call"], end["outcome"]), (notice["call"], notice["outcome"]), "a result that was told")
 
     def kept(self, number, replies, acknowledged, told, folder):
-        # whether a stopped journal holds what these replies acknowledged and told, and what was so before; and gives both
+        # checks that a journal after a crash holds what these replies acknowledged and reported, and the earlier ones; returns both
         answers = [reply for reply in replies if "ok" in reply]
         notices = [reply for reply in replies if helper.is_notice(reply)]
         self.assertIn(len(replies) - len(answers) - len(notices), (0, 1), "replies and notices alone, and an end")
@@ -87,7 +87,7 @@ class Kills(helper.Check):
         return acknowledged, told
 
     def ran(self):
-        # no agent ran twice, or without the journal's knowing
+        # no agent ran twice, or unknown to the journal
         time.sleep(1.5)
         with open(self.place("log"), encoding="ascii") as log:
             ran = log.read().split()
@@ -98,7 +98,7 @@ class Kills(helper.Check):
         return ran, [end["outcome"] for ends in results.values() for end in ends]
 
     def test_kills(self):
-        """nothing is lost or doubled behind kills at random moments"""
+        """nothing is lost or doubled after kills at random moments"""
         random.seed(helper.number("SEED", 20261123))
         rounds = helper.number("ROUNDS", 12)
         self.agent("Step", 'echo "$OCF_RESOURCE_INSTANCE" >> "$OCF_RESKEY_log"\nsleep "$OCF_RESKEY_time"\n')

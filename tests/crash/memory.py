@@ -1,10 +1,10 @@
 #!/usr/bin/env python3
 # check: slow
-"""Runs the program with less and less room for its memory (RLIMIT_AS), from what it needs down to where it does not start. Wanted: it
-ends well, or by want of memory, which a person is told: status 4 before the first line is read, 7 behind it; no stream is told to
-have failed. It is a crash only where the stack itself cannot grow, for which a program has no answer: that comes before the first line
-is read, in ranges of 128 KiB together at most. What was answered is the front of what is answered with enough memory, but for commands
-that were refused with `memory`, and stands at the next opening.
+"""Runs the program with less and less address space (RLIMIT_AS), from what it needs down to where it does not start. Wanted: it ends well,
+or for lack of memory, which is reported for people: status 4 before the first line is read, 7 after it; no stream is reported as failed. It
+may only crash if the stack itself cannot grow, which no program can handle: that comes before the first line is read, in ranges of at most
+128 KiB together. The answers are a prefix of those with enough memory, except for commands that were refused with `memory`, and the next
+opening finds them.
 Use: memory.py PROGRAM"""
 import resource
 import shutil
@@ -16,7 +16,7 @@ import helper  # noqa: E402
 
 STEP = 4096
 RESOURCES = 120
-# How standard error begins with each status, where it goes to the system's journal.
+# How standard error begins with each status, if it goes to the system's journal.
 ENDS = {4: "ocfexec: memory\nFree memory ", 7: "ocfexec: input or output\nA reply or a notice found no memory."}
 NAMES = [f"r{place:03}" for place in range(RESOURCES)]
 PARAMS = {f"a{place}": "x" * 1000 for place in range(8)}
@@ -25,7 +25,7 @@ ASKED = helper.lines(*[helper.register(name, "t", "p", **PARAMS) for name in NAM
 
 
 def limited(room, words, told):
-    """The status, the output and the errors of a run in this room."""
+    """The status, the output and the errors of a run with this address space."""
     def limit():
         resource.setrlimit(resource.RLIMIT_AS, (room, room))
         resource.setrlimit(resource.RLIMIT_CORE, (0, 0))
@@ -35,7 +35,7 @@ def limited(room, words, told):
 
 
 def least(low, high, holds):
-    """The least room, by steps, where it holds."""
+    """The least address space, in steps, with which this holds."""
     while high - low > STEP:
         middle = (low + high) // 2 // STEP * STEP
         low, high = (low, middle) if holds(middle) else (middle, high)
@@ -49,7 +49,7 @@ class Memory(helper.Check):
         self.floor = least(0, self.enough, lambda room: limited(room, ["--help"], b"")[0] == 0)
 
     def fresh(self, room):
-        # on a journal of its own, in files: a part in memory that can't grow is a device that failed
+        # on a journal of its own, in files: a part in memory that cannot grow counts as a failed device
         folder = self.journal("fresh")
         ended = limited(room, ["run", "--journal", folder], ASKED)
         shutil.rmtree(folder)
@@ -60,7 +60,7 @@ class Memory(helper.Check):
         self.assertTrue(err.startswith(ENDS[status]) if status else err == "", f"{where}: {err}")
 
     def judge(self, room, full):
-        # how a run in this room ended: its status, and whether a command was refused
+        # how a run with this address space ended: its status, and whether a command was refused
         status, out, err = self.fresh(room)
         if status == -signal.SIGSEGV:
             self.assertEqual(out, "", f"nothing is answered before the stack has grown, in {room} bytes")
@@ -85,7 +85,7 @@ class Memory(helper.Check):
         self.assertTrue(any(status == 7 or refused for status, refused in seen), "a run that found no memory")
 
     def test_stands(self):
-        """what was sent in too little memory is found with enough of it"""
+        """what was sent with too little memory is found with enough"""
         for part in (3, 5, 7):
             folder = self.journal(f"journal{part}")
             status, out, err = limited(self.floor + (self.enough - self.floor) * part // 8, ["run", "--journal", folder], ASKED)

@@ -1,11 +1,11 @@
 #!/usr/bin/env python3
 """Kills `PROGRAM run` with signal 9 while its agents run, and opens its journal again at once, from another session. Wanted: the
-interruption is recorded and reported only when what is left of the action is gone, or was ended at the action's own timeout, or at the
-limit that `--orphans` gives, with all that it started; so also where the executor that waited for that was killed in its turn. It is
-found where the agent replaced itself by another program, and where only a child of it is left; a daemon lives on. With `--leave-orphans`
-it lives on, is named, and in `serve` its number stands in the notice. An agent that is started so that it dies with its executor is not
-waited for. A client that stops what was interrupted, probes it and starts it again, through many kills at random moments, never finds
-it up after a stop that succeeded, and never twice.
+interruption is recorded and reported only when the orphans of the action have ended, or were ended at the action's own timeout, or at the
+limit of `--orphans`, with everything that they started; also if the executor that waited for them was killed in turn. Orphans are found if
+the agent replaced itself by another program, and if only a child of it is left; a daemon lives on. With `--leave-orphans` they live on, are
+named, and in `serve` the notice has the number. An agent that dies with its executor is not waited for. A client that stops interrupted
+resources, probes them and starts them again, with many kills at random moments, never finds one up after a stop that succeeded, and never
+twice.
 Use: orphans.py PROGRAM, with ROUNDS and SEED in the environment"""
 import contextlib
 import glob
@@ -63,11 +63,11 @@ class Orphans(helper.Check):
             return err.read()
 
     def left(self, via="sh", timeout=10000, seconds=3):
-        """Leaves a journal whose executor was killed amid a start of so many seconds, and gives the moment of the kill."""
+        """Leaves a journal whose executor was killed during a start of this many seconds, and returns the moment of the kill."""
         running = self.opened(via=via)
         running.tell(self.register(seconds), helper.action("r1", "start", timeout=timeout), {"op": "drain"})
         self.eventually("the start is under way", lambda: os.path.exists(self.begun))
-        # (the agent, and what it waits for)
+        # (the agent, and the process that it waits for)
         self.eventually("it waits for its child", lambda: len(self.living()) > 1)
         running.killed()
         return time.monotonic()
@@ -87,7 +87,7 @@ class Orphans(helper.Check):
         self.assertEqual((second.ends(), self.said()), (0, ""))
 
     def test_waits_again(self):
-        """an executor that is killed as it waits has recorded nothing, and the next one reports all"""
+        """an executor that is killed as it waits has recorded nothing, and the next one reports everything"""
         self.left()
         before = helper.parts(self.folder)
         self.opened().killed()
@@ -106,7 +106,7 @@ class Orphans(helper.Check):
         self.assertEqual(ended(third.values())[1:], [("stop", "done", 0), ("monitor", "done", 7)], "down after its stop")
 
     def living(self):
-        """The processes that have the directory of what is up among their parameters."""
+        """The processes that have the directory of the running services among their arguments."""
         found = []
         for path in glob.glob("/proc/[0-9]*/environ"):
             with contextlib.suppress(OSError), open(path, "rb") as environ:
@@ -120,7 +120,7 @@ class Orphans(helper.Check):
         self.took_less(most, took, "waiting for the report")
 
     def named(self, milliseconds):
-        # what lives on past the limit; a process that the agent has just forked looks as the agent does, and is named too
+        # what lives on past the limit; a process that the agent has just forked has the agent's command line, and is named too
         since = self.left(seconds=10)
         second = self.opened("--leave-orphans", "--orphans", str(milliseconds))
         self.reported(second)
@@ -133,11 +133,11 @@ class Orphans(helper.Check):
             self.assertEqual(words.read().split("\0")[1:3], [self.place("resource.d/test/Slow"), "start"], "the old start's pid")
 
     def test_named_at_once(self):
-        """what is left is named at once and lives on, where it is neither waited for nor ended"""
+        """what is left is named at once and lives on, if it is neither waited for nor ended"""
         self.named(0)
 
     def test_named_late(self):
-        """what is left past the limit is named and lives on, where it is not ended"""
+        """what is left past the limit is named and lives on, if it is not ended"""
         self.named(700)
 
     def test_lives(self):
@@ -174,7 +174,7 @@ class Orphans(helper.Check):
         self.assertFalse(os.path.exists(self.log), "the old start never came up")
 
     def starts(self, text, name):
-        """Kills an executor amid a start by an agent with this text, which leaves its process's number in a file; gives that."""
+        """Kills an executor during a start by an agent with this text, which leaves its process's number in a file; returns the number."""
         self.agent("Other", text)
         running = self.opened(via="")
         file = self.place(name)
@@ -192,7 +192,7 @@ class Orphans(helper.Check):
         self.assertFalse(helper.is_alive(pid), "it has ended before the report")
 
     def test_child_alone(self):
-        """what an agent waited for is found where the agent itself has ended"""
+        """the process that an agent waited for is found after the agent itself has ended"""
         agent = self.place("agent")
         pid = self.starts(f"echo $$ > {agent}\nsh -c 'echo $$ > $OCF_RESKEY_file; sleep 30; :'\n:\n", "pid")
         with open(agent, encoding="ascii") as number:
@@ -203,7 +203,7 @@ class Orphans(helper.Check):
         self.assertFalse(helper.is_alive(pid), "it has ended before the report")
 
     def slow(self, way, signal_sent):
-        # the agent that comes up after the stop where what it started is not ended
+        # the agent that comes up after the stop if what it started is not ended
         self.agent("Late", "case $1 in start) echo $$ > $OCF_RESKEY_file; sh -c 'sleep 30; : > $OCF_RESKEY_up/late'; : ;; esac\n")
         running = self.opened(via="", way=way)
         file = self.place("pid")
@@ -234,7 +234,7 @@ class Orphans(helper.Check):
         self.slow("serve", signal.SIGTERM)
 
     def test_own_environment(self):
-        """an executor whose own environment names the resource is not taken for what is left of it"""
+        """an executor whose own environment names the resource is not taken for an orphan of it"""
         self.left()
         second = self.opened("--orphans", "300", env={**os.environ, "OCF_RESOURCE_INSTANCE": "r1"})
         self.reported(second)
@@ -256,7 +256,7 @@ class Orphans(helper.Check):
 
     @unittest.skipUnless(shutil.which("setpriv"), "install util-linux")
     def test_dies_along(self):
-        """an agent that dies with its executor leaves nothing but its child to be waited for"""
+        """an agent that dies with its executor leaves only its child to be waited for"""
         since = self.left(via=os.path.join(helper.TOP, "examples/with-executor.sh"))
         second = self.opened()
         self.reported(second)
@@ -265,7 +265,7 @@ class Orphans(helper.Check):
         self.assertFalse(os.path.exists(self.log), "the agent ended with its executor")
 
     def round(self):
-        # stops, probes and starts, up to a kill at a random moment; how many probes there were
+        # stops, probes and starts, up to a kill at a random moment; returns the number of probes
         running = self.opened()
         running.tell(*does("stop"), *does("monitor"), *does("start"))
         time.sleep(random.uniform(0, 0.2))
@@ -276,7 +276,7 @@ class Orphans(helper.Check):
 
     @helper.slow
     def test_never_twice(self):
-        """never up after a stop, and never twice, through kills at random moments"""
+        """never up after a stop, and never twice, with kills at random moments"""
         random.seed(helper.number("SEED", 20261124))
         rounds, kills, probes, later = helper.number("ROUNDS", 100), 0, 0, time.monotonic() + 35
         first = self.opened()

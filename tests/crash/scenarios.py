@@ -1,9 +1,9 @@
 #!/usr/bin/env python3
 # check: scenarios
-"""The scenarios, tests/scenarios/data: text that is played through the public calls of the executor's crates, over a disk in memory whose
-crashes and faults are planned, and children that answer as planned. What is found after a crash or a fault an oracle looks at that knows
-no journal; what is printed is compared with the transcript beside each file, byte for byte. A file is played alone by
-`$(tests/scenarios/build.sh) < tests/scenarios/data/NAME.scenario`.
+"""The scenarios, tests/scenarios/data: text that is played through the public calls of the executor's crates, with a disk in memory whose
+crashes and faults are planned, and agent processes that answer as planned. An oracle that knows no journal checks what is found after a
+crash or a fault. The output is compared with the transcript beside each file, byte for byte. To play one file: `$(tests/scenarios/build.sh)
+< tests/scenarios/data/NAME.scenario`.
 Use: scenarios.py [PROGRAM]"""
 import itertools
 import os
@@ -20,7 +20,7 @@ SHOWN = 60
 
 
 def played(text):
-    """The status of the player after this input, what it printed, and what it said of a fault."""
+    """The status of the player after this input, its output, and its report of a fault."""
     done = subprocess.run([helper.built("scenarios")], input=text, capture_output=True, timeout=800)
     return done.returncode, done.stdout, done.stderr
 
@@ -59,16 +59,16 @@ for name in scenario_files.subjects():
 
 class Language(helper.Check):
     def ends_at(self, text, printed, line):
-        """The player prints this, and ends at a line that is no step."""
+        """The player prints this, and ends at a line that is not a step."""
         wanted = (1, printed + b"line %d is no step\n" % line, b"")
         self.assertEqual(played(text), wanted, text.decode())
 
     def test_no_step(self):
-        """a line that is no step ends the player, which names it"""
+        """a line that is not a step ends the player, which names it"""
         self.ends_at(b"scenario one\n\n# a comment\nopen 0\nopen zero\nclose\n", b"scenario one\nopened\n", 5)
 
     def test_constants(self):
-        """a constant is put in place of its word, and has one text"""
+        """a constant replaces its word, and has one text"""
         self.assertEqual(played(b"let r1 0700000000000000590272\nevent $r1 31\n"), (0, b"event 12 070000000000000059027231\n", b""))
         self.ends_at(b"let r1 07\nlet r1 08\n", b"", 2)
         self.ends_at(b"let r1 07\nevent $r2\n", b"", 2)
@@ -78,7 +78,7 @@ class Language(helper.Check):
         self.assertEqual(played(b"event 07 7*00 59027231ff cut 12 change 8 58\n"), (0, b"event 12 070000000000000058027231\n", b""))
 
     def test_nothing_changed(self):
-        """a cut that cuts nothing is no step, and neither is a change to the same bytes, or of bytes that are not there"""
+        """a cut that cuts nothing is not a step, nor a change to the same bytes, nor of bytes that do not exist"""
         for words in (b"0708 cut 2", b"0708 change 1 08", b"0708 change 1 0909", b"0708 cut"):
             with self.subTest(words):
                 self.ends_at(b"event " + words + b"\n", b"", 1)

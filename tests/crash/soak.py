@@ -1,15 +1,15 @@
 #!/usr/bin/env python3
 # check: slow trials
-"""A long life: hours over one journal, on a simulated clock. The program of tests/trials plays them through the program's own run, with
-a disk in memory and scripted agents; this plans them, and looks at all that is said. 64 resources have four recurring monitors each, a
-client starts, stops, withdraws and asks by chance, at times a hundred lines at once, the wall clock jumps at each opening, and journals
-are tidied by the run itself. In each hour the disk stops in a random device call behind its opening, and half of the openings behind
-that are stopped, too; an hour that ends before its stop is one more. Of what was not synced a stop leaves nothing, all, or other bytes.
-Wanted: what an opening finds holds every acknowledged command and every result that was told, in order, and beyond that at most the
-command that was refused for the disk and a result of each resource that was not told; each action that was queued or ran is told,
-withdrawn, or found as dropped or interrupted, and an opening reports just what it found so; a reply has the tag of its line, and a notice
-that of a call of its hour; the parts stay below their limit and are tidied; the memory does not grow with the days; at the end, behind a
-close, each history is just what was told.
+"""A long history: hours over one journal, on a simulated clock. The program of tests/trials plays them through the program's own session,
+with a disk in memory and scripted agents; this module plans them, and checks all output. 64 resources have four recurring monitors each. A
+client starts, stops, withdraws and asks at random, at times a hundred lines at once. The wall clock jumps at each opening, and the session
+itself tidies journals. In each hour a crash comes in a random device call after the opening, and half of the openings after that crash,
+too; an hour that ends before its crash is one more. Of unsynced bytes a crash leaves none, all, or others. Wanted: an opening finds every
+acknowledged command and every reported result, in order, and beyond that at most the command that was refused for the disk and one
+unreported result of each resource. Each action that was queued or ran is reported, withdrawn, or found as dropped or interrupted, and an
+opening reports exactly those that it found so. A reply has the tag of its line, and a notice that of a call of its hour. The parts stay
+below their limit and are tidied. The memory does not grow with the days. At the end, after an orderly close, each history is exactly what
+was reported.
 Use: soak.py [PROGRAM], with DAYS and SEED in the environment"""
 import collections
 import json
@@ -24,7 +24,7 @@ import helper  # noqa: E402
 
 HOUR = 3_600_000
 PART_LIMIT = 8_388_608
-# the tail past which a run tidies by itself, as soon as that gains two megabytes
+# the tail past which a session tidies by itself, as soon as that gains two megabytes
 TIDY_AT = 1_048_576
 KEPT = 64
 IDS = [f"r{n:02}" for n in range(64)]
@@ -33,19 +33,19 @@ QUESTIONS = [{"op": "list"}] + [{"op": op, "id": name} for name in IDS for op in
 
 
 class Resource:
-    """What is known of a resource, by what was acknowledged and told."""
+    """A resource as it is known from acknowledgements and reports."""
 
     def __init__(self, there=False, params=None):
         self.there = there
         self.params = params
-        self.told = []  # the last results; what was withdrawn has no moments here before it is found, since no reply tells them
-        self.newest = 0  # the greatest run that was told
-        self.queued = {}  # the actions that were acknowledged and not told, by their calls
+        self.told = []  # the last results; a withdrawn action has no moments here before it is found, since no reply has them
+        self.newest = 0  # the greatest run that was reported
+        self.queued = {}  # the acknowledged actions that were not reported, by their calls
         self.monitors = {}  # the calls of its monitors, by their intervals
 
 
 def withdrawn(command, action):
-    """The result of an action that was withdrawn, in the order of a result's keys."""
+    """The result of a withdrawn action, in the order of a result's keys."""
     return {"action": action, "at": None, "call": command["call"], "code": 1, "interval": 0, "name": "OCF_ERR_GENERIC",
             "outcome": "cancelled", "run": 0, "since": None}
 
@@ -55,27 +55,27 @@ def is_booted(result):
 
 
 class Life:
-    """A life by chance, with AddressSanitizer or without; where `tidies` says so its client tidies once an hour. What the program is given
-    is noted, and plays it again."""
+    """A random history, with AddressSanitizer or without; if `tidies` is set its client tidies once an hour. The input of the program is
+    kept, and plays the history again."""
 
     def __init__(self, seed, note, plain, tidies):
         self.dice, self.note, self.tidies = random.Random(seed), note, tidies
         self.all = {name: Resource() for name in IDS}
         self.doubt = []  # the commands that were refused together, as the disk failed: they may have been recorded
-        self.next_call = 1  # above each call that was told or found
+        self.next_call = 1  # greater than each call that was reported or found
         self.opening = 13  # how many device calls an opening makes; each record costs four
-        self.hourly = 4_000  # how many an hour makes behind that
+        self.hourly = 4_000  # how many an hour makes after that
         self.counts = collections.Counter()
         self.wall = 1_700_000_000_000
         self.tags = {}  # those of the calls of an hour
-        # what is given back is not kept for long, so that the memory of the process is that of the life
+        # freed memory is not kept for long, so that the memory of the process is that of the history
         self.program = subprocess.Popen([helper.trials(plain), "life"], stdin=subprocess.PIPE, stdout=subprocess.PIPE,
                                         env={**os.environ, "ASAN_OPTIONS": "quarantine_size_mb=1"})
 
-    # what a client sends
+    # the lines of a client
 
     def missing_lines(self):
-        """Registers what is not there, and has it monitored."""
+        """Registers what is missing, and adds its monitors."""
         for name, known in self.all.items():
             if not known.there:
                 yield {"op": "register", "id": name, "provider": "test", "type": "Any", "params": {"a": name}}
@@ -96,7 +96,7 @@ class Life:
         return {"op": ["forget", "unregister", "info", "history", "list"][roll // 2 - 45], "id": name}
 
     def client(self):
-        """What a client sends in an hour, with the moments."""
+        """The lines of a client in an hour, with the moments."""
         lines = [(1, line) for line in self.missing_lines()]
         lines += [(self.dice.randrange(2, HOUR), self.chance_line()) for _ in range(100)]
         burst = self.dice.randrange(2, HOUR)
@@ -106,8 +106,8 @@ class Life:
         return [(at, {**line, "tag": f"{self.counts['hours']} {place}"} if place % 3 else line) for place, (at, line) in enumerate(lines)]
 
     def with_withdrawals(self, lines):
-        """Behind each fifth action its withdrawal, in the same moment. It names the call that the action is to have, which is right as
-        long as no command is refused but those of resources that are gone, and of intervals that are there."""
+        """After each fifth action its withdrawal, at the same moment. It names the expected call of the action, which is right as long
+        as the only refused commands are those of unregistered resources and of intervals that exist already."""
         call, gone, busy = self.next_call, set(), {}
         monitors = {(name, interval) for name, known in self.all.items() for interval in known.monitors}
         for at, line in lines:
@@ -128,10 +128,10 @@ class Life:
                         busy[name] = at
                     call += 1
 
-    # a sitting
+    # an incarnation
 
     def sit(self, stop, serves, lines):
-        """Plays a sitting of an hour: what it printed, by lines, and the numbers of what it left."""
+        """Plays an incarnation of an hour; returns its output, by lines, and the numbers that it left."""
         self.wall += HOUR + self.dice.choice([0, 0, 5, HOUR, -HOUR, -30 * HOUR])
         head = [self.wall, HOUR, stop, self.dice.randrange(4), self.dice.getrandbits(63), serves, TIDY_AT, len(lines)]
         text = " ".join(map(str, head)) + "\n" + "".join(f"{at} {json.dumps(line)}\n" for at, line in lines)
@@ -147,7 +147,7 @@ class Life:
         raise AssertionError(f"the program ended, with {self.program.wait()}")
 
     def is_ready(self, value, serves, before):
-        """Whether it is the line by which a sitting that serves says that it is ready. An opening before it left nothing to report."""
+        """Whether it is the ready line. An earlier opening left nothing to report."""
         if helper.is_ready(value):
             there = sum(known.there for known in self.all.values())
             found = [value[key] for key in ("interrupted", "dropped", "resources", "journal")]
@@ -155,7 +155,7 @@ class Life:
         return helper.is_ready(value)
 
     def left(self, line):
-        """How many device calls a sitting had; none of its parts is too long."""
+        """How many device calls an incarnation had; none of its parts is too long."""
         numbers = [int(word) for word in line.replace(b",", b"").split() if word.isdigit()]
         calls, a, epoch_a, b, epoch_b = numbers
         assert max(a, b) <= PART_LIMIT, line
@@ -167,7 +167,7 @@ class Life:
         with open(f"/proc/{self.program.pid}/status", encoding="ascii") as file:
             return next(int(line.split()[1]) for line in file if line.startswith("VmHWM"))
 
-    # what a sitting says
+    # the output of an incarnation
 
     def take_notice(self, notice):
         known = self.all[notice["id"]]
@@ -213,7 +213,7 @@ class Life:
                 known.told = []
 
     def hear(self, lines, out):
-        """Replies, one to a line, and between them notices, and how turns ended that no line asked for."""
+        """Replies, one to a line, and between them notices, and ends of turns that no line requested."""
         asked, self.tags = iter(lines), {}
         for line in out:
             if "outcome" in line:
@@ -256,14 +256,14 @@ class Life:
         self.next_call = max([self.next_call, *[call + 1 for call in found.values()]])
 
     def date(self, known, found):
-        """Gives what was withdrawn the moment at which it is found: one, as it neither began nor ran."""
+        """Sets the moment of a withdrawn action to that at which it is found: a single one, as it neither began nor ran."""
         moments = {result["call"]: result["at"] for result in found if result["outcome"] == "cancelled"}
         for result in known.told:
             if result["at"] is None and result["call"] in moments:
                 result["at"] = result["since"] = moments[result["call"]]
 
     def look_at_history(self, name, reply, exact):
-        """All that was told, at most one result more, and then what an opening ended, which is given."""
+        """Everything reported, at most one result more, and then the actions that an opening ended, which are returned."""
         known = self.all[name]
         if not known.there:
             return []
@@ -284,7 +284,7 @@ class Life:
             self.next_call = max(self.next_call, result["call"] + 1)
             if result["interval"] == 0:
                 known.queued.pop(result["call"], None)
-        # a start in doubt may be among what was dropped, and nothing else may be left
+        # a start in doubt may be among the dropped ones, and nothing else may be left
         assert not known.queued, ("an acknowledged action is lost", name, known.queued)
         known.told = found
         self.counts["untold"] += len(more)
@@ -292,12 +292,12 @@ class Life:
         return booted
 
     def look(self, exact=False, second=False):
-        """An opening without a stop and without turns, that asks for all. It reports all that an opening ended, or nothing where one before
-        it may have ended that, which was stopped."""
+        """An opening without a crash and without turns, with all questions. It reports everything that an opening ended, or nothing if
+        an earlier opening that crashed may have ended it."""
         epochs = self.counts["epochs"]
         out, self.opening = self.sit(0, 0, [(0, line) for line in QUESTIONS])
         if self.counts["epochs"] > epochs:
-            # it tidied behind its opening: the next opening is of the other part
+            # it tidied after its opening: the next opening is of the other part
             rest, self.opening = self.sit(0, 0, [])
             assert rest == [], rest
         report, ended = [], []
@@ -317,20 +317,20 @@ class Life:
         self.doubt = []
 
     def stopped_opening(self, calls):
-        """An opening that is stopped near its end, before the report or behind it."""
+        """An opening that crashes near its end, before the report or after it."""
         out, _ = self.sit(max(1, calls + self.dice.randrange(-12, 8)), 0, [])
         assert all(map(is_booted, out)), out
         self.counts["openings that reported and were stopped"] += bool(out)
 
     def hour(self, stops):
-        """An hour of a client, stopped or not."""
+        """An hour of a client, with a crash or without."""
         lines = self.client()
         # (how a tidy ended is no reply)
         tidies = [(self.dice.randrange(2, HOUR), {"op": "tidy"})] if self.tidies else []
         stop = self.opening + self.dice.randrange(1, self.hourly) if stops else 0
         out, calls = self.sit(stop, 1, sorted([*lines, *tidies], key=lambda line: line[0]))
         self.hear([line for _, line in lines], out)
-        # an hour that was stopped does not tell how many calls it would have made: perhaps more than is thought
+        # an hour that crashed does not show how many calls it would have made: perhaps more than expected
         self.hourly = self.hourly * 101 // 100 if 0 < stop <= calls else max(500, calls - self.opening)
         self.counts["hours"] += 1
         self.counts["stops"] += stops and calls >= stop
@@ -347,7 +347,7 @@ class Life:
 
 class Soak(helper.Check):
     def test_minute(self):
-        """a life of a minute says just what it did before"""
+        """a history of a minute prints exactly what it printed before"""
         texts = []
         for name in ("life.stdin", "life.stdout"):
             with open(os.path.join(helper.TOP, "tests/trials", name), "rb") as file:
@@ -356,8 +356,8 @@ class Soak(helper.Check):
         self.assertEqual((done.returncode, done.stdout, done.stderr), (0, texts[1], b""))
 
     def lived(self, stops, plain, tidies):
-        """A life of so many stops, between an hour without one and another: what it counted, and its memory after half of the stops and
-        at the end."""
+        """A history with this many crashes, between an hour without a crash and another; returns what it counted, and its memory after
+        half of the crashes and at the end."""
         seed, began, half = helper.number("SEED", 20261124), time.monotonic(), 0
         life = Life(seed, lambda text: self.note("stdin", text), plain, tidies)
         self.addCleanup(life.program.kill)
@@ -374,17 +374,17 @@ class Soak(helper.Check):
         return life.counts, half, late
 
     def test_life(self):
-        """a long life: stops each hour, and nothing told is lost"""
+        """a long history: crashes each hour, and nothing reported is lost"""
         days = helper.number("DAYS", 1)
         counts, half, late = self.lived(24 * days, plain=True, tidies=False)
-        # a part is tidied at some 2.2 MiB, which a day fills; by then the disk in memory has all the room that it takes
+        # a part is tidied at some 2.2 MiB, which a day fills; by then the disk in memory has reached its full size
         self.assertGreater(counts["epochs"], days // 3, "tidies by themselves")
         self.assertGreater(counts["withdrawn"], 100 * days, "actions that were withdrawn")
         if days >= 8:
             self.assertLess(late, half * 1.1, "memory that grows with the days")
 
     def test_sanitized(self):
-        """some hours of a life whose client tidies, with AddressSanitizer"""
+        """some hours of a history whose client tidies, with AddressSanitizer"""
         counts, _, _ = self.lived(2, plain=False, tidies=True)
         self.assertGreater(counts["told"], 1000, "results that were told")
         self.assertGreater(counts["epochs"], 2, "tidies")

@@ -1,10 +1,10 @@
 #!/usr/bin/env python3
 # check: slow
-"""Tidies one journal again and again, a change between each two, and kills `PROGRAM run` with signal 9 at random moments. Wanted after
-each kill: the last change that was acknowledged is found, or one that was sent behind it; all that never changed is found as it was; a
-second opening writes nothing. A session of four times what a part holds is answered without a refusal, since the program tidies by
-itself, and with `--tidy-at 0` it is refused as journal-full. While an agent runs it does not tidy at its first mark: a timeout is
-told in time though each sync is slow, and the journal is tidied behind it.
+"""Tidies one journal again and again, with a change between each two, and kills `PROGRAM run` with signal 9 at random moments. Wanted after
+each kill: the last acknowledged change is found, or one that was sent after it; everything that never changed is found as it was; a second
+opening writes nothing. A session of four times the capacity of a part is answered without a refusal, since the program tidies by itself;
+with `--tidy-at 0` it is refused as journal-full. While an agent runs the program does not tidy at its first mark: a timeout is reported in
+time though each sync is slow, and the journal is tidied after it.
 Use: tidies.py PROGRAM, with ROUNDS and SEED in the environment"""
 import os
 import random
@@ -41,7 +41,7 @@ class Tidies(helper.Check):
             return out.read().split(b"\n")[:-1]
 
     def killed(self, journal, first):
-        # sends changes and tidies by turns, kills the program at a random line or soon behind it, and gives the replies
+        # sends changes and tidies by turns, kills the program at a random line or soon after it, and returns the replies
         with open(self.place("in"), "wb") as text:
             for number in range(first, first + PAIRS):
                 text.write(helper.lines(change(number), {"op": "tidy"}))
@@ -56,7 +56,7 @@ class Tidies(helper.Check):
         return self.written()
 
     def found(self, journal, first, number, accepted):
-        # which change stands behind a kill
+        # the change that is found after a kill
         shown, before = helper.shown(journal).splitlines(), helper.parts(journal)
         self.assertEqual((helper.shown(journal).splitlines(), helper.parts(journal)), (shown, before), "a second look")
         self.assertEqual(shown[1:3], first[1:3], "what never changed")
@@ -82,7 +82,7 @@ class Tidies(helper.Check):
         print(f"tidies: {tidies} tidies and {changes} changes, {rounds} kills", flush=True)
 
     def filled(self, *options):
-        # how many commands of four times what a part holds were refused as journal-full
+        # how many commands of four times the capacity of a part were refused as journal-full
         folder = self.journal()
         replies = self.session(folder, [helper.register("large", "Step"), *[large("large")] * 2200], *options)
         refused = replies.count(FULL)
@@ -92,22 +92,22 @@ class Tidies(helper.Check):
         return refused
 
     def test_by_itself(self):
-        """four times what a part holds is taken, where the program tidies by itself"""
+        """four times the capacity of a part is accepted, if the program tidies by itself"""
         self.assertEqual(self.filled(), 0)
 
     def test_not_by_itself(self):
-        """and refused, where it does not"""
+        """and refused, if it does not"""
         self.assertGreater(self.filled("--tidy-at", "0"), 0)
 
     def past_half(self, names):
-        # a journal of large resources whose tail is at twice what a tidy leaves, and how long its part is
+        # a journal of large resources whose tail is twice what a tidy leaves, and the length of its part
         journal = self.journal()
         registered = [helper.register(name, "Step", **LARGE) for name in names]
         self.session(journal, [*registered, *[large(name) for name in names]], "--tidy-at", "0")
         return journal, os.path.getsize(os.path.join(journal, "part-a"))
 
     def test_timeout(self):
-        """a timeout of a second is told in time past the first mark, with syncs of 5 milliseconds, and then the journal is tidied"""
+        """a timeout of a second is reported in time past the first mark, with syncs of 5 milliseconds, and then the journal is tidied"""
         self.agent("Sleeper", '[ "$1" = start ] && exec sleep 30\nexit 0\n')
         names = [f"r{place}" for place in range(150)]
         journal, length = self.past_half(names)

@@ -1,7 +1,7 @@
 #!/usr/bin/env python3
-"""Commands that arrive together: written at once, from a file, and cut at random places, they are answered as they are one by one, by
-`run` and by `serve`, in memory and with a journal, and leave the same state. Killed at random moments, and in each device call of a
-batch, what was replied stands at the next opening, and what is found is what a front part of the commands leaves.
+"""Commands that arrive together: written at once, from a file, and cut at random places, they are answered like one by one, by `run` and by
+`serve`, in memory and with a journal, and leave the same state. After kills at random moments, and in each device call of a batch, the next
+opening finds everything that was answered, and a prefix of the commands.
 Use: together.py PROGRAM, with COUNT, ROUNDS and SEED in the environment"""
 import fcntl
 import json
@@ -19,11 +19,11 @@ sys.path[0] += "/../lib"
 import helper  # noqa: E402
 from helper import PROGRAM, action  # noqa: E402
 
-# whether commands that stand whole in the input are recorded as one row
+# whether commands that are completely in the input are recorded as one batch
 EXPECT_ROWS = True
-# how many commands a row has at most; how often it is synced, by its body and by its gate; and how many rows more may be made
+# how many commands a batch has at most; how often it is synced, by its body and by its gate; and how many more batches may be made
 ROW, SYNCS_OF_A_ROW, MORE_ROWS = 64, 2, 1
-# monitors that come due once in a check
+# monitors that are due once in a check
 INTERVALS = [3_600_000 + place for place in range(10)]
 QUESTIONS = ["info", "history", "list"]
 NAMES = [f"r{place}" for place in range(200)]
@@ -34,8 +34,8 @@ def line_of(command):
 
 
 class Script:
-    """Lines by chance, of which each may follow from the replies to those before it: commands that are accepted and refused, questions,
-    lines that are none, empty lines, drains and tidies."""
+    """Random lines, each of which may follow from the replies to those before it: accepted and refused commands, questions, invalid
+    lines, empty lines, drains and tidies."""
 
     def __init__(self, dice, count):
         self.dice, self.count, self.names, self.calls = dice, count, [f"r{place}" for place in range(12)], []
@@ -46,7 +46,7 @@ class Script:
         yield line_of({"op": "drain"})
 
     def hear(self, line, reply):
-        """Keeps the calls that were given."""
+        """Keeps the assigned calls."""
         if "call" in reply:
             self.calls = [*self.calls, (json.loads(line)["id"], reply["call"])][-8:]
 
@@ -69,7 +69,7 @@ class Script:
         return helper.register(name, "None", a=str(self.dice.randrange(100)))
 
     def values(self, name):
-        # small ones, some that fill half of a row, and some that are too large
+        # small ones, some that fill half of a batch, and some that are too large
         size = self.dice.choice([0, 0, 0, 0, 1, 14, 17])
         params = {chr(97 + place): "x" * 1024 for place in range(size)} or {"a": str(self.dice.randrange(100))}
         return {"op": "params", "id": name, "params": params}
@@ -103,7 +103,7 @@ class Script:
 
 
 class Served(Script):
-    """Lines whose replies no turn changes: actions and monitors are of resources of their own, which are registered first. Two of three
+    """Lines whose replies no turn changes: actions and monitors have resources of their own, which are registered first. Two of three
     have a tag."""
 
     def __init__(self, dice, count):
@@ -140,10 +140,10 @@ class Served(Script):
         return self.question() if roll < 9 else self.other("none")
 
 
-# How lines come.
+# The ways in which lines come.
 
 def one_by_one(words, lines, hear=lambda line, reply: None):
-    """What is written where each line waits for the reply to the one before it; lines without a byte have none. And the lines."""
+    """The output if each line waits for the reply to the one before it; lines without a byte have none. And the lines."""
     out, asked = [], []
     with subprocess.Popen([PROGRAM, *words], stdin=subprocess.PIPE, stdout=subprocess.PIPE) as run:
         if words[0] == "serve":
@@ -165,7 +165,7 @@ def one_by_one(words, lines, hear=lambda line, reply: None):
 
 
 def filled(text):
-    """The end of a pipe in which this text stands before anything reads it."""
+    """The end of a pipe that holds this text before anything reads it."""
     out, into = os.pipe()
     fcntl.fcntl(into, fcntl.F_SETPIPE_SZ, 1 << 20)
     assert os.write(into, text) == len(text), "more than a pipe holds"
@@ -174,7 +174,7 @@ def filled(text):
 
 
 def ended(words, stdin):
-    """What is written up to the end of this input."""
+    """The output up to the end of this input."""
     with os.fdopen(stdin, "rb") as asked:
         done = subprocess.run([PROGRAM, *words], stdin=asked, capture_output=True, timeout=120)
     assert (done.returncode, done.stderr) == (0, b""), done
@@ -193,7 +193,7 @@ def from_a_file(words, text):
 
 
 def pieces(dice, text):
-    """A text cut at random places, of which some are beside the end of a line."""
+    """A text cut at random places, some of which are near the end of a line."""
     ends = [place for place, byte in enumerate(text) if byte == 10]
     cuts = [dice.randrange(len(text)) for _ in ends[::3]] + [place + dice.randrange(-1, 3) for place in dice.sample(ends, len(ends) // 3)]
     cuts = sorted({0, len(text), *[cut for cut in cuts if 0 < cut < len(text)]})
@@ -201,7 +201,7 @@ def pieces(dice, text):
 
 
 def cut(dice):
-    """A way by which lines come in pieces, some of them behind a pause."""
+    """A way in which lines come in pieces, some of them after a pause."""
     def way(words, text):
         with tempfile.TemporaryFile() as out:
             run = subprocess.Popen([PROGRAM, *words], stdin=subprocess.PIPE, stdout=out)
@@ -217,7 +217,7 @@ def cut(dice):
     return way
 
 
-# What is compared.
+# The comparison.
 
 def timeless(text):
     """A text without the moments in it."""
@@ -225,8 +225,8 @@ def timeless(text):
 
 
 def replies_alone(text):
-    """The lines that are no notices, but for that of what serves which says that it is ready, and then those of one-time actions in one
-    order, without their runs: when a notice comes, and whether a monitor begins before its cancel, is a matter of time."""
+    """The lines other than notices and the ready line of serve, and then the notices of one-time actions in one order, without their
+    runs: when a notice comes, and whether a monitor begins before its cancel, is a matter of time."""
     found = [line for line in timeless(text).split(b"\n") if b'"ready":true' not in line]
     told = [line for line in found if line.startswith(b'{"action"')]
     once = [re.sub(rb',"run":[0-9]+', b"", line) for line in told if b'"interval":0,' in line]
@@ -234,18 +234,18 @@ def replies_alone(text):
 
 
 def settled(text):
-    """What `show` says that no turn changes."""
+    """The output of `show` that no turn changes."""
     values = helper.replies(text)
     return values[0], [{key: value.get(key) for key in ("id", "params", "recurring", "queued", "type")} for value in values[1::2]]
 
 
 def plain(commands):
-    """These commands alone."""
+    """Only these commands."""
     return commands
 
 
 def asking(commands):
-    """These commands, with a question behind each fifth."""
+    """These commands, with a question after each fifth."""
     return [each for place, command in enumerate(commands) for each in [command, *[{"op": "list"}] * (place % 5 == 4)]]
 
 
@@ -264,7 +264,7 @@ class Together(helper.Check):
             yield f"cut, {number}", cut(random.Random(self.seed + number))
 
     def in_all_ways(self, word, script, seen, left):
-        """What a script is replied, and what its journal holds, is the same whichever way its lines come."""
+        """The replies to a script, and the content of its journal, are the same in whichever way its lines come."""
         wanted, lines = one_by_one([word, "--memory", "--root", self.here], script.lines(), script.hear)
         text, state = b"".join(line + b"\n" for line in lines), None
         self.note("lines", text)
@@ -287,15 +287,15 @@ class Together(helper.Check):
         self.assertLess(len(lines) // 10, refused)
 
     def test_run(self):
-        """commands that come together are answered by run as one by one"""
+        """run answers commands that come together like commands one by one"""
         self.in_all_ways("run", Script(random.Random(self.seed), helper.number("COUNT", 800)), timeless, timeless)
 
     def test_serve(self):
-        """commands that come together are answered by serve as one by one"""
+        """serve answers commands that come together like commands one by one"""
         self.in_all_ways("serve", Served(random.Random(self.seed), helper.number("COUNT", 800)), replies_alone, settled)
 
     def test_limits(self):
-        """too many resources, queued actions and monitors among what comes together"""
+        """too many resources, queued actions and monitors in a batch"""
         lines = [line_of(helper.register(f"r{place}", "None")) for place in range(260)]
         lines += [line_of(action("r1", "start")) for _ in range(40)]
         lines += [line_of({"op": "withdraw", "id": "r1", "call": 7}) for _ in range(2)]
@@ -312,7 +312,7 @@ class Together(helper.Check):
             self.assertEqual([reply[:12] for reply in found[len(wanted):]], [b'{"failed":nu', b'{"error":"sy', b'{"ok":true,"', b""], words)
 
     def test_full(self):
-        """a journal that gets full among what comes together"""
+        """a journal that becomes full within a batch"""
         folder, changes = self.journal(), 560
         lines = [line_of(helper.register("r1", "None"))]
         for number in range(changes):
@@ -325,7 +325,7 @@ class Together(helper.Check):
         again = at_once(["run", "--journal", folder], helper.lines({"op": "info", "id": "r1"}))
         self.assertEqual(helper.replies(again)[0]["params"]["a"], str(count - 1), "the last one that was accepted")
 
-    # Killed with a batch under way.
+    # Killed during a batch.
 
     def batch(self, count):
         """All of these are accepted: registrations, then parameters, then actions."""
@@ -334,7 +334,7 @@ class Together(helper.Check):
                 *[action(name, "start") for name in names]]
 
     def front(self, folder, count):
-        """How many of a batch's commands are found: in each kind those of the first names, and of a kind only behind all of that before."""
+        """How many of a batch's commands are found: of each kind those of the first names, and of a kind only after all earlier kinds."""
         values = helper.replies(helper.shown(folder))
         names, infos, histories = values[0]["resources"], values[1::2], values[2::2]
         changed = [info["id"] for info in infos if info["params"]]
@@ -349,8 +349,8 @@ class Together(helper.Check):
         return len(names) + len(changed) + len(calls)
 
     def stands(self, folder, count, out):
-        """What was replied stands, and a front part of the batch is found, at an opening, too: how many of its commands were replied, and
-        how many are found."""
+        """Everything answered is found, and a prefix of the batch, at an opening, too: returns how many of its commands were answered,
+        and how many are found."""
         told = [value for value in helper.replies(out) if not helper.is_notice(value)]
         self.assertEqual([value for value in told if "error" in value], [])
         replied, found = sum("resources" not in value for value in told), self.front(folder, count)
@@ -362,7 +362,7 @@ class Together(helper.Check):
         return replied, found
 
     def test_kills(self):
-        """killed with batches under way: what was replied is found, and of the rest a prefix"""
+        """killed during batches: everything answered is found, and of the rest a prefix"""
         dice, count, seen = random.Random(self.seed), len(NAMES), []
         for number in range(helper.number("ROUNDS", 16)):
             folder = self.journal(f"journal{number}")
@@ -398,7 +398,7 @@ class Together(helper.Check):
         self.shim = helper.shim("syncs.c", self.here)
 
     def syncs(self, words, *commands):
-        """How many syncs these commands take where they are written at once."""
+        """How many syncs these commands take if they are written at once."""
         words, made = [*words, "--journal", self.journal()], []
         self.assertEqual(helper.run(*words).returncode, 0)
         for told in ([], commands):
@@ -409,7 +409,7 @@ class Together(helper.Check):
         return made[1] - made[0]
 
     def test_syncs(self):
-        """how many syncs registrations take that come together"""
+        """how many syncs a batch of registrations takes"""
         self.needs_compiler()
         for word in ("run", "serve"):
             made = {count: self.syncs([word], *self.batch(count)[:count]) for count in (1, ROW, 3 * ROW)}
@@ -420,7 +420,7 @@ class Together(helper.Check):
                 self.assertLessEqual(syncs, most, f"{count} registrations")
 
     def stopped_in_each(self, count, text):
-        """How many commands were replied and found, for each device call of a batch in which the program was killed."""
+        """How many commands were answered and found, for each device call of a batch in which the program was killed."""
         seen, stop = [], 1
         while True:
             folder = self.journal(f"journal{stop}")

@@ -1,8 +1,9 @@
 #!/usr/bin/env python3
 # check: trials
-"""The tests of the trials, tests/trials: each call that takes memory is refused, with nothing changed, in heaps of growing size until
-there is enough for it; what children ask of a system that is played, where they are killed, outlive it, or cannot be asked or killed; and
-what a stop or a fault in each device call of an opening leaves, with each fill of what was not synced; and runs over played ends.
+"""The tests of the trials, tests/trials: each call that allocates is refused, with nothing changed, in heaps of growing size until there is
+enough for it; what agent processes request of a simulated system, when they are killed, outlive that, or cannot be polled or killed; what a
+crash or a fault in each device call of an opening leaves, with each fill of unsynced bytes; and sessions over simulated readers and
+writers.
 Use: trials.py [PROGRAM]"""
 import os
 import subprocess
@@ -14,26 +15,26 @@ import helper  # noqa: E402
 
 class Trials(helper.Check):
     def says(self, name, plain=False):
-        """The tests of this name say what they have to, each of them, with AddressSanitizer or without."""
+        """The tests of this name print the expected output, each of them, with AddressSanitizer or without."""
         done = subprocess.run([helper.trials(plain), name], stdin=subprocess.DEVNULL, capture_output=True, text=True, timeout=300)
         self.assertEqual((done.returncode, done.stderr), (0, ""))
         with open(os.path.join(helper.TOP, "tests/trials", name + ".stdout"), encoding="ascii") as file:
             self.assertEqual(done.stdout.splitlines(), file.read().splitlines())
 
     def test_memory(self):
-        """each call that takes memory, in heaps of growing size"""
+        """each call that allocates memory, in heaps of growing size"""
         self.says("memory")
 
     def test_children(self):
-        """what children ask of a system that is played"""
+        """the requests of agent processes to a simulated system"""
         self.says("children")
 
     def test_disks(self):
-        """disks in memory, and openings in which each device call is stopped or fails, lengths and reads among them"""
+        """disks in memory, and openings in which each device call crashes or fails, also calls for lengths and reads"""
         self.says("disks")
 
     def test_ends(self):
-        """readers, writers and clocks that are played: a byte at a time, a full or a closed output, half a line, many lines, no time"""
+        """simulated readers, writers and clocks: a byte at a time, a full or a closed output, half a line, many lines, no time"""
         self.says("ends")
 
     def test_many(self):

@@ -1,8 +1,8 @@
 #!/usr/bin/env bash
-# Builds the trials of tests/trials once more, with the counters of AFL++ in them: FOLDER/trials. The module that the kit's compiler made
-# of the whole program, with its checks, is compiled again with the same flags, but optimised, and with the counters in the place
-# of AddressSanitizer. Its main is called again and again in one process (persist.c).
-# Use: build.sh FOLDER; it needs the package afl++
+# Builds the trials of tests/trials once more, with the counters of AFL++: DIRECTORY/trials. The module that the kit's compiler made of the
+# whole program, with its checks, is compiled again with the same flags, but optimised, and with the counters instead of AddressSanitizer.
+# Its main is called again and again in one process (persist.c).
+# Use: build.sh DIRECTORY; it needs the package afl++
 set -eu
 work=$(realpath "$1")
 here=$(cd "$(dirname "$0")" && pwd)

@@ -1,5 +1,5 @@
-/* Trials one behind the other in one process, as AFL++ hands them over: each is the program's own main, with the same words, over
-   standard input, which AFL++ rewinds. A trial that fails ends the process with its status. Run by itself it plays one trial. */
+/* Trials one after the other in one process, as AFL++ provides them. Each is the program's own main, with the same arguments, over
+   standard input, which AFL++ rewinds. A trial that fails ends the process with its status. Called alone it plays one trial. */
 #include <unistd.h>
 
 int trial_main(int argc, char **argv);

@@ -1,6 +1,6 @@
 #!/usr/bin/env bash
-# Fuzzes each reader of tests/trials, guided by what it covers, two at a time, and prints what was found. What crashes, hangs or
-# fails is kept in the folder of work; a smallest set of inputs that covers as much goes to tests/fuzz/corpus with KEEP=1.
+# Fuzzes each reader of tests/trials, guided by its coverage, two at a time, and prints the findings. Inputs that crash, hang or fail are
+# kept in the work directory; with KEEP=1 a smallest set of inputs with the same coverage goes to tests/fuzz/corpus.
 # Use: run.sh SECONDS [READER..]; it needs the package afl++
 set -eu
 here=$(cd "$(dirname "$0")" && pwd)
@@ -18,7 +18,7 @@ command -v afl-fuzz > /dev/null || { echo "the package afl++ is wanted" >&2; exi
 mkdir -p "$work/out"
 python3 -B "$here/seeds.py" "$work/seeds"
 
-# What fuzzing begins with: the seeds and what earlier runs kept.
+# The initial inputs: the seeds and those that earlier runs kept.
 begin() {
     mkdir -p "$work/in/$1"
     cp "$work/seeds/$1/"* "$work/in/$1/"
@@ -33,7 +33,7 @@ fuzz() {
         > "$work/$1.log" 2>&1 || true
 }
 
-# The smallest set of inputs that covers what all of them cover.
+# The smallest set of inputs with the coverage of all of them.
 keep() {
     rm -rf "$here/corpus/$1" "$work/least/$1"
     mkdir -p "$here/corpus" "$work/least"

@@ -1,7 +1,7 @@
 #!/usr/bin/env python3
-"""Writes what fuzzers begin with, one file each, into a folder for each reader: the events, states, parts, lines and runs of the
-scenarios, and words of the program's command line.
-Use: seeds.py FOLDER"""
+"""Writes the initial inputs of fuzzers, one file each, into a directory for each reader: the events, states, parts, lines and runs of the
+scenarios, and arguments of the program.
+Use: seeds.py DIRECTORY"""
 import hashlib
 import json
 import os

@@ -1,4 +1,4 @@
-"""Words of the program's command line, and command lines that no scenario has."""
+"""Arguments of the program, and command lines that no scenario has."""
 WORDS = [
     ["run", "--memory"],
     ["serve", "--journal", "/var/lib/ocfexec"],

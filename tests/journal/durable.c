@@ -3,7 +3,7 @@
 #include <stdlib.h>
 #include <unistd.h>
 
-/* Writes records of 32 bytes behind one another, each behind a gate byte of its own, and syncs both writes. */
+/* Writes records of 32 bytes one after another, each after a gate byte of its own, and syncs both writes. */
 int main(int count, char **words) {
     int file = open(words[1], O_RDWR | O_CREAT | O_TRUNC, 0600);
     char record[37] = {0}, gate = 1;

@@ -1,9 +1,9 @@
 #!/usr/bin/env python3
 # check: slow alone
-"""What a recorded command costs beside its device calls: commands through `PROGRAM run --journal`, each sent behind the reply of the one
-before it, so that each is a record of its own, and a C loop (durable.c) that makes the same two writes and two syncs in the same folder,
-in turn. Wanted on a quiet machine: at most 50 microseconds more than the loop, beside what two pipes take. It fails at ten times that
-where it is also twice the loop's time, so that a busy machine does not.
+"""The cost of a recorded command besides its device calls. Commands go through `PROGRAM run --journal`, each sent after the reply to the
+one before it, so that each is a record of its own; a C loop (durable.c) makes the same two writes and two syncs in the same directory, by
+turns. Wanted on a quiet machine: at most 50 microseconds more than the loop and the two pipes. The check fails at ten times that, if it is
+also twice the loop's time, so that it passes on a busy machine.
 Use: durable.py PROGRAM, with COMMANDS and ROUNDS in the environment"""
 import os
 import shutil
@@ -28,7 +28,7 @@ class Durable(helper.Check):
         return (time.monotonic() - began) * 1e6
 
     def recorded(self, commands):
-        """Has commands recorded one by one in a new journal: the microseconds of them all."""
+        """Has commands recorded one by one in a new journal; returns the microseconds of all of them."""
         journal, line = self.journal(), helper.lines({"op": "params", "id": "r1", "params": {"state": "12"}})
         with subprocess.Popen([PROGRAM, "run", "--journal", journal], stdin=subprocess.PIPE, stdout=subprocess.PIPE, bufsize=0) as run:
             self.assertEqual(self.asked(run, helper.lines(helper.register("r1", "None"))), OK)
@@ -43,7 +43,7 @@ class Durable(helper.Check):
         return run.stdout.read(100)
 
     def test_command(self):
-        """what a recorded command costs, beside a loop in C"""
+        """the cost of a recorded command, compared with a loop in C"""
         if not shutil.which("cc"):
             self.skipTest("install a C compiler (apt-get install gcc)")
         subprocess.run(["cc", "-O2", "-o", self.place("loop"), SOURCE], check=True)

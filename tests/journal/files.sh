@@ -1,7 +1,7 @@
 #!/usr/bin/env bash
-# Journals in files: what is made, what is refused and how it is told, whose files root opens, what is shown of a journal that is in
-# use, files that are replaced, a device that is full, room that was reserved, and how dear the opening of a full part is. Wanted on a quiet
-# machine: under 0.5 seconds and 64 MiB of memory. It fails at ten times that time, so that a busy machine does not.
+# Journals in files: which files are created, which are refused and how that is reported, which owners root accepts, the output of show
+# while a journal is in use, replaced files, a full device, reserved space, and the cost of opening a full part. Wanted on a quiet machine:
+# under 0.5 seconds and 64 MiB of memory. The check fails at ten times that time, so that it passes on a busy machine.
 # Use: files.sh PROGRAM
 set -u
 . "$(dirname "$0")/../lib/common.sh" "$@"
@@ -19,7 +19,7 @@ journal() {
     same "$1, reply" '{"ok":true}' "$(cat "$here/out")"
 }
 
-# Opens a journal of r1 and keeps its executor running, from its first reply on; what ends it is explained. Use: hold DIR
+# Opens a journal of r1 and keeps its executor running, from its first reply on; the fault that ends it is explained. Use: hold DIR
 hold() {
     explained "$here/held_err" feed "$here/held" run --journal "$1"
     printf '{"op":"list"}\n' >&3
@@ -34,7 +34,7 @@ let_go() {
     same "$1, reply" '{"ok":true,"resources":["r1"]}' "$(cat "$here/held")"
 }
 
-# Has that executor do this, which fails since a part's file is no longer that of its path. Use: loses NAME LINE [COMMAND REPLY]
+# Has that executor do this, which fails because a part's path no longer leads to its file. Use: loses NAME LINE [COMMAND REPLY]
 loses() {
     printf '%s\n' "${3-$tidy}" >&3
     exec 3>&-
@@ -46,7 +46,7 @@ $2
 $check_device" "$(cat "$here/held_err")"
 }
 
-# Shows a journal, as a user who may only read it where this is root. Sets $status. Use: shown DIR
+# Shows a journal, as a user who may only read it if this is root. Sets $status. Use: shown DIR
 shown() {
     local as=()
     if [ "$(id -u)" -eq 0 ]; then as=(setpriv --reuid=65534 --regid=65534 --clear-groups); fi
@@ -54,7 +54,7 @@ shown() {
     "${as[@]}" "$here/viewer" show --journal "$1" > out 2> err || status=$?
 }
 
-# A journal that is not shown, for this reason, which is told to a person alone. Use: hidden NAME CAUSE WORD..
+# A journal that is not shown, for this reason, which is reported only for people. Use: hidden NAME CAUSE WORD..
 hidden() {
     local name=$1 cause=$2
     shift 2
@@ -65,7 +65,7 @@ hidden() {
 $cause" "$? $(cat err)"
 }
 
-# A journal that root opens with --any-owner alone: it is refused for this path and reason, and nothing is made.
+# A journal that root opens only with --any-owner: it is refused for this path and reason, and no file is created.
 # Use: distrusted DIR PATH WHY
 distrusted() {
     local before wanted
@@ -76,7 +76,7 @@ distrusted() {
     same "$1, refused" "$before" "$(inside "$1")"
     "$program" show --journal "$1" > out 2> err
     same "show of $1" "0 " "$? $(cat err)"
-    # (a folder without a journal has no status)
+    # (a directory without a journal has no status)
     wanted="0 "
     [ -e "$1/part-a" ] || wanted="9 ocfexec: no journal here yet"
     "$program" status --journal "$1" > out 2> err
@@ -85,18 +85,18 @@ distrusted() {
     same "$1 by --any-owner" "0 0 " "${PIPESTATUS[*]} $(cat err)"
 }
 
-# What a folder has, with lengths, modes and moments of change. Use: inside DIR
+# The files of a directory, with lengths, modes and times of change. Use: inside DIR
 inside() {
     find "$1" -printf '%p %s %m %T@ %C@\n' | sort
 }
 
 cd "$here" || exit 1
 
-# What is made, and what is found again
+# New files, and their content when they are opened again
 journal made
 same "length of part A" 79 "$(stat -c %s made/part-a)"
 same "length of part B" 0 "$(stat -c %s made/part-b)"
-# part A by the format, but for the eight bytes of the moment
+# part A by the format, except the eight bytes of the moment
 spelled=$(od -An -v -t x1 made/part-a | tr -d ' \n')
 same "part A up to the moment" \
     "014f43464a0200000000000000010000001a0000000000000001000000000000000100000000000000000000010000001d01" "${spelled:0:100}"
@@ -118,7 +118,7 @@ same "one empty file" '{"ok":true,"resources":[]}' "$(cat out)"
 same "what is made" "half/executor half/part-a half/part-b" "$(echo half/*)"
 checked "what is made, and what is found again"
 
-# What can't be opened
+# Files that cannot be opened
 refused nowhere 5 "ocfexec: disk" "nowhere: No such file or directory"
 same "a missing directory, advice" "Missing directory: make it, for its owner alone, or name another by --journal." \
     "$(tail -n 1 "$here/err")"
@@ -139,7 +139,7 @@ refused dangling 5 "ocfexec: disk" "dangling/part-b: not a plain file"
 [ ! -e made/none ] || differs "a link to nothing" "no file" "made/none"
 checked "what cannot be opened"
 
-# A part whose file is gone is refused while the other one holds a journal, and nothing is made
+# If the file of one part is missing while the other one holds a journal, it is refused, and no file is created
 journal lost
 cp -r lost lost_a && rm lost/part-b
 before=$(inside lost)
@@ -152,13 +152,13 @@ refused lost_a 5 "ocfexec: disk" "lost_a/part-a: gone, while part-b holds a jour
 same "a lost part A" "lost_a/executor lost_a/part-b" "$(echo lost_a/*)"
 checked "a part that is gone beside one that holds a journal"
 
-# Beside a file that holds no journal no other one is said to be gone
+# Beside a file that holds no journal, a missing one is not reported
 mkdir garbage && printf 'not a journal at all' > garbage/part-a
 refused garbage 5 "ocfexec: disk" "garbage/part-a: holds no journal"
 hidden "show of garbage" "garbage/part-a: holds no journal" show --journal garbage
 same "garbage" "garbage/part-a" "$(echo garbage/*)"
 
-# A part that was emptied beside one that was tidied is refused as a lost one is
+# A part that was emptied beside one that was tidied is refused like a missing one
 journal emptied
 run emptied '{"op":"tidy"}'
 : > emptied/part-a
@@ -187,7 +187,7 @@ run made '{"op":"list"}'
 same "the journal after it" '{"ok":true,"resources":["r1"]}' "$(cat out)"
 checked "one executor at a time"
 
-# Files that are replaced under an executor: no other one opens them, and the next command or tidy fails
+# Files that are replaced while an executor runs: no other executor opens them, and the next command or tidy fails
 journal replaced
 hold replaced
 cp replaced/part-a copy && mv copy replaced/part-a
@@ -212,7 +212,7 @@ run swapped "$exec_start"
 same "the folder in its place" '{"call":1,"key":"r1_start_0","ok":true}' "$(cat out)"
 checked "files and folders that are replaced, renamed or removed under an executor"
 
-# A mount over the folder
+# A mount over the directory
 if [ "$(id -u)" -eq 0 ]; then apart="unshare --mount"; else apart="unshare --user --map-root-user --mount"; fi
 mkdir over
 if $apart mount -t tmpfs none "$here/over" 2> err; then
@@ -240,7 +240,7 @@ else
 fi
 checked "a mount over the folder"
 
-# What is shown of a folder that may only be read, and of one without files: nothing is made and nothing changes
+# The output of show for a directory that may only be read, and for one without files: no file is created or changed
 chmod 711 "$here"
 cp "$program" viewer
 cp -r made fixed && chmod 444 fixed/part-a fixed/part-b && chmod 555 fixed
@@ -257,7 +257,7 @@ hidden "show of a directory that is not there" "nowhere: No such file or directo
 Missing directory: make it, for its owner alone, or name another by --journal." show --journal nowhere
 checked "what is shown of a folder that may only be read, and of one without files"
 
-# Root opens only a journal of which it is the only writer; any other user opens whatever it may
+# Root opens only a journal that only root can write; any other user opens any journal that the system allows
 if [ "$(id -u)" -eq 0 ]; then
     mkdir others && chown 65534 others
     distrusted others others "belongs to user 65534, and not to root"
@@ -278,8 +278,8 @@ if [ "$(id -u)" -eq 0 ]; then
 fi
 checked "root opens a journal alone of which it is the only writer"
 
-# A journal is shown while its executor is busy with registrations, parameters and tidies: what is listed is a prefix of
-# what was registered, and no shorter than what was listed before
+# A journal is shown while its executor is busy with registrations, parameters and tidies: the list is a prefix of the registered resources,
+# and not shorter than the previous list
 mkdir busy
 number=0
 while [ ! -e enough ]; do
@@ -316,7 +316,7 @@ same "the busy executor, refusals" "" "$(grep -v -x -e '{"ok":true}' -e '{"end":
 echo "50 shows of a busy journal: $last resources in the last one, $(grep -c end busy_replies) tidies"
 checked "what is shown of a journal while its executor is busy"
 
-# Standard streams that are closed: nothing of what is meant for them lands in a part
+# Closed standard streams: nothing written to them goes into a part
 printf '%s\n' "$register" > line
 cp -r made streams
 "$program" run --journal streams < line >&- 2>&-
@@ -324,7 +324,7 @@ same "standard output closed, status" 7 $?
 diff -r -x executor made streams || differs "standard output closed" "the same bytes" "others"
 checked "standard output that is closed"
 
-# A device that is full: no file grows past 64 KiB
+# A full device: no file grows past 64 KiB
 value=$(printf '%01024d' 0)
 params=$(for name in a b c d e f g h i j k l m n o; do printf ',"%s":"%s"' "$name" "$value"; done)
 large="{\"op\":\"params\",\"id\":\"r1\",\"params\":{${params#,}}}"
@@ -350,7 +350,7 @@ run full '{"op":"list"}'
 same "opened again" '{"ok":true,"resources":["r1"]}' "$(cat out)"
 checked "a device that is full"
 
-# Room that was reserved before the device filled: 300 commands and a tidy, and without it no command at all
+# Space that was reserved before the device filled: 300 commands and a tidy succeed; without it no command does
 if command -v fallocate > found && $apart mount -t tmpfs -o size=1m none "$here/other" 2> err; then
     mkdir device
     printf '%s\n' "$register" > lines
@@ -372,7 +372,7 @@ FILLS
     $apart sh fills "$program"
     read -r ended size < status
     same "reserved room, status" 0 "$ended"
-    # 300 events, and a frame of five bytes for each record, of which each has one event or two
+    # 300 events, and a frame of five bytes for each record, which has one event or two
     within=no
     if [ "$size" -ge 4615291 ] && [ "$size" -le 4616041 ]; then within=yes; fi
     same "reserved room, part A of $size bytes is as long as its records" yes "$within"

@@ -1,8 +1,8 @@
 #!/usr/bin/env python3
-"""The second reader and writer of the journal's bytes, tests/lib/journal_format.py, on what the program writes and shows: each event
-that a run records is read, and spelled again to the same bytes; so is a state with all that a state may have, as a tidy leaves it, and
-what is written by hand is shown as it was meant; so are the stored journals of the first layout. Of parts by chance, some of which are
-damaged, both say the same.
+"""The second reader and writer of the journal's bytes, tests/lib/journal_format.py, on the program's writes and its output of show. Each
+event that a run records is decoded, and encoded again to the same bytes; so is a state with all that a state may have, as a tidy writes it.
+A part written by hand is shown as intended; so are the stored journals of the first layout. Both agree on random parts, some of which are
+damaged.
 Use: format.py PROGRAM, with ROUNDS and SEED in the environment"""
 import gzip
 import os
@@ -19,7 +19,7 @@ from journal_format import (ACTIONS, CLOSED, DETAILS, DROPPED, FIRST, INTERRUPTE
 
 REFUSED = 5
 DATA = os.path.join(helper.TOP, "tests/data/first-layout")
-# What a run is asked for that records each kind of event but a boot, and the events of it.
+# The commands of a run that records each kind of event except a boot, and its events.
 ASKED = [
     helper.register("r1", "Step", z="last", a="\u00e9"), helper.register("r2", "Step"), {"op": "unregister", "id": "r2"},
     {"op": "params", "id": "r1", "params": {"code": "0"}}, action("r1", "start"), action("r1", "stop", timeout=77),
@@ -42,7 +42,7 @@ RECORDED = [
     {"event": "cancel", "id": "r1", "interval": 5000},
     {"event": "exec", "id": "r1", "call": 4, "action": MONITOR, "level": 20, "expect": 7, "timeout": 20000},
 ]
-# A state with each thing that a state may have, and what is shown of it.
+# A state with each thing that a state may have, and the output of show for it.
 INTERRUPTED_RUN = {"call": 2, "run": 1, "action": STOP, "interval": 0, "since": 5, "at": 9, "outcome": (INTERRUPTED, 0)}
 FAILED_RUN = {"call": 1, "run": 2, "action": MONITOR, "interval": 400, "since": 3, "at": 4, "outcome": (NOT_STARTED, 2)}
 FULL = {"next_call": 9, "next_run": 4, "clock": 50, "resources": [
@@ -67,11 +67,11 @@ SHOWN = [
 ]
 
 
-# States and parts by chance.
+# Random states and parts.
 
 
 def task(dice):
-    """An action with its level and expected code, which are 0 but for a monitor."""
+    """An action with its level and expected code, which are 0 except for a monitor."""
     action = dice.choice(ACTIONS)
     is_monitor = action == MONITOR
     return {"action": action, "level": dice.choice((0, 10, 20)) * is_monitor, "expect": dice.choice((0, 7, 8)) * is_monitor}
@@ -111,7 +111,7 @@ def part(dice):
 
 
 def spoilt(dice, text):
-    """These bytes with one of them changed, or cut, or as they are."""
+    """These bytes with one of them changed, or cut, or unchanged."""
     at, way = dice.randrange(len(text)), dice.randrange(3)
     return [text, text[:at], text[:at] + bytes([dice.randrange(256)]) + text[at + 1:]][way]
 
@@ -122,7 +122,7 @@ class Format(helper.Check):
         self.assertEqual(done.returncode, status, done.stderr)
 
     def current(self, journal):
-        """What the journal's current part holds, which is spelled again to the same bytes."""
+        """The content of the journal's current part, which is encoded again to the same bytes."""
         parts = helper.parts(journal)
         part = journal_format.found(*parts)
         self.assertIn(part.spelled(), [text[:part.end] for text in parts], "spelled again")
@@ -140,7 +140,7 @@ class Format(helper.Check):
         self.assertEqual({event["event"] for event in events}, set(journal_format.KINDS))
 
     def test_tidied(self):
-        """a state as a tidy leaves it"""
+        """a state as a tidy writes it"""
         journal = self.journal()
         self.run_on(journal, *ASKED)
         self.run_on(journal, {"op": "tidy"}, action("r1", "stop"))
@@ -169,7 +169,7 @@ class Format(helper.Check):
 
     @by_chance(150)
     def test_chance(self, dice):
-        """parts by chance, of which some are spoilt, are shown or called damaged as the second reader finds them"""
+        """random parts, some of them damaged, are shown or called damaged as the second reader finds them"""
         text, state = part(dice)
         self.assertEqual(journal_format.read_part(text).state, state, "a state that is read as it was written")
         parts = [spoilt(dice, text), b""]
@@ -177,10 +177,10 @@ class Format(helper.Check):
         shown = helper.run("show", "--journal", self.spelled("journal", *parts))
         said, wanted = shown.stderr.decode(), journal_format.damage(*parts)
         if said.endswith(": order\n"):
-            # (that an event does not apply in its place the second reader does not find)
+            # (the second reader does not detect an event that does not apply in its place)
             return
         if shown.returncode == REFUSED:
-            # a part without a head beside an empty one: garbage, or one that was emptied
+            # a part without a head beside an empty one: garbage, or a part that was emptied
             self.assertEqual(said, "ocfexec: disk\n")
             return
         self.assertEqual(said, wanted and f"ocfexec: damaged part {wanted}\n", f"of {parts[0].hex()}")

@@ -1,9 +1,9 @@
 #!/usr/bin/env python3
 # check: trials
-"""What guided fuzzing found of inputs, tests/fuzz/corpus, handed once more to the readers that they were found for: none crashes,
-takes long or fails, so what is read spells the same bytes, a pair that is refused is not written, and what a run leaves opens. The
-program of tests/trials hands them over. Of each pair the program's own `show` says the damage that a second reader finds, which is
-written after docs/FORMAT.md alone.
+"""Inputs that guided fuzzing found, tests/fuzz/corpus, are given once more to the readers that they were found for. None crashes, takes
+long or fails: decoded values encode to the same bytes, a refused pair is not written, and the journal of a run opens. The program of
+tests/trials reads them. For each pair the program's own `show` reports the damage that a second reader finds, which is written after
+docs/FORMAT.md alone.
 Use: fuzz.py PROGRAM"""
 import os
 import subprocess
@@ -19,7 +19,7 @@ SHOWN, REFUSED, DAMAGED = 0, 5, 3
 
 class Fuzz(helper.Check):
     def hand(self, text, *words, name="", said=b""):
-        """Hands these bytes to a reader."""
+        """Gives these bytes to a reader."""
         done = subprocess.run([helper.trials(), *words], input=text, capture_output=True, timeout=20)
         self.assertEqual((done.returncode, done.stdout, done.stderr), (0, said, b""), name)
 
@@ -32,7 +32,7 @@ class Fuzz(helper.Check):
                 yield name, file.read()
 
     def replay(self, reader):
-        """Hands all inputs to a reader, in one process; where that fails each in a process of its own, so that the input is named."""
+        """Gives all inputs to a reader, in one process; if that fails, each in a process of its own, so that the input is named."""
         inputs = list(self.inputs(reader))
         told = b"".join(len(text).to_bytes(4, "big") + text for _, text in inputs)
         try:
@@ -43,12 +43,12 @@ class Fuzz(helper.Check):
             raise
 
     def test_first(self):
-        """a first run, of three commands and a line that is none"""
+        """a first run, of three commands and an invalid line"""
         with open(os.path.join(helper.TOP, "tests/trials/lines.stdin"), "rb") as file:
             self.hand(file.read(), "lines", name="lines.stdin")
 
     def test_none(self):
-        """a reader that there is not is refused"""
+        """an unknown reader is refused"""
         done = subprocess.run([helper.trials(), "none"], input=b"", capture_output=True, timeout=20)
         self.assertEqual((done.returncode, done.stdout), (1, b""))
         self.assertIn(b"no reader is called none", done.stderr)
@@ -66,7 +66,7 @@ class Fuzz(helper.Check):
         self.replay("state")
 
     def test_words(self):
-        """words of the command line that fuzzing found"""
+        """arguments that fuzzing found"""
         self.replay("words")
 
     def test_lines(self):
@@ -84,7 +84,7 @@ class Fuzz(helper.Check):
                 yield name, [text[2:][:length], text[2:][length:]]
 
     def test_show(self):
-        """the same pairs, shown by the program, which says the damage that a second reader finds, and writes nothing"""
+        """the same pairs, shown by the program, which reports the damage that a second reader finds, and writes nothing"""
         for name, parts in self.pairs():
             folder = self.spelled(name, *parts)
             done = helper.explained("show", "--journal", folder, timeout=10)
@@ -92,7 +92,7 @@ class Fuzz(helper.Check):
             if b"" in parts and b": empty, while part-" in done.stderr:
                 self.assertEqual(done.returncode, REFUSED, name)
             elif said.endswith(": order"):
-                # (an event that does not apply in its place is damage that the second reader does not look for)
+                # (the second reader does not look for an event that does not apply in its place)
                 self.assertEqual(done.returncode, DAMAGED, name)
             else:
                 wanted = damage(*parts)

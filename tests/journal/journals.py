@@ -1,6 +1,6 @@
 #!/usr/bin/env python3
-"""Journals whose parts are spelled by hand, after docs/FORMAT.md: what they are shown as, what their opening reports, each cause of
-damage, and a part that has no room left for a boot.
+"""Journals whose parts are encoded by hand, after docs/FORMAT.md: how they are shown, what their opening reports, each cause of damage, and
+a part that has no space left for a boot.
 Use: journals.py PROGRAM"""
 import subprocess
 import sys
@@ -25,7 +25,7 @@ REPORT = b"""\
 LIST = helper.lines({"op": "list"})
 
 
-# Events, with what most of them have here.
+# Events, with the values that most of them have here.
 def register(at, resource, provider, kind, **params):
     return event("register", at, id=resource, provider=provider, type=kind, params=params)
 
@@ -51,7 +51,7 @@ def done(at, resource, run, code):
 
 
 def busy():
-    """Part A of a journal of r1 with a start that is done and a stop that is queued, and of r2 with a monitor that runs."""
+    """Part A of a journal of r1 with a done start and a queued stop, and of r2 with a running monitor."""
     rows = [register(0, "r1", "pacemaker", "Dummy"), execute(10, "r1", 1, START), begin(20, "r1", 1, 1), done(90, "r1", 1, 0),
             register(100, "r2", "heartbeat", "Dummy", state="/tmp"), execute(100, "r1", 2, STOP),
             execute(100, "r2", 3, MONITOR, level=10), begin(110, "r2", 3, 2)]
@@ -59,22 +59,22 @@ def busy():
 
 
 def probed():
-    """Part A of a journal of r1 with two probes that expect it stopped: the first one finds it so, the second one running."""
+    """Part A of a journal of r1 with two probes that expect it stopped: the first one finds it stopped, the second one running."""
     rows = [register(0, "r1", "pacemaker", "Dummy"), execute(10, "r1", 1, MONITOR, expect=7), begin(20, "r1", 1, 1), done(30, "r1", 1, 7),
             execute(40, "r1", 2, MONITOR, expect=7), begin(50, "r1", 2, 2), done(60, "r1", 2, 0)]
     return head() + b"".join(record(row) for row in rows) + CLOSED
 
 
 def withdrawn():
-    """Part A of a journal of r1 with a start that runs, a stop that was withdrawn at 30, and a monitor that is queued."""
+    """Part A of a journal of r1 with a running start, a stop that was withdrawn at 30, and a queued monitor."""
     rows = [register(0, "r1", "pacemaker", "Dummy"), execute(10, "r1", 1, START), begin(20, "r1", 1, 1), execute(25, "r1", 2, STOP),
             execute(25, "r1", 3, MONITOR), withdraw(30, "r1", 2)]
     return head() + b"".join(record(row) for row in rows) + CLOSED
 
 
 def crowded():
-    """Part A of a journal in which a start of r1 runs, and r1's results are forgotten over and over, until only eleven bytes are left
-    at most for one more record's body."""
+    """Part A of a journal in which a start of r1 runs, and r1's results are forgotten again and again, until at most eleven bytes are
+    left for the body of one more record."""
     rows = [register(0, "r1", "pacemaker", "Dummy"), execute(0, "r1", 1, START), begin(0, "r1", 1, 1)]
     forgotten = forget(0, "r1")
     full = record(forgotten * (BODY // len(forgotten)))
@@ -86,7 +86,7 @@ def crowded():
 
 class Journals(helper.Check):
     def words(self, folder):
-        # its own root: an opening ends what is left of a start, by the path of the agent and the name of the resource
+        # its own root: an opening ends the orphans of a start, by the path of the agent and the name of the resource
         return ["run", "--journal", folder, "--root", self.here]
 
     def shows(self, folder):
@@ -97,7 +97,7 @@ class Journals(helper.Check):
         return found
 
     def stays(self, folder, status, line, advice):
-        """A journal that is not opened, is told so, and stays the same byte for byte."""
+        """A journal that is not opened, is reported so, and stays the same byte for byte."""
         before = helper.parts(folder)
         found = helper.run(*self.words(folder))
         self.assertEqual((found.returncode, found.stdout, found.stderr.decode()), (status, b"", line + "\n"))
@@ -113,19 +113,19 @@ class Journals(helper.Check):
         self.assertEqual((found.returncode, found.stdout), (3, b""))
 
     def test_shown(self):
-        """what a spelled journal shows"""
+        """the output of show for an encoded journal"""
         found = self.shows(self.spelled("journal", busy(), b""))
         self.assertEqual((found.returncode, found.stdout), (0, SHOWN))
 
     def test_failed(self):
-        """what failed last is the probe that did not find what it expected"""
+        """the last failure is the probe that did not find the expected state"""
         found = self.shows(self.spelled("journal", probed(), b""))
         _, info, history = (helper.value_of(line) for line in found.stdout.splitlines())
         first, second = history["results"]
         self.assertEqual((first["code"], second["code"], info["failed"]), (7, 0, second))
 
     def test_withdrawn(self):
-        """what was withdrawn has a result and is queued no more"""
+        """a withdrawn action has a result and is no longer queued"""
         found = self.shows(self.spelled("journal", withdrawn(), b""))
         _, info, history = (helper.value_of(line) for line in found.stdout.splitlines())
         result = {"action": "stop", "at": 30, "call": 2, "code": 1, "interval": 0, "name": "OCF_ERR_GENERIC", "outcome": "cancelled",
@@ -170,7 +170,7 @@ class Journals(helper.Check):
         self.damaged("A at 0: epoch", head(epoch=0) + CLOSED)
 
     def test_state(self):
-        """damage: a snapshot that is no state"""
+        """damage: a snapshot that is not a state"""
         self.damaged("A at 0: state", head(snapshot=b"x") + CLOSED)
 
     def test_long(self):
@@ -178,7 +178,7 @@ class Journals(helper.Check):
         self.damaged("A at 44: long", head() + OPEN + number(BODY + 1, 4))
 
     def test_event(self):
-        """damage: a record that is no row of events"""
+        """damage: a record that is not a batch of events"""
         self.damaged("B at 44: event", b"", head() + record(b"\0") + CLOSED)
 
     def test_order(self):
@@ -187,7 +187,7 @@ class Journals(helper.Check):
         self.damaged("A at 44: order", head() + record(unregister) + CLOSED)
 
     def test_withdrawn_twice(self):
-        """damage: a withdrawal of what is not queued"""
+        """damage: a withdrawal of an action that is not queued"""
         part = withdrawn()[:-1]
         self.damaged(f"A at {len(part)}: order", part + record(withdraw(30, "r1", 2)) + CLOSED)
 
@@ -197,7 +197,7 @@ class Journals(helper.Check):
         self.damaged("A at 44: event", head(version=1) + record(event) + CLOSED)
 
     def test_no_room(self):
-        """a part without room for a boot is shown, and not opened"""
+        """a part without space for a boot is shown, and not opened"""
         folder = self.spelled("journal", crowded(), b"")
         self.stays(folder, 6, "ocfexec: full", "Nothing was changed. See what it holds by show")
         found = self.shows(folder)

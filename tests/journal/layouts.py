@@ -1,9 +1,9 @@
 #!/usr/bin/env python3
-"""Opens journals of the first layout, which a program wrote that knew no other: tests/data/first-layout has their parts, and what
-that program's `show` printed of each. In `resting` nothing runs; in `running` the program was killed while two agents ran and an
-action was queued. Wanted: `show` prints the same, with the keys that are of the second layout, and writes nothing; an opening leaves the
-second layout in the other part, loses nothing and reports what was interrupted and dropped; the next opening of a journal at rest writes
-nothing. Killed at random moments while it goes over, the journal is always shown the same.
+"""Opens journals of the first layout, written by a program that knew no other: tests/data/first-layout has their parts, and that program's
+`show` of each. In `resting` no action runs; in `running` the program was killed while two agents ran and an action was queued. Wanted:
+`show` prints the same, with the keys of the second layout, and writes nothing. An opening leaves the second layout in the other part, loses
+nothing and reports interrupted and dropped actions. The next opening of a journal at rest writes nothing. After kills at random moments of
+the migration, the journal is always shown the same.
 Use: layouts.py PROGRAM, with KILLS and SEED in the environment"""
 import gzip
 import json
@@ -28,7 +28,7 @@ def stored(name, file):
 
 
 def today(line):
-    """What is shown of a line that the old program showed: nothing has failed, and each monitor is expected to succeed."""
+    """The line that is shown for a line of the old program: no result has failed, and each monitor is expected to succeed."""
     shown = json.loads(line)
     if "recurring" in shown:
         shown["failed"] = None
@@ -38,12 +38,12 @@ def today(line):
 
 
 def carried(name):
-    """What is to be shown of a stored journal, once it is carried over."""
+    """The expected output of show for a stored journal, once it is migrated."""
     return b"".join(today(line) for line in stored(name, "shown").splitlines())
 
 
 def but_for(text, ids):
-    """What is shown of all resources but these: the first line lists them, and two lines follow of each."""
+    """The output of show for all resources except these: the first line lists them, and each has two lines."""
     shown = text.splitlines()
     names = helper.value_of(shown[0])["resources"]
     return shown[:1] + [line for n, line in enumerate(shown[1:]) if names[n // 2] not in ids]
@@ -77,16 +77,16 @@ class Layouts(helper.Check):
             self.assertEqual((helper.parts(folder), helper.shown(folder)), (new, text), "nothing written again")
 
     def test_resting(self):
-        """a journal at rest goes over to the second layout"""
+        """a journal at rest migrates to the second layout"""
         self.goes_over("resting", [], [])
 
     def test_running(self):
-        """a journal of a killed program goes over, and is reported"""
+        """a journal of a killed program migrates, and is reported"""
         report = [("r003", "start", "interrupted"), ("r007", "start", "interrupted"), ("r003", "stop", "dropped")]
         self.goes_over("running", report, ["r003", "r007"])
 
     def killed(self, old, text, most):
-        # where the journal stands behind a kill at a random moment of its opening
+        # the layout of the journal after a kill at a random moment of its opening
         folder = self.unpack(old)
         with open(self.place("err"), "wb") as err:
             run = subprocess.Popen([PROGRAM, "run", "--journal", folder], stdin=subprocess.PIPE, stdout=err, stderr=err)
@@ -102,7 +102,7 @@ class Layouts(helper.Check):
 
     @helper.slow
     def test_kills(self):
-        """kills at random moments of the way over"""
+        """kills at random moments of the migration"""
         random.seed(helper.number("SEED", 20261124))
         kills = helper.number("KILLS", 200)
         old, text = [stored("resting", part) for part in PARTS], carried("resting")

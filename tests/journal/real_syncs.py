@@ -1,9 +1,9 @@
 #!/usr/bin/env python3
-"""What the program asks the system for, call by call: the reads, writes and syncs of a journal's files, the lines on standard output
-and the agents that are started, as a library that is loaded before the C library notes them (tests/shims/real_syncs.c). Which file a sync
-reaches no proof says, and a journal reads the same whether it was synced or not; so the calls are held to RULES here: in random
-sessions of `run` and `serve`, with tidies, kills and openings, from journals of the first layout, and on a device whose calls fail, are
-interrupted or are cut short. Libraries that lie about syncs must each break a rule.
+"""The program's calls of the system: the reads, writes and syncs of a journal's files, the lines on standard output and the started agents,
+as a library that is loaded before the C library notes them (tests/shims/real_syncs.c). No proof says which file a sync reaches, and a
+journal reads the same whether it was synced or not. So this module checks the calls against RULES: in random sessions of `run` and `serve`,
+with tidies, kills and openings, from journals of the first layout, and on a device whose calls fail, are interrupted or are cut short.
+Libraries that lie about syncs must each break a rule.
 Use: real_syncs.py PROGRAM, with ROUNDS, FAULTS and SEED in the environment"""
 import collections
 import errno
@@ -42,7 +42,7 @@ NAMES = [f"r{place}" for place in range(6)]
 
 
 class Call(typing.NamedTuple):
-    """A call, as it was noted: of a write the bytes that were to be written, and how many of them were made."""
+    """A call, as it was noted; a write has the bytes that were to be written, and how many of them were written."""
     name: str
     path: str
     at: int
@@ -59,7 +59,7 @@ class Call(typing.NamedTuple):
 
 
 def calls_of(path):
-    """The calls that a log holds."""
+    """The calls in a log."""
     found = []
     with open(path, encoding="utf-8") as log:
         for line in log:
@@ -103,11 +103,11 @@ class Part:
         self.opens()
 
     def opens(self):
-        """A new opening: it has synced nothing and laid nothing yet, and no write is half made."""
+        """A new opening: it has synced nothing and written nothing yet, and no write is half made."""
         self.was_synced, self.laid, self.rest = False, (0, 0), None
 
     def epoch(self):
-        """The epoch of its head, or -1 where it has none."""
+        """The epoch of its head, or -1 if it has none."""
         return head_of(self.text)[1] if is_headed(self.text) else -1
 
     def syncs(self):
@@ -120,11 +120,11 @@ class Part:
         self.is_synced &= not text
         self.laid = (self.laid[0] if call.at == self.laid[1] else call.at, call.at + call.made)
         self.gate = closed_gate(self.text, min(call.at, self.gate))
-        # a write that was cut short goes on with these bytes
+        # a write that was cut short continues with these bytes
         self.rest = (call.at + call.made, call.text[call.made:])
 
     def is_whole(self, gate):
-        """Whether it ends at this closed gate, and all that the gate makes count was laid since, with the next gate closed."""
+        """Whether it ends at this closed gate, and everything that the gate makes count was written since, with the next gate closed."""
         after = gate_after(self.text, gate)
         is_right = self.text[1:5] == MAGIC if gate == 0 else 0 < after - gate - FRAME <= BODY
         is_laid = self.laid[0] <= gate + 1 and after < self.laid[1]
@@ -137,7 +137,7 @@ class Part:
 
 
 class Journal:
-    """A journal's files, as the calls of its openings left them. Each call is held to the rules."""
+    """A journal's files, after the calls of its openings. Each call is checked against the rules."""
 
     def __init__(self, directory, *texts):
         self.directory = os.path.realpath(directory)
@@ -152,7 +152,7 @@ class Journal:
             raise Broken(rule, self.calls)
 
     def opening(self, calls):
-        """Takes the calls of an opening and of all that follows it."""
+        """Takes the calls of an opening and of everything after it."""
         self.has_failed, self.calls = False, []
         for part in self.parts.values():
             part.opens()
@@ -176,7 +176,7 @@ class Journal:
             self.ends(call)
 
     def ends(self, call):
-        """Whether a call succeeded. One that was interrupted has not failed: it is to be made once more."""
+        """Whether a call succeeded. A call that was interrupted has not failed: it has to be repeated."""
         if call.answer < 0 and call.answer != -errno.EINTR:
             self.has_failed = True
         return call.answer >= 0
@@ -214,16 +214,16 @@ class Journal:
         self.wants(self.every("is_synced"), "acknowledged")
 
     def may_follow(self, value):
-        """Whether a line may be written after a call that failed: it says so, or is a notice of a result that was recorded before."""
+        """Whether a line may be written after a call that failed: it reports that, or is a notice of a result that was recorded before."""
         if helper.is_notice(value):
             return any(part.has_result(value) for part in self.parts.values())
         return value.get("error", value.get("end")) in ("disk", "closed")
 
 
-# What is asked for.
+# The commands.
 
 def values(dice):
-    """An agent's parameters: how long it takes and its exit code, and some that take more than a piece of a snapshot."""
+    """An agent's parameters: its duration and its exit code, and some that are longer than a piece of a snapshot."""
     more = {f"p{place}": "x" * 1000 for place in range(dice.choice([0, 0, 0, 6]))}
     return {"time": dice.choice(["0", "0", "0.01"]), "code": dice.choice(["0", "0", "7"]), **more}
 
@@ -278,11 +278,12 @@ class RealSyncs(helper.Check):
         self.seed, self.counts = helper.number("SEED", 20261126), collections.Counter()
 
     def begun(self, place="journal", *texts):
-        """A journal with these parts, or one whose files are still to be made."""
+        """A journal with these parts, or one whose files do not exist yet."""
         return Journal(self.spelled(place, *texts), *texts)
 
     def opened(self, journal, word, asked, lie="", fault=""):
-        """Opens a journal, asks, and holds the calls to the rules: the calls, the status, and what was written to standard output."""
+        """Opens a journal, sends commands, and checks the calls against the rules; returns the calls, the status, and the standard
+        output."""
         asked = list(asked)
         self.note(os.path.basename(journal.directory) + ".asked", b"".join(lines for lines, _ in asked))
         layers = {"LD_PRELOAD": self.shim, "LOG": self.place("log"), "SHIM": lie, "FAULT": fault}
@@ -310,7 +311,7 @@ class RealSyncs(helper.Check):
             pass
 
     def are_all(self, journal, calls, written):
-        """These calls made all that is on standard output and in the files. Each kind is counted."""
+        """These calls made all of standard output and of the files. Each kind is counted."""
         self.assertEqual(b"".join(call.text[:call.made] for call in calls if call.path == OUT), written, "standard output")
         for path, part in journal.parts.items():
             with open(path, "rb") as file:
@@ -324,15 +325,15 @@ class RealSyncs(helper.Check):
         print("real_syncs: " + ", ".join(f"{count} {kind}" for kind, count in self.counts.items()), flush=True)
 
     def faults(self, calls, *words, among=is_device_call):
-        """Faults of some of the writes and syncs of a session, by chance."""
+        """Random faults of some of the writes and syncs of a session."""
         places = [place for place, call in enumerate(filter(is_device_call, calls), 1) if among(call)]
         dice = random.Random(self.seed)
         return [f"{dice.choice(words)} {place}" for place in dice.sample(places, min(len(places), helper.number("FAULTS", 6)))]
 
-    # What the program does.
+    # The program's behaviour.
 
     def session(self, journal, dice, lie=""):
-        """Openings of a journal by chance, of which some are killed in one of their calls where there is no lie."""
+        """Random openings of a journal, some of which are killed in one of their calls if there is no lie."""
         for _ in range(4):
             fault = f"kill {dice.randrange(1, 120)}" if dice.random() < 0.4 and not lie else ""
             _, status, _ = self.opened(journal, dice.choice(["run", "serve"]), batches(dice, 40), lie, fault)
@@ -340,7 +341,7 @@ class RealSyncs(helper.Check):
             self.counts["kills"] += status == -9
 
     def test_sessions(self):
-        """what random sessions write is synced before it counts, before the next write, and before anything is acknowledged or started"""
+        """every write of a random session is synced before it counts, before the next write, and before an acknowledgement or a start"""
         for place in range(helper.number("ROUNDS", 3)):
             with self.subTest(place=place):
                 self.session(self.begun(f"journal{place}"), random.Random(self.seed + place))
@@ -348,7 +349,7 @@ class RealSyncs(helper.Check):
         self.assertTrue(all(self.counts.values()), "each kind of call, and a kill: try more rounds")
 
     def test_first_layout(self):
-        """what a migration from the first layout writes is synced before it counts, killed or not"""
+        """every write of a migration from the first layout is synced before it counts, killed or not"""
         calls, status, _ = self.opened(self.begun("journal", first_layout(), b""), "run", [])
         self.assertEqual((status, self.counts["parts"], self.counts["records"]), (0, 1, 1), "a new part, and a boot")
         for fault in self.faults(calls, "kill"):
@@ -358,10 +359,10 @@ class RealSyncs(helper.Check):
                 self.assertEqual(self.opened(journal, "run", SHORT)[1], 0, "the next opening")
         self.report()
 
-    # What becomes of calls that fail.
+    # The effect of calls that fail.
 
     def test_failures(self):
-        """after a write or a sync that failed none is made, and only what was recorded before is acknowledged"""
+        """after a write or a sync that failed there is no other, and only what was recorded before is acknowledged"""
         for fault in self.faults(self.opened(self.begun(), "run", SHORT)[0], "eio"):
             with self.subTest(fault=fault):
                 journal = self.begun(fault)
@@ -370,13 +371,13 @@ class RealSyncs(helper.Check):
                 self.assertEqual(self.opened(journal, "run", SHORT)[1], 0, "the next opening")
 
     def test_interruptions(self):
-        """what was interrupted is made again, and a write that was cut short goes on, before anything is acknowledged"""
+        """an interrupted call is repeated, and a write that was cut short continues, before anything is acknowledged"""
         calls, *wanted = self.opened(self.begun(), "run", SHORT)
         for fault in self.faults(calls, "eintr", "short"):
             with self.subTest(fault=fault):
                 self.assertEqual(self.opened(self.begun(fault), "run", SHORT, fault=fault)[1:], tuple(wanted))
 
-    # What breaks a rule.
+    # Calls that break a rule.
 
     def breaks(self, lie, journal, fault=""):
         """The rule that a lie breaks in a short session."""
@@ -385,7 +386,7 @@ class RealSyncs(helper.Check):
         return found.exception.rule
 
     def breaks_both(self, lie):
-        """The rules that a lie breaks where a journal is made, and where one is opened."""
+        """The rules that a lie breaks when a journal is created, and when one is opened."""
         old = self.begun("old")
         self.opened(old, "run", SHORT)
         return self.breaks(lie, self.begun("new")), self.breaks(lie, old)
@@ -416,7 +417,7 @@ class RealSyncs(helper.Check):
             self.assertEqual(self.breaks("again", self.begun(fault), fault), "fault", fault)
 
     def broken(self, calls, texts, is_one, change):
-        """The rules that the calls of a session break where one of a kind is changed, each in its turn, from the first write on."""
+        """The rules that the calls of a session break if one call of a kind is changed, each in turn, from the first write on."""
         first = next(place for place, call in enumerate(calls) if is_write(call))
         for place in range(first, len(calls)):
             if is_one(calls[place]):
@@ -425,8 +426,8 @@ class RealSyncs(helper.Check):
                 yield found.exception.rule
 
     def made(self):
-        """The parts of a journal that was made before. The program opens a journal twice, so neither of two syncs behind its making is
-        needed alone."""
+        """The parts of a journal that was created before. The program opens a journal twice, so neither of two syncs after its creation
+        is needed alone."""
         journal = self.begun("made")
         self.opened(journal, "run", [])
         for path in journal.parts:

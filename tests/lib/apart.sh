@@ -1,8 +1,8 @@
-# A crate that is none of the gate's: its files have .txt behind their names, since a gate refuses sources that none of its crates has.
-# In a copy, with the crates below it, it is a crate as any other. Read by `. tests/lib/apart.sh`, at the top of the repository.
+# A crate outside the gate: the names of its files end in .txt, since a gate refuses sources that are in none of its crates. In a copy, with
+# the crates below it, it is a crate like any other. Read by `. tests/lib/apart.sh`, at the top of the repository.
 # shellcheck shell=bash
 
-# The lines of a crate and of all crates below it, of crates.txt and the crate's own. Use: lines_with LINE
+# The lines of crates.txt for a crate and all crates below it, and the crate's own. Use: lines_with LINE
 lines_with() {
     awk -F: -v first="${1%%:*}" '
         /^[a-z]/ { all[$1] = $0; below[$1] = $2 }
@@ -17,13 +17,13 @@ lines_with() {
         }' crates.txt <(echo "$1")
 }
 
-# The folders of the crates below this crate. Use: folders_below LINE
+# The directories of the crates below this crate. Use: folders_below LINE
 folders_below() {
     lines_with "$1" | sed -n 's/^\([a-z0-9_]*\):.*/crates\/\1/p' | grep -v -x "crates/${1%%:*}"
 }
 
-# Puts a crate of this line, whose files stand in a folder, and those below it, as they stand in the work tree, into a copy.
-# Use: copy_crate LINE FOLDER COPY
+# Puts a crate of this line, whose files are in a directory, and the crates below it, as they are in the work tree, into a copy.
+# Use: copy_crate LINE DIRECTORY COPY
 copy_crate() {
     lines_with "$1" > "$3/crates.txt"
     cp HANDLES "$3"

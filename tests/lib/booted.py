@@ -1,5 +1,5 @@
-"""What tests/system/booted.sh checks in the container that it boots: the guide with the package, and the units as they are installed, by
-systemctl(1) and journalctl(1) themselves. It writes to that machine's /etc and /usr, and is for none that is kept.
+"""The checks of tests/system/booted.sh in the container that it boots: the guide with the package, and the installed units, with
+systemctl(1) and journalctl(1) themselves. It writes to /etc and /usr of that machine, and must not run on a machine that is kept.
 Use: booted.py PROGRAM"""
 import glob
 import json
@@ -17,7 +17,7 @@ EXAMPLES = os.path.join(helper.TOP, "examples")
 # what the container shares with the machine
 SHARED = "/check"
 AGENT_PATH = "/usr/lib/ocf/resource.d/check/Dummy"
-# the service is a process, which any signal of another one would end
+# the service is a process, which a signal of any other process would end
 AGENT = f"""#!/bin/sh
 echo "$1" >> {SHARED}/calls
 case $1 in
@@ -77,7 +77,7 @@ class Package(helper.Check):
             self.skipTest("no gate has passed on these programs, so there is no package")
 
     def does(self, *words):
-        """What a command printed that had to succeed."""
+        """The output of a command that had to succeed."""
         done = subprocess.run(words, capture_output=True, text=True, timeout=200)
         self.assertEqual(done.returncode, 0, done.stdout + done.stderr)
         return done.stdout
@@ -89,7 +89,7 @@ class Package(helper.Check):
 
     @helper.slow
     def test_removed(self):
-        """an upgrade of the package, and its removal, leave what runs, and the removal says so"""
+        """an upgrade of the package, and its removal, leave services running, and the removal says so"""
         deb = self.does(f"{helper.TOP}/package/deb.sh", self.here).strip()
         write(AGENT_PATH, AGENT, 0o755)
         os.makedirs("/srv/booted", exist_ok=True)
@@ -111,7 +111,7 @@ class Package(helper.Check):
 class Units(helper.Check):
     @classmethod
     def setUpClass(cls):
-        """Installs as `make install` does, and the units as they say themselves."""
+        """Installs as `make install` does, and the units as their comments say."""
         shutil.copytree(EXAMPLES, "/usr/local/share/doc/ocfexec")
         shutil.copy(PROGRAM, "/usr/local/bin/ocfexec")
         for unit in glob.glob(f"{EXAMPLES}/*.service") + glob.glob(f"{EXAMPLES}/*.socket"):
@@ -149,7 +149,7 @@ class Units(helper.Check):
         self.eventually(what, holds, 30)
 
     def pids(self):
-        """The processes of nginx and of a Dummy, which both live."""
+        """The processes of nginx and of a Dummy, both of which live."""
         found = []
         for name in ("nginx.pid", "other"):
             with open(f"/srv/booted/{name}", encoding="ascii") as file:
@@ -160,7 +160,7 @@ class Units(helper.Check):
     @unittest.skipUnless(os.path.exists("/usr/lib/ocf/resource.d/heartbeat/nginx") and shutil.which("nginx", path="/usr/sbin"),
                          "install the packages resource-agents and nginx")
     def test_changes(self):
-        """with no file it is up and does nothing; its file names a Dummy, and then nginx, which runs through a restart, kills and a stop"""
+        """without a file it is up and does nothing; its file names a Dummy, then nginx, which runs through a restart, kills and a stop"""
         self.does("start", "ocfexec")
         self.assertEqual((shown("ActiveState"), shown("StatusText")), ("active", "nothing is configured"))
         self.assertEqual(os.listdir("/var/lib/ocfexec"), [])
@@ -212,7 +212,7 @@ class Units(helper.Check):
             systemctl("reset-failed")
 
     def test_pair(self):
-        """the FIFO of the pair serves two writers with a thousand lines each, and is there while the executor is another one"""
+        """the FIFO of the pair serves two writers with a thousand lines each, and survives a restart of the executor"""
         count, fifo, answers = 1000, "/run/ocfexec-fifo/commands", "/run/ocfexec-fifo/answers"
         self.does("start", "ocfexec-fifo.socket")
         for name in ("one", "two"):

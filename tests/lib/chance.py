@@ -1,6 +1,6 @@
-"""Tests by chance, each of which is handed its dice, a `random.Random`. Where python3-hypothesis is installed it throws them: of what fails
-it finds the least throws that still fail, keeps them in tests/failed, and tries them first the next time. Else each round has a seed of its
-own, and what fails says that of the round that did."""
+"""Random tests, each of which gets its dice, a `random.Random`. If python3-hypothesis is installed it throws the dice: it shrinks the
+throws of a failing test, keeps them in tests/failed, and tries them first the next time. Otherwise each round has a seed of its own, and
+a failing test prints the seed of its round."""
 import functools
 import os
 import random
@@ -16,7 +16,7 @@ except ImportError:
 
 
 def by_chance(rounds):
-    """Marks a test that is played so many times, or as often as ROUNDS says."""
+    """Marks a test that is played this many times, or as often as ROUNDS says."""
     return functools.partial(shrunk if hypothesis else seeded, rounds)
 
 

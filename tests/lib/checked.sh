@@ -1,12 +1,12 @@
-# Builds a program of a crate that is none of the gate's, since nothing depends on it: as `rt try` compiles, unproved and with checks, but
-# optimised. So it stops at an index out of bounds, a sum that wraps, or a value that is not there; and at an access to memory that is
-# not there. The same program without AddressSanitizer, which takes a quarter of the time, is beside it; with `plain` set it is alone.
-# Read by `. tests/lib/checked.sh`, at the top of the repository.
+# Builds a program of a crate that is outside the gate, since nothing depends on it: compiled as by `rt try`, unproved and with checks, but
+# optimised. So it stops at an index out of bounds, a sum that wraps, or a missing value; and at an access to unallocated memory. The same
+# program without AddressSanitizer, which takes a quarter of the time, is beside it; with `plain` set only that one is built. Read by `.
+# tests/lib/checked.sh`, at the top of the repository.
 # shellcheck shell=bash
 . tests/lib/apart.sh
 . tests/lib/kit.sh
 
-# The sum of all that the program of a line is compiled from. Use: sum_of_texts LINE
+# The sum of all texts from which the program of a line is compiled. Use: sum_of_texts LINE
 sum_of_texts() {
     local folder=tests/${1%%:*}
     {
@@ -19,13 +19,13 @@ sum_of_texts() {
     } | sha256sum
 }
 
-# Compiles the program of a line in a copy, and runs it there with these words and no input: its run has to be short. The program is what
-# the kit's linker made. Use: compile_checked LINE OUT [WORD..]
+# Compiles the program of a line in a copy, and runs it there with these arguments and no input, which has to be short. The program is the
+# output of the kit's linker. Use: compile_checked LINE OUT [WORD..]
 compile_checked() {
     local line=$1 out=$2 name=${1%%:*} copy
     shift 2
     copy=$(mktemp -d)
-    # shellcheck disable=SC2064 # it is that folder
+    # shellcheck disable=SC2064 # it is that directory
     trap "rm -rf '$copy'" EXIT
     mkdir "$copy/top"
     copy_crate "$line" "tests/$name" "$copy/top"
@@ -45,9 +45,9 @@ compile_checked() {
     [ -n "${plain:-}" ] || mv "$copy/plain" "$copy/module.bc" "$copy/flags" "$out"
 }
 
-# Has the program of a line, whose crate is in tests/NAME, as tests/NAME/out/NAME, and prints where it is. Unless `plain` is set, beside
-# it are that without AddressSanitizer, as `plain`, module.bc, the whole program as the compiler hands it to its clang, and the flags.
-# What was compiled from the same texts is not compiled again, and of two calls the second waits. Its run with these words has to be short.
+# Builds the program of a line, whose crate is in tests/NAME, as tests/NAME/out/NAME, and prints its path. Unless `plain` is set, beside it
+# are the one without AddressSanitizer, as `plain`; module.bc, the whole program as the compiler passes it to its clang; and the flags.
+# Nothing is compiled again from the same texts, and of two calls the second waits. Its run with these arguments has to be short.
 # Use: build_checked LINE [WORD..]
 build_checked() {
     local line=${1//$'\n   '/} out=$PWD/tests/${1%%:*}/out texts

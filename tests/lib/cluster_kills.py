@@ -1,11 +1,11 @@
 #!/usr/bin/env python3
 """Runs the cluster of examples/cluster, of three nodes over three members of etcd, through random kills: of a service, an executor, a
-manager, a member, a node, and of a node's link to the network where it has one. Wanted: no service is ever up twice, by its own count
-and by a look at the processes; after each row of kills every service is up again within its bound; each manager's record of results
-has each run of its journal just once, and equals the histories; and where there is no fencing, nothing of a lost node is taken over.
-It ends all that it started by process id.
-Use: cluster_kills.py PROGRAM yes|no, by cluster.sh: whether it is in namespaces of its own; with KILLS and SEED in the environment.
-Up to 30 kills it ends after 115 seconds, with those that were made by then."""
+manager, a member, a node, and a node's link to the network if it has one. Wanted: no service is ever up twice, by its own count and by the
+list of processes; after each series of kills every service is up again within its bound; each manager's record of results has each run of
+its journal exactly once, and equals the histories; and without fencing, nothing of a lost node is taken over. It ends everything that it
+started by process id.
+Use: cluster_kills.py PROGRAM yes|no, by cluster.sh: whether it is in namespaces of its own; with KILLS and SEED in the environment. With
+up to 30 kills it ends after 115 seconds, with the kills that were made by then."""
 import json
 import os
 import random
@@ -23,7 +23,7 @@ from lab import Lab, Unreachable, waits  # noqa: E402
 
 SERVICES = {"web": ["n1", "n2", "n3"], "db": ["n2", "n3", "n1"], "mail": ["n3", "n1", "n2"]}
 LEASE = 6
-# seconds from a kill until all is up again; a new leader of etcd gives each lease its whole time again
+# seconds from a kill until all services are up again; a new leader of etcd renews each lease
 BOUNDS = {"service": 15, "executor": 15, "manager": 15, "member": 20 + LEASE, "node": 20 + 2 * LEASE, "cut": 20 + 2 * LEASE}
 dice = random.Random()
 
@@ -42,7 +42,7 @@ def is_whole(lab):
 
 
 class Plan:
-    """What is to be put right again, and when."""
+    """What has to be repaired, and until when."""
 
     def __init__(self, lab):
         self.lab, self.later = lab, []
@@ -98,7 +98,7 @@ class Plan:
             pass
 
     def settle(self, bound):
-        """Waits until every service is up; how long that took. A node that was fenced is turned on again."""
+        """Waits until every service is up; returns how long that took. A node that was fenced is turned on again."""
         since, calm = time.monotonic(), 0
         while calm < 3:
             wanted(time.monotonic() < since + bound, f"every service up again within {bound} s, not {self.lab.up}")
@@ -116,7 +116,7 @@ class Plan:
 
 
 def run_kills(lab, count):
-    """The kills, in rows of one to three: after each row all has to come up again."""
+    """The kills, in series of one to three: after each series all services have to come up again."""
     plan, took, done, end = Plan(lab), {}, 0, time.monotonic() + (85 if count <= 30 else 36000)
     plan.settle(60)
     while done < count and time.monotonic() < end:
@@ -141,7 +141,7 @@ def run_kills(lab, count):
 
 class Cluster(helper.Check):
     def compare_record(self, lab, node):
-        """The results that a manager has seen: each run from the first to the last once, and the histories' as they are there."""
+        """The results that a manager has seen: each run from the first to the last once, and those of the histories as they are there."""
         entries = [json.loads(line) for line in (lab.folder / node / "record").read_text().splitlines()]
         runs = sorted(entry["run"] for entry in entries if entry["run"])
         self.assertEqual(runs, list(range(1, len(runs) + 1)), f"each run of {node} once")
@@ -183,7 +183,7 @@ class Cluster(helper.Check):
                   f"at most {max(seconds):.1f} s of {BOUNDS[kind]} s", flush=True)
 
     def test_without_fencing(self):
-        """where there is no fencing, nothing of a lost node is taken over"""
+        """without fencing, nothing of a lost node is taken over"""
         lab = self.lab("alone", False, lease=5, fences=False, slow=0)
 
         def on_first():

@@ -1,7 +1,7 @@
-# What the checks of the shell share; read by `. "$(dirname "$0")/../lib/common.sh" "$@"`, with the program as the first word. A check
-# has a folder of its own, `$here`, which is removed at its end; `$top` is the repository.
+# Shared code of the shell checks; read by `. "$(dirname "$0")/../lib/common.sh" "$@"`, with the program as the first argument. A check has
+# a directory of its own, `$here`, which is removed at its end; `$top` is the repository.
 # shellcheck shell=sh
-# The program names the signals that are ignored when it starts, as those are of what nohup or a script's `&` starts.
+# The program names the signals that are ignored when it starts, such as those ignored by nohup or a script's `&`.
 [ "${signals-}" = default ] || exec env --default-signal signals=default "$0" "$@"
 program=$(realpath "$1")
 top=$(cd "$(dirname "$0")/../.." && pwd)
@@ -13,7 +13,7 @@ any_failed=0
 check_began=$(date +%s%3N)
 check_part=${check%.sh}
 
-# Says what is not as wanted. Use: differs WHAT WANTED FOUND
+# Reports a difference. Use: differs WHAT WANTED FOUND
 differs() {
     printf '%s: %s: wanted\n%s\nand found\n%s\n' "$check" "$1" "$2" "$3" >&2
     failed=1
@@ -24,7 +24,7 @@ same() {
     [ "$2" = "$3" ] || differs "$1" "$2" "$3"
 }
 
-# Whether a file is just $here/wanted. Use: is_wanted WHAT FILE
+# Whether a file equals $here/wanted. Use: is_wanted WHAT FILE
 is_wanted() {
     cmp -s "$here/wanted" "$2" || differs "$1" "$(head -c 600 "$here/wanted")" "$(head -c 600 "$2")"
 }
@@ -39,8 +39,8 @@ run() {
     cat "$here/out" >> "$here/all_lines"
 }
 
-# Runs a command whose standard error is a file, which its environment names as the stream to the system's journal: so a fault is
-# explained there for a person, too. Use: explained FILE WORD..
+# Runs a command whose standard error is a file, which its environment names as the stream to the system's journal: so a fault is also
+# explained there for people. Use: explained FILE WORD..
 explained() {
     explained_in=$1
     shift
@@ -48,7 +48,7 @@ explained() {
     JOURNAL_STREAM=$(stat -c %d:%i "$explained_in") "$@" 2> "$explained_in"
 }
 
-# An opening that is refused, with this status and line alone, and with this text in a line after it for a person.
+# An opening that is refused, with only this status and line, and with this text in a line after it for people.
 # Use: refused DIR STATUS LINE TEXT
 refused() {
     run "$1"
@@ -61,7 +61,7 @@ refused() {
     tail -n +2 "$here/err" | grep -q -F -e "$4" || differs "$1, cause" "$4" "$(cat "$here/err")"
 }
 
-# Starts the program with these words, its input behind descriptor 3 and its output in a file. Sets $pid. Use: feed FILE WORD..
+# Starts the program with these arguments, its input at descriptor 3 and its output in a file. Sets $pid. Use: feed FILE WORD..
 feed() {
     keep_fed
     fed=$1
@@ -73,13 +73,13 @@ feed() {
     rm "$here/in"
 }
 
-# Whether something was waited for so many seconds that no more are due. Use: is_past SECONDS
+# Whether more than this many seconds were waited. Use: is_past SECONDS
 is_past() {
     [ "$1" -ge "$patience" ] && [ "$1" -ge $((patience * $(slowness))) ]
 }
 
-# Waits until a command succeeds, for $patience seconds at most, on a busy machine as many times longer as it is slower than a quiet one;
-# else says so, with the last lines of a file, and fails the check.
+# Waits until a command succeeds, for at most $patience seconds, scaled up on a busy machine; otherwise reports that, with the last lines of
+# a file, and fails the check.
 # Use: eventually WHAT FILE COMMAND..
 patience=60
 eventually() {
@@ -95,17 +95,17 @@ eventually() {
     done
 }
 
-# Whether so many lines of a file hold this. Use: has_lines COUNT PATTERN FILE
+# Whether this many lines of a file contain this. Use: has_lines COUNT PATTERN FILE
 has_lines() {
     [ "$(grep -c -e "$2" "$3")" -ge "$1" ]
 }
 
-# Waits until so many lines of a file hold this. Use: awaits COUNT PATTERN FILE
+# Waits until this many lines of a file contain this. Use: awaits COUNT PATTERN FILE
 awaits() {
     eventually "$1 lines of $2" "$3" has_lines "$@"
 }
 
-# Whether the journal of an executor is shown as running this, by the key of the action. Use: is_running KEY JOURNAL
+# Whether the journal of an executor shows this action as running, by its key. Use: is_running KEY JOURNAL
 is_running() {
     "$program" show --journal "$2" > "$here/is_running" && has_lines 1 "\"key\":\"$1\"" "$here/is_running"
 }
@@ -115,19 +115,19 @@ kib() {
     awk -v name="$2:" '$1 == name { print $2 }' "/proc/$1/status"
 }
 
-# What a process has taken of the processor, in milliseconds. Use: processor_time PID
+# The processor time of a process, in milliseconds. Use: processor_time PID
 processor_time() {
     awk -v rate="$(getconf CLK_TCK)" '{ print int(($14 + $15) * 1000 / rate) }' "/proc/$1/stat"
 }
 
-# How many times longer than on a quiet machine things may take now, by the share of the last minute, or of the last ten seconds, in which
-# a process waited for a processor; 1 where the system does not tell it.
+# How many times longer than on a quiet machine things may take now, by the share of the last minute, or of the last ten seconds, in which a
+# process waited for a processor; 1 if the system does not report it.
 slowness() {
     sed -n 's/^some avg10=\([0-9.]*\) avg60=\([0-9.]*\) .*/\1 \2/p' /proc/pressure/cpu 2> /dev/null |
         awk '{ most = $1 > $2 ? $1 : $2; slower = most < 99 ? int(100 / (100 - most)) : 100 } END { print slower ? slower : 1 }'
 }
 
-# What took so many milliseconds took less than so many; on a busy machine as many times more as it is slower than a quiet one.
+# The duration, in milliseconds, is less than this limit, which is scaled up on a busy machine.
 # Use: took_less WHAT MOST TOOK
 took_less() {
     [ "$3" -lt "$2" ] || [ "$3" -lt $(($2 * $(slowness))) ] || differs "$1" "less than $2 milliseconds" "$3"
@@ -146,7 +146,7 @@ keep_fed() {
     [ ! -f "${fed-}" ] || cat "$fed" >> "$here/all_lines"
 }
 
-# Holds the lines of all runs, and of the programs that were fed, against the schema of the program's lines, as the checks in Python do.
+# Validates the lines of all runs, and of the programs that were fed, against the schema of the program's lines, as the checks in Python do.
 hold_lines() {
     keep_fed
     [ -s "$here/all_lines" ] || return 0
@@ -154,7 +154,7 @@ hold_lines() {
         differs "the lines" "lines of docs/protocol.schema.json" "$(echo "$held" | tail -n 1)"
 }
 
-# Prints what was checked since the last such line, with its time. Use: checked NAME
+# Prints the checks since the last such line as one, with its time. Use: checked NAME
 checked() {
     check_now=$(date +%s%3N)
     check_took=$((check_now - check_began))
@@ -168,7 +168,7 @@ checked() {
     printf '%-8s%4d.%02d s  %s: %s\n' "$check_word" $((check_took / 1000)) $((check_took % 1000 / 10)) "$check_part" "$1"
 }
 
-# Ends a check: what was checked last has this name. Use: finish NAME
+# Ends a script; its last check has this name. Use: finish NAME
 finish() {
     hold_lines
     checked "$1"

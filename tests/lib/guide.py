@@ -1,7 +1,7 @@
 #!/usr/bin/env python3
-"""Runs the commands of docs/GUIDE.md, or of README.md, all in one shell and in order, each block as it is pasted, and compares what it
-prints with the block after it. Lengths of time and numbers of calls differ from run to run, and are compared as such alone.
-Use: guide.py FILE, in an empty folder for the guide, with the program and its clients in PATH"""
+"""Runs the commands of docs/GUIDE.md, or of README.md, all in one shell and in order, each block as it would be pasted, and compares the
+output with the block after it. Durations and call numbers differ from run to run, and are compared only as such.
+Use: guide.py FILE, in an empty directory for the guide, with the program and its clients in PATH"""
 import os
 import re
 import signal
@@ -10,7 +10,7 @@ import sys
 
 LONGEST = 120  # seconds
 
-# what differs from run to run, and what it is compared as
+# differs from run to run, and is compared as this
 VARYING = (
     (r"\b\d+ (ms|s|min|h|days)\b", "TIME"),
     (r"\bdue (in TIME|TIME ago)", "due"),
@@ -22,7 +22,7 @@ MARK = "-- the end of a command --"
 
 
 def blocks_of(text):
-    """The blocks of commands of this guide, each with what it is to print."""
+    """The blocks of commands of this guide, each with its expected output."""
     return re.findall(r"^```sh\n(.*?)^```$(?:\n\n^```text\n(.*?)^```$)?", text, re.MULTILINE | re.DOTALL)
 
 
@@ -33,7 +33,7 @@ def compared(text):
 
 
 def differing(shell, blocks):
-    """Runs the blocks, and counts those that print something else than the guide says."""
+    """Runs the blocks, and counts those whose output differs from the guide."""
     failed = 0
     for block, wanted in blocks:
         shell.stdin.write(f"{block}echo; echo '{MARK}'\n")

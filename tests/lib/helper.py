@@ -1,9 +1,9 @@
-"""What the checks in Python share: the program, a folder for each check, its agents, the lines of commands, and runs that are asked
-and heard. A module is called as `tests/FOLDER/NAME.py PROGRAM`; each of its tests is a check, which is printed with its time. With ONLY
-in the environment, the one test of that sentence is tried; with `-k WORD` after the program those with this in their name or sentence,
-and with `-f` none after one that failed. `pytest` runs such a module, too, with PROGRAM in the environment. A test that fails says how it
-is played again, with the numbers that it asked for; one by chance, which asked for SEED, leaves its folder, with what it was given, in
-tests/failed."""
+"""Shared code of the Python checks: the program, a directory for each check, its agents, the lines of commands, and runs with input and
+output. A module is called as `tests/FOLDER/NAME.py PROGRAM`; each of its tests is a check, which is printed with its time. With ONLY in
+the environment, only the test of that sentence is tried; with `-k WORD` after the program, those with this word in their name or
+sentence; and with `-f` no test after one that failed. `pytest` runs such a module, too, with PROGRAM in the environment. A failing test
+prints how to repeat it, with the numbers that it asked for; a random test, which asked for SEED, leaves its directory, with its input,
+in tests/failed."""
 import argparse
 import contextlib
 import functools
@@ -27,23 +27,23 @@ PARTS = ("part-a", "part-b")
 MEMORY = "/dev/shm"
 TOP = os.path.dirname(os.path.dirname(os.path.dirname(os.path.abspath(__file__))))
 FAILED = os.path.join(TOP, "tests/failed")
-# how many of the last lines are told where another one did not come, and for how many seconds one is waited for; on a busy machine as
-# many times longer as it is slower than a quiet one, so many times at most
+# how many of the last lines are shown if another one did not come, and for how many seconds one is waited for; scaled up on a busy machine,
+# at most this many times
 LAST, PATIENCE, SLOWER = 10, 60, 4
 # how many seconds a whole run may take, which is less than a script of checks may
 WHOLE = 280
-# how this module is called again, and the numbers that the test under way asked for
+# how this module is called again, and the numbers that the current test asked for
 CALL, numbers = [sys.argv[0], *([PROGRAM] if PROGRAM else [])], {}
 
-# The program names the signals that are ignored when it starts, as those are of what nohup or a script's `&` starts. What Python
-# itself ignores is at its default in what it starts.
+# The program names the signals that are ignored when it starts, such as those ignored by nohup or a script's `&`. Signals that Python
+# itself ignores have their default action in the processes that it starts.
 for ignored in signal.valid_signals() - {signal.SIGPIPE, signal.SIGXFSZ}:
     if signal.getsignal(ignored) == signal.SIG_IGN:
         signal.signal(ignored, signal.SIG_DFL)
 
 
 def number(name, default):
-    """A number that the environment may name, as ROUNDS or SEED."""
+    """A number that the environment may set, as ROUNDS or SEED."""
     numbers[name] = int(os.environ.get(name, default))
     return numbers[name]
 
@@ -67,32 +67,31 @@ def lines(*commands):
 
 
 def value_of(line):
-    """The value of a line of the program, which the schema of its lines has."""
+    """The value of a line of the program, which conforms to the schema of its lines."""
     value = json.loads(line)
     schema.hold(value)
     return value
 
 
 def replies(out):
-    """The values of whole lines, but for that by which `serve` says that it is ready; what stands behind the last newline is none."""
+    """The values of whole lines, except the ready line of `serve`; text after the last newline is ignored."""
     return [value for value in map(value_of, out.split(b"\n")[:-1]) if not is_ready(value)]
 
 
 def is_ready(value):
-    """Whether a value is the line by which `serve` says that it is ready."""
+    """Whether a value is the ready line of `serve`."""
     return isinstance(value, dict) and "ready" in value
 
 
 def opened(out):
-    """What stands in a whole output of `serve` up to the line by which that says that it is ready: the report of its opening, and this
-    line."""
+    """The whole output of `serve` up to its ready line: the report of its opening, and this line."""
     *report, ready = opening(iter(out.splitlines(keepends=True)))
     return report, ready
 
 
 def opening(lines):
-    """The same of lines as they come, of which no further one is taken. It fails where another line comes before that one, and where that
-    one counts another report."""
+    """The same for lines as they come; no later one is read. It fails if another line comes before the ready line, or if the ready line
+    counts another report."""
     values = []
     for line in lines:
         assert line.endswith(b"\n"), f"the output ends amid its opening: {line}"
@@ -108,12 +107,12 @@ def opening(lines):
 
 
 def bare(value):
-    """A refusal as `run` says it, without the key and the sentence of `serve`; any other value as it is."""
+    """A refusal in the form of `run`, without the key and the sentence of `serve`; any other value unchanged."""
     return {key: value[key] for key in ("error", "number")} if "error" in value else value
 
 
 def is_notice(value, **wanted):
-    """Whether a value is a notice, with these keys as wanted."""
+    """Whether a value is a notice, with these values of its keys."""
     return "outcome" in value and all(value[key] == part for key, part in wanted.items())
 
 
@@ -123,7 +122,7 @@ def result_of(notice):
 
 
 def run(*words, told=b"", **how):
-    """A whole run, which is told all its input at once; one that serves and ends well has said that it is ready."""
+    """A whole run, which gets all its input at once; one of serve that ends well has sent its ready line."""
     done = subprocess.run([PROGRAM, *words], input=told, capture_output=True, **{"timeout": WHOLE, **how})
     if words[:1] == ("serve",) and done.returncode == 0 and "--help" not in words:
         opened(done.stdout)
@@ -131,13 +130,13 @@ def run(*words, told=b"", **how):
 
 
 def journal_stream(err):
-    """What the environment of a program names as its stream to the system's journal: its standard error, which is this open file."""
+    """The variable that names a program's standard error, which is this open file, as the stream to the system's journal."""
     found = os.fstat(err)
     return {"JOURNAL_STREAM": f"{found.st_dev}:{found.st_ino}"}
 
 
 def explained(*words, told=b"", **how):
-    """A whole run whose standard error goes to the system's journal, as far as the program knows: so a fault is explained there."""
+    """A whole run whose standard error is named as the stream to the system's journal: so a fault is explained there."""
     with tempfile.TemporaryFile() as err:
         done = subprocess.run([PROGRAM, *words], input=told, stdout=subprocess.PIPE, stderr=err,
                               env={**os.environ, **journal_stream(err.fileno())}, **{"timeout": WHOLE, **how})
@@ -156,7 +155,7 @@ def parts(folder):
 
 
 def shown(folder):
-    """What `show` prints of a journal."""
+    """The output of `show` for a journal."""
     done = run("show", "--journal", folder)
     assert done.returncode == 0, done.stderr
     return done.stdout
@@ -169,7 +168,7 @@ def results(folder):
 
 
 def processor_time(pid):
-    """What a process has taken of the processor, in seconds."""
+    """The processor time of a process, in seconds."""
     with open(f"/proc/{pid}/stat", encoding="ascii") as stat:
         fields = stat.read().rsplit(")", 1)[1].split()
     return (int(fields[11]) + int(fields[12])) / os.sysconf("SC_CLK_TCK")
@@ -183,7 +182,7 @@ def kib(pid, name):
 
 @functools.cache
 def built(name):
-    """The program of a folder, tests/trials or tests/scenarios, which is built where it is not there, or was built from other texts; the
+    """The program of a directory, tests/trials or tests/scenarios, which is built if it is missing or was built from other texts; the
     runner of the checks has done so before a script that needs it."""
     if there := os.environ.get(f"BUILT_{name.upper()}"):
         return there
@@ -192,19 +191,19 @@ def built(name):
 
 
 def trials(plain=False):
-    """The trials with AddressSanitizer, or the same without it, which take a quarter of the time."""
+    """The trials with AddressSanitizer, or without, which takes a quarter of the time."""
     return os.path.join(os.path.dirname(built("trials")), "plain") if plain else built("trials")
 
 
 def shim(source, folder):
-    """A library of this source in C, of tests/shims, to be loaded before the C library's."""
+    """A library from this source in C, of tests/shims, to be loaded before the C library."""
     built = os.path.join(folder, os.path.basename(source).removesuffix(".c") + ".so")
     subprocess.run(["cc", "-O1", "-shared", "-fPIC", "-o", built, os.path.join(TOP, "tests/shims", source), "-ldl"], check=True)
     return built
 
 
 def is_alive(pid):
-    """Whether a process runs, and is no zombie."""
+    """Whether a process runs, and is not a zombie."""
     try:
         with open(f"/proc/{pid}/stat", encoding="ascii") as stat:
             return stat.read().rsplit(")", 1)[1].split()[0] != "Z"
@@ -214,7 +213,7 @@ def is_alive(pid):
 
 def slowness():
     """How many times longer than on a quiet machine things may take now: by the share of the last minute, or of the last ten seconds, in
-    which a process waited for a processor; and where the system does not tell it, by how many run for each processor."""
+    which a process waited for a processor; or, if the system does not report it, by the number of running processes per processor."""
     try:
         with open("/proc/pressure/cpu", encoding="ascii") as pressure:
             shares = [float(word.partition("=")[2]) / 100 for word in pressure.readline().split()[1:3]]
@@ -224,12 +223,12 @@ def slowness():
 
 
 def more_patience(seconds):
-    """For how many seconds more than so many something is waited for now."""
+    """How many seconds more than this something is waited for now."""
     return seconds * (min(SLOWER, slowness()) - 1)
 
 
 def keep(folder, into):
-    """Copies a folder into the place of an earlier one, but for what is no plain file."""
+    """Copies a directory in place of an earlier copy, except anything but plain files."""
     shutil.rmtree(into, ignore_errors=True)
     try:
         shutil.copytree(folder, into, symlinks=True)
@@ -239,12 +238,12 @@ def keep(folder, into):
 
 
 class Heard:
-    """A program that runs, whose lines are kept with the moments at which they came, but for that by which `serve` says that it is ready:
-    `said` is its opening, the report and that line. Its standard error goes to a file, which is none of the check's where none is given."""
+    """A running program, whose lines are kept with the moments at which they came, except its ready line: `said` is its opening, which
+    is the report and that line. Its standard error goes to a file, by default one that no check reads."""
 
     def __init__(self, *words, err=None, program=None, **how):
         with open(err, "wb") if err else tempfile.TemporaryFile() as file:
-            # (an open file of its own, since reading moves the place at which the program writes)
+            # (an open file of its own, since reading moves the position at which the program writes)
             self.err = None if err else open(f"/proc/self/fd/{file.fileno()}", "rb")
             self.run = subprocess.Popen([program or PROGRAM, *words], stdin=subprocess.PIPE, stdout=subprocess.PIPE, stderr=file, **how)
         self.lines, self.came, self.is_over, self.said, self.serves = [], threading.Condition(), False, None, words[:1] == ("serve",)
@@ -276,7 +275,7 @@ class Heard:
             raise AssertionError(f"it takes no more lines\n{self.state()}") from None
 
     def state(self):
-        """Whether it runs, its last lines, and what it wrote to its standard error."""
+        """Whether it runs, its last lines, and its standard error."""
         status = self.run.poll()
         with self.came:
             last = "".join(line for _, line in self.lines[-LAST:])
@@ -297,7 +296,7 @@ class Heard:
         return [value for value in self.values() if is_notice(value)]
 
     def awaits(self, holds, seconds=PATIENCE, after=0):
-        """The moment and the value of the first line of which this holds, after so many; it fails where none comes in time."""
+        """The moment and the value of the first line for which this holds, after this many; it fails if none comes in time."""
         found = self.hears(holds, seconds, after)
         if found[0] is None:
             found = self.hears(holds, more_patience(seconds), after)
@@ -307,7 +306,7 @@ class Heard:
         return found
 
     def hears(self, holds, seconds=10, after=0):
-        """The same, and two None where none comes in time, or the output has ended."""
+        """The same, or two None if none comes in time, or the output has ended."""
         until, at = time.monotonic() + seconds, after
         with self.came:
             while True:
@@ -320,7 +319,7 @@ class Heard:
                     return None, None
 
     def ready(self, seconds=PATIENCE):
-        """The line by which it says that it is ready."""
+        """Its ready line."""
         until = time.monotonic() + seconds + more_patience(seconds)
         with self.came:
             while self.said is None and not self.is_over and time.monotonic() < until:
@@ -330,7 +329,7 @@ class Heard:
         return opening(self.said)[-1]
 
     def ends(self, seconds=PATIENCE):
-        """The exit status, after the end of its input; one that serves and ends well has said that it is ready."""
+        """The exit status, after the end of its input; one of serve that ends well has sent its ready line."""
         self.run.stdin.close()
         with contextlib.suppress(subprocess.TimeoutExpired):
             self.run.wait(seconds)
@@ -360,7 +359,7 @@ def count_bad(result):
 
 
 class Check(unittest.TestCase):
-    """A check has a folder of its own, `here`, which is the root of its agents, too."""
+    """A check has a directory of its own, `here`, which is also the root of its agents."""
 
     longMessage = True
     here = None
@@ -378,7 +377,7 @@ class Check(unittest.TestCase):
         return result
 
     def say_again(self):
-        """Says how a test that failed is played again; what one by chance was given, and what it left, is kept."""
+        """Prints how to repeat a failing test; the input and the files of a random one are kept."""
         only = {"ONLY": shlex.quote(self.shortDescription())} if self.shortDescription() else {}
         again = " ".join([*[f"{name}={value}" for name, value in {**numbers, **only}.items()], *CALL])
         name = os.path.basename(sys.argv[0]).removesuffix(".py")
@@ -402,7 +401,7 @@ class Check(unittest.TestCase):
         return os.path.join(self.here, name)
 
     def note(self, name, text):
-        """Leaves what a test by chance is given in its folder, which is kept where it fails."""
+        """Leaves the input of a random test in its directory, which is kept if the test fails."""
         with open(self.place(name), "ab") as file:
             file.write(text)
 
@@ -416,13 +415,13 @@ class Check(unittest.TestCase):
         os.chmod(path, 0o755)
 
     def heard(self, *words, **how):
-        """A program that runs, and is gone at the end of the check."""
+        """A program that runs, and is ended at the end of the check."""
         run = Heard(*words, **how)
         self.addCleanup(run.killed)
         return run
 
     def spelled(self, name, *found):
-        """The folder of a journal whose parts are these bytes."""
+        """The directory of a journal whose parts are these bytes."""
         folder = self.journal(name)
         for file, text in zip(PARTS, found):
             with open(os.path.join(folder, file), "wb") as part:
@@ -437,7 +436,7 @@ class Check(unittest.TestCase):
         self.assertTrue(what, name)
 
     def eventually(self, what, holds, seconds=PATIENCE):
-        """Waits until this gives what is true, and gives that; it fails where that takes longer than so many seconds."""
+        """Waits until this returns a true value, and returns it; it fails if that takes longer than this many seconds."""
         until = time.monotonic() + seconds
         while not (found := holds()):
             if time.monotonic() > until and time.monotonic() > until + more_patience(seconds):
@@ -446,7 +445,7 @@ class Check(unittest.TestCase):
         return found
 
     def numbers_in(self, path):
-        """The numbers in a file that an agent writes, as soon as its last line is whole."""
+        """The numbers in a file that an agent writes, as soon as its last line is complete."""
         def written():
             if not os.path.exists(path):
                 return []
@@ -456,22 +455,21 @@ class Check(unittest.TestCase):
         return self.eventually(f"numbers in {os.path.basename(path)}", written)
 
     def came_often(self, least, count, what):
-        """That something came so many times in a time that was given; on a busy machine as many times fewer as it is slower than a quiet
-        one, but once."""
+        """Checks that something came this many times within a time; scaled down on a busy machine, to at least once."""
         if count < least:
             slower = slowness()
             self.assertGreaterEqual(count, max(1, least / slower),
                                     f"{what}, on a machine that is {slower:.1f} times slower than a quiet one")
 
     def took_less(self, most, took, what):
-        """That something took less than so many seconds; on a busy machine as many times more as it is slower than a quiet one."""
+        """Checks that something took less than this many seconds; scaled up on a busy machine."""
         if took >= most:
             slower = slowness()
             self.assertLess(took, most * slower, f"seconds of {what}, on a machine that is {slower:.1f} times slower than a quiet one")
 
 
 class Told(unittest.TestResult):
-    """Prints each check with its time, and what it found wrong."""
+    """Prints each check with its time, and its failure."""
 
     test = None
 
@@ -499,7 +497,7 @@ class Told(unittest.TestResult):
         super().stopTest(test)
 
     def end(self):
-        """Ends the program, which took too long: so did the test under way."""
+        """Ends the program, which took too long, as did the current test."""
         if self.test:
             self.say("failed", self.test)
             self.test.say_again()
@@ -508,7 +506,7 @@ class Told(unittest.TestResult):
 
 
 def chosen(tests, only, part):
-    """These tests, one by one; of a sentence that is given that test alone, and those with this part of a name or a sentence."""
+    """These tests, one by one; only the test of a given sentence, or those with this part in their name or sentence."""
     for test in tests:
         if isinstance(test, unittest.TestSuite):
             yield from chosen(test, only, part)
@@ -517,7 +515,7 @@ def chosen(tests, only, part):
 
 
 def forked(count):
-    """So many processes more, by their numbers; none in each of these."""
+    """Starts this many more processes, and returns their numbers; none in each of them."""
     others = []
     while len(others) < count and (pid := os.fork()):
         others.append(pid)
@@ -525,7 +523,7 @@ def forked(count):
 
 
 def run_in_parts(tests, told, parts):
-    """Runs tests in so many processes, of which each takes the first one that none has taken; whether all went well in the others."""
+    """Runs tests in this many processes, each of which takes the next test; returns whether all went well in the others."""
     left, into = os.pipe()
     os.write(into, bytes(range(len(tests))))
     os.close(into)
@@ -536,15 +534,15 @@ def run_in_parts(tests, told, parts):
 
 
 def main(failfast=False, in_memory=False, parts=1):
-    """Runs the tests of a module, in so many processes. Those of runs that sync thousands of times have their files in memory, where
-    programs can be run there: what a killed program wrote is there all the same."""
+    """Runs the tests of a module, in this many processes. Tests whose runs sync thousands of times have their files in memory, if
+    programs can be run there: the data of a killed program is there all the same."""
     if in_memory and os.access(MEMORY, os.W_OK) and not os.statvfs(MEMORY).f_flag & os.ST_NOEXEC:
         tempfile.tempdir = MEMORY
     found = unittest.defaultTestLoader.loadTestsFromModule(sys.modules["__main__"])
     parser = argparse.ArgumentParser()
     parser.add_argument("-k", default="", metavar="WORD", help="only tests with this in their name or sentence")
     parser.add_argument("-f", action="store_true", help="no test after one that failed")
-    # (a module may take further words of its own)
+    # (a module may take further arguments of its own)
     words, _ = parser.parse_known_args(sys.argv[2:])
     tests = list(chosen(found, os.environ.get("ONLY", ""), words.k))
     told = Told()

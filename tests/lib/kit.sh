@@ -1,7 +1,7 @@
-# A copy of the kit in which scripts stand in the place of tools. Read by `. tests/lib/kit.sh`.
+# A copy of the kit in which scripts replace tools. Read by `. tests/lib/kit.sh`.
 # shellcheck shell=sh
 
-# Makes the copy, of links but for `rt`. Use: copy_kit FOLDER
+# Makes the copy, of links except for `rt`. Use: copy_kit DIRECTORY
 copy_kit() {
     kit=$(dirname "$(rt doc)")
     rm -rf "$1"
@@ -10,20 +10,21 @@ copy_kit() {
     ln -s "$kit"/bin/* "$1/bin/"
     ln -s "$kit"/toolchain/lib "$1/toolchain/lib"
     ln -s "$kit"/toolchain/bin/* "$1/toolchain/bin/"
-    # python looks for its modules where the file lies
+    # python looks for its modules where the real file is
     rm "$1/bin/rt" "$1/bin/rtlib.py"
     cp "$kit/bin/rt" "$kit/bin/rtlib.py" "$1/bin/"
 }
 
-# Puts a script, which is standard input, in a tool's place; it names the kit's own tool as $tool. Use: replace_tool FOLDER TOOL < SCRIPT
+# Replaces a tool by a script, which is standard input; the script names the kit's own tool as $tool. Use: replace_tool DIRECTORY TOOL <
+# SCRIPT
 replace_tool() {
     rm "$1/toolchain/bin/$2"
     { echo '#!/bin/sh' && echo "tool='$kit/toolchain/bin/$2'" && cat; } > "$1/toolchain/bin/$2"
     chmod +x "$1/toolchain/bin/$2"
 }
 
-# Has the copy keep the program that it makes, as FILE, optimised and compiled without AddressSanitizer: it runs with a shim before the
-# C library, as one of the gate's does, and nearly as fast. (`rt try` runs a program in a folder of its own, and takes it away.)
+# Makes the copy keep the program that it links, as FILE, optimised and compiled without AddressSanitizer: it runs with a preloaded shim,
+# like one of the gate, and nearly as fast. (`rt try` runs a program in a directory of its own, and removes it.)
 # Use: keep_plain_program COPY FILE
 keep_plain_program() {
     replace_tool "$1" clang << 'CLANG'
@@ -48,9 +49,9 @@ done
 LINKER
 }
 
-# The same of two programs of one module, both optimised: FOLDER/NAME, which has AddressSanitizer, and FOLDER/plain, which has not. Beside
-# them is what the compiler hands to its clang: the whole program as FOLDER/module.bc, and the flags, a line each, as FOLDER/flags.
-# Use: keep_both_programs COPY FOLDER NAME
+# The same for two programs of one module, both optimised: DIRECTORY/NAME with AddressSanitizer, and DIRECTORY/plain without. Beside them is
+# what the compiler passes to its clang: the whole program as DIRECTORY/module.bc, and the flags, one per line, as DIRECTORY/flags.
+# Use: keep_both_programs COPY DIRECTORY NAME
 keep_both_programs() {
     replace_tool "$1" clang << CLANG
 case " \$* " in *" -fsanitize=address "*) ;; *) exec "\$tool" "\$@" ;; esac
@@ -89,13 +90,13 @@ cp "\$made" "$2/$3" && "\$tool" "\$@"
 LINKER
 }
 
-# Has the copy check nothing beside what it compiles: a hint of names that a check will refuse is not wanted. Use: check_nothing COPY
+# Makes the copy check nothing besides what it compiles: it gives no hints of names that a check will refuse. Use: check_nothing COPY
 check_nothing() {
     ln -sf /bin/true "$1/bin/rattle"
 }
 
-# Has the copy's clang keep what the compiler hands to it: the whole program as FOLDER/module.bc, and the flags, a line each, as
-# FOLDER/flags. Use: keep_module COPY FOLDER
+# Makes the copy's clang keep what the compiler passes to it: the whole program as DIRECTORY/module.bc, and the flags, one per line, as
+# DIRECTORY/flags. Use: keep_module COPY DIRECTORY
 keep_module() {
     replace_tool "$1" clang << CLANG
 if [ -f module.bc ]; then

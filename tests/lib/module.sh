@@ -1,7 +1,7 @@
 #!/usr/bin/env bash
-# Compiles a program's crate once more, from what its check keeps, runs it with these words and this standard input, and keeps what the
-# kit's compiler hands to its clang: the whole program as FOLDER/module.bc, and the flags, a line each, as FOLDER/flags.
-# Use: module.sh CRATE FOLDER [WORD..]
+# Compiles a program's crate once more, from what its check keeps, runs it with these arguments and this standard input, and keeps what the
+# kit's compiler passes to its clang: the whole program as DIRECTORY/module.bc, and the flags, one per line, as DIRECTORY/flags.
+# Use: module.sh CRATE DIRECTORY [WORD..]
 set -eu
 crate=$1
 work=$(realpath "$2")

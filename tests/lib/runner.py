@@ -1,17 +1,17 @@
 #!/usr/bin/env python3
-"""Runs the checks of the built programs, tests/FOLDER/NAME.sh and NAME.py of the folders below, and counts them.
+"""Runs the checks of the built programs, tests/FOLDER/NAME.sh and NAME.py of the directories below, and counts them.
 
-A script prints a line for each of its checks, `ok`, `failed` or `skipped`, with its time; one that needs what the machine has not ends
-with 77. A script that prints none fails. Several run at once, and what one printed is printed whole when it has ended. A line
-`# check: MARK..` near the head of a script says `slow`, so that --fast leaves it out, `alone`, so that nothing runs beside it, as it
-measures time or load, or `trials` or `scenarios`, so that tests/trials/build.sh or tests/scenarios/build.sh has built that program before
-the script begins; in a script in Python single tests may be slow (helper.slow). Two run at once for each processor, since a script waits
-half of its time; the one that took longest in the last run begins first. A script that takes too long is ended, and on a busy machine it
-may take as many times longer as that is slower. The last lines say what was skipped and why, what took longest and what failed; the very
-last counts the checks.
+A script prints a line for each of its checks, `ok`, `failed` or `skipped`, with its time; a script that needs something the machine lacks
+ends with 77. A script that prints no line fails. Several scripts run at once, and the output of each is printed in one piece when it has
+ended. A line `# check: MARK..` near the top of a script marks it: `slow`, so that --fast leaves it out; `alone`, so that nothing runs
+beside it, as it measures time or load; or `trials` or `scenarios`, so that tests/trials/build.sh or tests/scenarios/build.sh has built that
+program before the script begins. In a Python script single tests may be slow (helper.slow). Two scripts run at once for each processor,
+since a script waits half of its time; the one that took longest in the last run begins first. A script that takes too long is ended; the
+limit is scaled up on a busy machine. The last lines list what was skipped and why, what took longest and what failed; the very last line
+counts the checks.
 
 Use: runner.py [--fast] [--jobs N] [--limit SECONDS] [NAME..], with PROGRAM in the environment, and JOBS for --jobs; a NAME is that of a
-script or of a folder, and without any all are run"""
+script or of a directory, and without names all scripts are run"""
 import argparse
 import concurrent.futures
 import itertools
@@ -26,7 +26,7 @@ from pathlib import Path
 
 TOP = Path(__file__).resolve().parents[2]
 FOLDERS = ["cli", "journal", "agents", "crash", "load", "system", "repository"]
-# the programs that a mark may ask for; the marks, and in how many lines they may stand
+# the programs that a mark may need; the marks, and in how many lines they may be
 PROGRAMS = {"trials", "scenarios"}
 MARKS, HEAD = {"slow", "alone"} | PROGRAMS, 5
 MARK = re.compile(r"# check: (.*)")
@@ -35,14 +35,14 @@ WHY = re.compile(r"skipped: (.*)")
 SKIPPED, LATE, NOT_STARTED = 77, 124, 126
 # how many scripts run at once for each processor
 AT_ONCE = 2
-# where the seconds are kept that each script took when it last ran, and with --fast; and what a script counts as that is not there: one
+# the file with the seconds that each script took when it last ran, and with --fast; and the seconds of a script that is not in it: one
 # without a mark is short
 KEPT, UNKNOWN = ("tests/out/times", "tests/out/times-fast"), 60
 # how long a script has to end after SIGTERM, in seconds, and how many of the slowest checks are named
 GRACE, SLOWEST = 5, 10
 # how many seconds more than the limit of a script the build of a program may take
 BUILD = 600
-# how many times its limit a script may take on a machine that is so much slower than a quiet one
+# how many times its limit a script may take on a machine that is this much slower than a quiet one
 SLOWER = 4
 
 
@@ -64,7 +64,7 @@ class Script:
 
 
 class Ended:
-    """A script that has ended: what it printed, and each of its checks as a word, its seconds and its name."""
+    """A script that has ended: its output, and each of its checks as a word, its seconds and its name."""
 
     def __init__(self, script, status, output, seconds):
         self.script, self.output, self.seconds, self.fault = script, output, seconds, ""
@@ -91,11 +91,11 @@ class Ended:
 
 
 class Runner:
-    """Runs scripts, each for so many seconds at most."""
+    """Runs scripts, each for at most this many seconds."""
 
     def __init__(self, program, limit):
         self.program, self.limit, self.live, self.is_closed = program, limit, set(), False
-        # of each program that was built for scripts: the status of its build, and what that said
+        # for each program that was built for scripts: the status of its build, and the output of that
         self.built = {}
 
     def run(self, script):
@@ -107,14 +107,15 @@ class Runner:
         return Ended(script, status, output, time.monotonic() - began)
 
     def build(self, name):
-        """Builds the program of a folder, and has the environment of the scripts say where it is, which its build says in its last line."""
+        """Builds the program of a directory, and sets its path in the environment of the scripts; the last line of the build has the
+        path."""
         status, output = self.call([f"tests/{name}/build.sh"], self.limit + BUILD)
         if not status:
             os.environ[f"BUILT_{name.upper()}"] = output.decode().splitlines()[-1]
         self.built[name] = status, output
 
     def call(self, words, limit):
-        """The status of a command, which is ended after so many seconds, and what it said."""
+        """The status of a command, which is ended after this many seconds, and its output."""
         # in a session of its own: with an action the program ends the background jobs of its session that name the same resource
         with tempfile.TemporaryFile() as output:
             try:
@@ -138,11 +139,11 @@ class Runner:
         return LATE
 
     def ready(self, waiting):
-        """The first script that can begin: what it needs is built."""
+        """The first script that can begin: the programs that it needs are built."""
         return next((script for script in waiting if script.needs <= self.built.keys()), None)
 
     def run_all(self, scripts, jobs, take):
-        """Builds what these scripts need, runs them, so many at once, and hands on each as soon as it has ended."""
+        """Builds the programs that these scripts need, runs this many scripts at once, and yields each as soon as it has ended."""
         waiting, needed = list(scripts), {name for script in scripts for name in script.needs}
         with concurrent.futures.ThreadPoolExecutor(jobs) as pool:
             under_way = {pool.submit(self.build, name) for name in sorted(needed - self.built.keys())}
@@ -164,8 +165,8 @@ class Runner:
 
 
 def slowness():
-    """How many times longer than on a quiet machine things may take, by the share of the last five minutes, or of the last one, in which a
-    process waited for a processor; 1 where the system does not tell it."""
+    """How many times longer than on a quiet machine things may take, by the share of the last five minutes, or of the last one, in which
+    a process waited for a processor; 1 if the system does not report it."""
     try:
         with open("/proc/pressure/cpu", encoding="ascii") as pressure:
             shares = [float(word.partition("=")[2]) / 100 for word in pressure.readline().split()[2:4]]
@@ -193,11 +194,11 @@ class Times:
             with open(path, encoding="utf-8") as file:
                 self.seconds = {name: float(took) for took, name in (line.split() for line in file)}
         except (OSError, ValueError):
-            # none yet, or another text
+            # no file yet, or another text
             pass
 
     def order(self, script):
-        """What took longest begins first."""
+        """The scripts that took longest come first."""
         return -self.seconds.get(script.path, UNKNOWN if script.marks else 0)
 
     def keep(self, ended):
@@ -209,7 +210,7 @@ class Times:
 
 
 class Tally:
-    """The scripts that have ended, and what they say all together."""
+    """The scripts that have ended, and their summary."""
 
     def __init__(self, jobs):
         self.jobs, self.began, self.ended = jobs, time.monotonic(), []
@@ -246,13 +247,13 @@ def listed(what, names):
 
 
 def scripts():
-    """All scripts, folder by folder."""
+    """All scripts, directory by directory."""
     return [Script(path.relative_to(TOP)) for folder in FOLDERS for end in ("sh", "py")
             for path in sorted((TOP / "tests" / folder).glob(f"*.{end}"))]
 
 
 def chosen(found, names):
-    """The scripts of these names, or all where there is none."""
+    """The scripts of these names, or all without names."""
     for name in names:
         if not any(script.is_named(name) for script in found):
             sys.exit(f"runner.py: there is no check or folder of the name {name}")
@@ -272,13 +273,13 @@ def words():
 def main():
     given = words()
     os.environ["FAST"] = "1" if given.fast else ""
-    # where python3 is a script that looks for one (pyenv) each start of it would take as long again
+    # if python3 is a script that looks for one (pyenv), each start of it would take as long again
     os.environ["PATH"] = os.pathsep.join([os.path.dirname(sys.executable), os.environ["PATH"]])
     found = chosen(scripts(), given.names)
     left_out = [script for script in found if given.fast and "slow" in script.marks]
     found = [script for script in found if script not in left_out]
     times, runner, tally = Times(TOP / KEPT[given.fast]), Runner(os.environ["PROGRAM"], given.limit), Tally(given.jobs)
-    # what measures comes last
+    # scripts that measure come last
     runner.run_all(sorted([script for script in found if "alone" not in script.marks], key=times.order), given.jobs, tally.take)
     runner.run_all([script for script in found if "alone" in script.marks], 1, tally.take)
     times.keep(tally.ended)

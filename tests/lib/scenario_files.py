@@ -8,7 +8,7 @@ FOLDER = os.path.join(os.path.dirname(os.path.dirname(os.path.abspath(__file__))
 
 
 def subjects():
-    """The names of the files, without their ends."""
+    """The names of the files, without their endings."""
     return sorted(os.path.basename(path).removesuffix(".scenario") for path in glob.glob(os.path.join(FOLDER, "*.scenario")))
 
 
@@ -18,7 +18,7 @@ def read(subject, end):
 
 
 def steps(subject):
-    """The steps of each scenario of a file, a list of words each."""
+    """The steps of each scenario of a file, each a list of words."""
     constants, found = {}, []
     for line in read(subject, "scenario").decode().split("\n"):
         words = [constants[word[1:]] if word.startswith("$") else word for word in line.split(" ")]
@@ -32,8 +32,8 @@ def steps(subject):
 
 
 def bytes_of(words):
-    """The bytes that words make, as many as a part holds: HEX and N*HEX add to them, - is none, cut N keeps the first of those before it,
-    and change AT HEX writes over them."""
+    """The bytes that words make, at most as many as a part holds: HEX and N*HEX append bytes, - appends none, cut N keeps the first N
+    bytes so far, and change AT HEX overwrites bytes."""
     text, left = b"", iter(words)
     for word in left:
         if word == "cut":

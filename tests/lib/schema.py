@@ -1,6 +1,6 @@
-"""The lines of the program, held against docs/protocol.schema.json where Debian's python3-jsonschema is installed. Of the lines of one
-form, which differ in nothing but numbers and texts, as many are looked at as SAMPLES says, and then one in ever more, so that a check with
-a million lines is not slow: the first one is held against all kinds of lines, which takes milliseconds, and the others against its own.
+"""The lines of the program, validated against docs/protocol.schema.json if Debian's python3-jsonschema is installed. Of lines of one form,
+which differ only in numbers and texts, the first SAMPLES are checked, and then fewer and fewer, so that a check with a million lines is not
+slow. The first line is checked against all kinds of lines, which takes milliseconds, and the others against its own kind.
 Use: schema.py FILE, with lines of the program; or as a module."""
 import functools
 import json
@@ -10,16 +10,16 @@ import sys
 TOP = os.path.dirname(os.path.dirname(os.path.dirname(os.path.abspath(__file__))))
 SCHEMA = os.path.join(TOP, "docs/protocol.schema.json")
 SAMPLES = 100
-# the keys under which one word of a list stands
+# the keys whose value is one word of a list
 WORDED = {"error", "end", "outcome", "event", "state"}
-# how many lines of a form were seen, and of which kind they are
+# how many lines of a form were seen, and their kind
 seen, kinds = {}, {}
-# the keys of what a check's agents give as their metadata, where that looks like a line: it is none of the program's, where `run` prints it
+# the keys of an agent's metadata that look like a line: they are not the program's, if `run` prints them
 metadata = set()
 
 
 def library():
-    """The library, also where it is Debian's and this Python is not; None where it is not installed."""
+    """The library, also if it is Debian's and this Python is not; None if it is not installed."""
     try:
         import jsonschema
     except ImportError:
@@ -40,18 +40,18 @@ def schema():
 
 
 def validator_of(kind):
-    """What tells whether a value is of this kind, as `line` or `command`; None without the library."""
+    """A function that tells whether a value is of this kind, as `line` or `command`; None without the library."""
     return None if library() is None else validator_at(f"#/$defs/{kind}")
 
 
 @functools.cache
 def validator_at(place):
-    """The same of what stands at a place of the schema."""
+    """The same for a path of the schema."""
     return library().Draft202012Validator({"$defs": schema()["$defs"], "$ref": place})
 
 
 def kinds_at(place):
-    """The places of the kinds of which one has to be right at a place."""
+    """The paths of the kinds of which one has to match at a path."""
     found = functools.reduce(lambda part, key: part[int(key) if isinstance(part, list) else key], place.split("/")[1:], schema())
     if found.keys() == {"$ref"}:
         return kinds_at(found["$ref"])
@@ -61,7 +61,7 @@ def kinds_at(place):
 
 
 def kind_of(value):
-    """The place of the kind of lines that a value is of; fails where it is of none."""
+    """The path of the kind of lines that a value is of; fails if there is none."""
     if not lines().is_valid(value):
         raise AssertionError(f"docs/protocol.schema.json has no such line: {json.dumps(value)}")
     return next(place for place in kinds_at("#/$defs/line") if validator_at(place).is_valid(value))
@@ -69,23 +69,23 @@ def kind_of(value):
 
 @functools.cache
 def lines():
-    """What tells whether a value is a line of the program."""
+    """A function that tells whether a value is a line of the program."""
     return validator_of("line") if os.path.exists(SCHEMA) else None
 
 
 def form(value):
-    """The form of a line: its keys, with the words under those that have a word of a list."""
+    """The form of a line: its keys, with the values of those that have a word of a list."""
     return tuple((key, value[key] if key in WORDED else type(value[key]).__name__) for key in sorted(value))
 
 
 def is_sample(shape):
-    """Whether a line of a form is looked at: each of the first ones, and then those at which their number has doubled."""
+    """Whether a line of a form is checked: each of the first ones, and then those at which their number has doubled."""
     seen[shape] = seen.get(shape, 0) + 1
     return seen[shape] <= SAMPLES or seen[shape].bit_count() == 1
 
 
 def hold(value):
-    """Fails where a value is no line of the program."""
+    """Fails if a value is not a line of the program."""
     if lines() is None or (isinstance(value, dict) and value and set(value) <= metadata):
         return
     shape = form(value) if isinstance(value, dict) else None
@@ -96,6 +96,6 @@ def hold(value):
 if __name__ == "__main__":
     with open(sys.argv[1], encoding="utf-8") as told:
         for text in told:
-            # (a line that the program could not end is none)
+            # (a line that the program could not finish does not count)
             if text.endswith("\n"):
                 hold(json.loads(text))

@@ -1,7 +1,7 @@
 #!/usr/bin/env python3
-"""Plays systemctl(1) and journalctl(1) for one unit where no systemd runs, by what its file says: the commands and signals that start,
-stop, restart and reload it, and which ends of it are followed by another start. What the unit sends to NOTIFY_SOCKET is heard.
-Use: systemctl.py UNIT FOLDER COMMAND WORD.., with what the unit says and the state in the folder, or as a module"""
+"""Plays systemctl(1) and journalctl(1) for one unit where no systemd runs, as the unit's file says: the commands and signals that start,
+stop, restart and reload it, and which ends of it are followed by another start. It receives the messages of the unit to NOTIFY_SOCKET.
+Use: systemctl.py UNIT DIRECTORY COMMAND WORD.., with the unit's output and the state in the directory, or as a module"""
 import os
 import signal
 import socket
@@ -44,7 +44,7 @@ class Manager:
     # The commands
 
     def start(self):
-        """Starts the unit, by a process that follows it, and waits until it says that it is ready, or has ended."""
+        """Starts the unit, by a process that follows it, and waits until it reports that it is ready, or has ended."""
         if self.read("active"):
             return
         self.write("active", "activating")
@@ -86,7 +86,7 @@ class Manager:
                 time.sleep(1)
 
     def run(self, told):
-        """One run of the main process. Whether another one follows."""
+        """One run of the main process. Returns whether another one follows."""
         with open(self.place("log"), "ab") as log:
             main = subprocess.Popen(self.unit.words("Service.ExecStart", **self.variables), stdin=subprocess.DEVNULL, stdout=log,
                                     stderr=log, env={**os.environ, "NOTIFY_SOCKET": self.place("notify")})

@@ -1,9 +1,10 @@
-"""What the checks read of the units of examples/, to do as systemd does where there is none: each value by its section and name."""
+"""The values that the checks read from the units of examples/, to do as systemd does where there is none: each value by its section and
+name."""
 import shlex
 
 
 class Unit:
-    """A unit's values; each text that stands in it is given as another one first, as a path of this machine."""
+    """A unit's values; some texts in it are first replaced by others, such as paths of this machine."""
 
     def __init__(self, path, places=()):
         with open(path, encoding="utf-8") as file:
@@ -23,13 +24,13 @@ class Unit:
         return self.values.get(name, [default])[-1]
 
     def commands(self, name, **variables):
-        """The words of each of its commands, with backslashes doubled there, and with these variables in the place of a word $NAME; without
-        one that has no value the word is left out."""
+        """The arguments of each of its commands, with doubled backslashes resolved, and with these variables in place of a word $NAME; a
+        word without a value is left out."""
         for value in self.values.get(name, []):
             found = shlex.split(value.replace("\\\\", "\\"))
             found = [variables.get(word[1:], "") if word.startswith("$") else word for word in found]
             yield [word for word in found if word]
 
     def words(self, name, **variables):
-        """The words of its last command."""
+        """The arguments of its last command."""
         return list(self.commands(name, **variables))[-1]

@@ -1,8 +1,8 @@
 #!/usr/bin/env python3
 # check: slow
-"""What a waiting drain costs, and how soon an end is noticed: an agent that sleeps for ten seconds, and then monitors that each run to a
-timeout of 100 milliseconds, at moments of the system's clock. Wanted on a quiet machine: under 2 % of a core, and each end recorded
-within 2 milliseconds of its timeout. It fails at ten times that, of the middle end, so that a busy machine does not.
+"""The cost of a waiting drain, and how soon it notices an end: an agent that sleeps for ten seconds, and then monitors that each run to a
+timeout of 100 milliseconds, at moments of the system's clock. Wanted on a quiet machine: under 2 % of a core, and each end recorded within
+2 milliseconds of its timeout. The check fails at ten times that, for the median end, so that it passes on a busy machine.
 Use: drains.py PROGRAM"""
 import sys
 import time
@@ -34,7 +34,7 @@ class Drains(helper.Check):
         self.assertLess(spent, 500, "milliseconds of the processor")
 
     def test_ends(self):
-        """how soon the end of a monitor is noticed, at moments that the clock shows"""
+        """how soon the end of a monitor is noticed, at moments of the system's clock"""
         asked = [helper.register("r1", "Sleeper"), {"op": "recur", "id": "r1", "interval": 100, "timeout": TIMEOUT},
                  {"op": "watch", "limit": 3000}, {"op": "history", "id": "r1"}]
         began = milliseconds()

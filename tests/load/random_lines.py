@@ -1,8 +1,8 @@
 #!/usr/bin/env python3
 # check: slow
-"""Feeds random lines, none of them an accepted command, to `PROGRAM run --memory`, and with tags to one that serves: as many lines must
-come out as lines with at least one byte went in, and the resident memory of the program must stay below 8 MiB, and not grow by the second
-half of the lines: so a few bytes that each line leaves are found.
+"""Feeds random lines, none of them an accepted command, to `PROGRAM run --memory`, and with tags to serve. As many lines must come out as
+lines with at least one byte went in, and the resident memory of the program must stay below 8 MiB and not grow in the second half of the
+lines: so a leak of a few bytes per line is found.
 Use: random_lines.py PROGRAM, with LINES and SEED in the environment"""
 import json
 import random
@@ -18,26 +18,26 @@ MOST, GROWS = 8192, 128  # KiB
 OPERATIONS = ["unregister", "forget", "info", "history", "params", "exec", "recur", "cancel", "withdraw", "list", "drain", "meta", "tidy",
               "status", "version"]
 WORDS = ["r1", "", ".", "..", "a b", "n" * 65, "start", "monitor", "p\u00e9", "\0", 7, -1, 1.5, 1e400, None, True, [], {}, "10000"]
-# what replies to a question have
+# the keys of replies to a question
 ANSWERS = [b'"resources":', b'"status":', b'"version":']
 KEYS = ["id", "provider", "type", "params", "action", "timeout", "level", "interval", "call", "limit", "tag"]
 
 
 def question():
-    # of resources that are not there
+    # of resources that do not exist
     operation = random.choice(["list", "info", "history", "unregister", "forget"])
     return json.dumps({"op": operation, "id": f"r{random.randrange(1000)}", "tag": f"{random.randrange(1 << 60)}"}).encode()
 
 
 def refused():
-    # any keys; no `register`, so that no resource is ever there
+    # any keys; no `register`, so that there never is a resource
     line = {key: random.choice(WORDS) for key in random.sample(KEYS, random.randrange(6))}
     line["op"] = random.choice(OPERATIONS)
     return json.dumps(line).encode()
 
 
 def unlawful():
-    # a registration under a name that no resource may have
+    # a registration under an invalid id
     return json.dumps({"op": "register", "id": random.choice(["", ".", "a b", "n" * 65]), "provider": "p", "type": "t"}).encode()
 
 
@@ -56,7 +56,7 @@ def noise():
 
 
 def long():
-    # near the greatest length, and above it
+    # near the greatest length, and longer
     return b'{"op":"list"}'.ljust(random.choice([131071, 131072, 131073, 200000]))
 
 
@@ -81,7 +81,7 @@ class Replies:
 
 class RandomLines(helper.Check):
     def write(self, path, numbers):
-        # the lines of these numbers, into a file: how many of them have a byte
+        # writes the lines of these numbers into a file; returns how many of them have a byte
         filled = 0
         with open(path, "wb") as out:
             for number in numbers:
@@ -97,7 +97,7 @@ class RandomLines(helper.Check):
         run.stdin.flush()
 
     def lines(self, word, more):
-        """Has one of this word answer random lines in bounded memory, each with a reply, and with so many lines more."""
+        """Has the program of this subcommand answer random lines in bounded memory, each with a reply, and with this many lines more."""
         random.seed(helper.number("SEED", 20261122))
         count, filled = helper.number("LINES", 200_000), []
         halves = [range(count // 2), range(count // 2, count)]
@@ -127,7 +127,7 @@ class RandomLines(helper.Check):
         self.lines("run", 0)
 
     def test_serve(self):
-        """random lines with tags, in bounded memory, of one that serves, and says once that it is ready"""
+        """random lines with tags, in bounded memory, by serve, which sends one ready line"""
         self.lines("serve", 1)
 
 

@@ -1,6 +1,6 @@
 #!/usr/bin/env python3
-"""Runs that go on: served for millions of rounds, and drained for thousands of turns, by a shim under which no wait lasts (rounds.c);
-a command that comes alone is answered at once; and what an opening drops it drops at its own moment.
+"""Long runs: serve for millions of rounds, and a drain for thousands of turns, by a shim under which no wait lasts (rounds.c); a command
+that comes alone is answered at once; and an opening drops queued actions at its own moment.
 Use: rounds.py PROGRAM, with ROUNDS, TURNS and LIMIT, in seconds, in the environment"""
 import os
 import shutil
@@ -27,7 +27,7 @@ class Rounds(helper.Check):
             return struct.unpack("l", file.read())[0]
 
     def waited(self, count, goes_on):
-        # waits until so many waits are counted; how many are, where the run does not go on so long
+        # waits until this many waits are counted; returns how many are, if the run ends before
         until = time.monotonic() + helper.number("LIMIT", 240)
         while self.waits() < count and goes_on() and time.monotonic() < until:
             time.sleep(0.02)
@@ -45,7 +45,7 @@ class Rounds(helper.Check):
 
     def test_drain(self):
         """a drain goes on after twenty thousand turns"""
-        # it ends where the check is gone, too
+        # it ends if the check is gone, too
         self.agent("Waiting", 'until [ -e "$OCF_RESKEY_until" ] || [ ! -e "$0" ]; do sleep 0.05; done\n')
         run, wanted = self.hurried("run"), helper.number("TURNS", 20_000)
         run.tell(helper.register("r1", "Waiting", until=self.place("until")), helper.action("r1", "start", timeout=300_000),

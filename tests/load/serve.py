@@ -1,7 +1,6 @@
 #!/usr/bin/env python3
-"""Serving, by the built program: commands while agents run, half a line, a flood of questions beside a timeout, many ends at once, a
-reader that does not read, the end of input, scripts of a run, signals that end agents, what waiting costs, and kills at random
-moments.
+"""The built program as a server: commands while agents run, half a line, a flood of questions beside a timeout, many ends at once, a reader
+that does not read, the end of input, scripts for run, signals that end agents, the cost of waiting, and kills at random moments.
 Use: serve.py PROGRAM, with LIVES and SEED in the environment"""
 import os
 import random
@@ -28,13 +27,13 @@ class Serving(helper.Check):
         return self.heard("serve", *(journal or ["--memory"]), "--root", self.here)
 
     def slow_and_quick(self):
-        # a run in which the start of `slow` lasts, and a stop of `quick` is asked for
+        # a run in which the start of `slow` lasts, and a stop of `quick` is requested
         run = self.served()
         run.tell(sleeper("slow", **{"for": "30"}), sleeper("quick"), action("slow", "start"), action("quick", "stop"))
         return run
 
     def test_beside(self):
-        """a stop is accepted and told while another resource's start sleeps"""
+        """a stop is accepted and reported while another resource's start sleeps"""
         run = self.slow_and_quick()
         began = time.monotonic()
         at, notice = run.awaits(lambda value: helper.is_notice(value, id="quick"))
@@ -60,7 +59,7 @@ class Serving(helper.Check):
         self.assertEqual(run.ends(), 0, "the end of input with an agent running")
 
     def test_key_twice(self):
-        """a line in which an object has a key twice is refused as syntax, at any depth; run takes the last"""
+        """a line in which an object has a repeated key is refused as syntax, at any depth; run takes the last one"""
         twice = (b'{"op":"list","op":"list"}\n', b'{"op":"list","id":{"a":[{"b":1,"\\u0062":2}]}}\n')
         refused = {"error": "syntax", "number": 1}
         for text in twice:
@@ -71,7 +70,7 @@ class Serving(helper.Check):
 
     @helper.slow
     def test_flood(self):
-        """a timeout of half a second in a flood of questions, which ends when it is told, or after a million"""
+        """a timeout of half a second in a flood of questions, which ends when it is reported, or after a million"""
         run, flood, is_told = self.served(), b'{"op":"list"}\n' * 1000, threading.Event()
         run.tell(sleeper("slow", **{"for": "30"}), action("slow", "start", timeout=500))
         poured = []
@@ -122,7 +121,7 @@ class Serving(helper.Check):
         self.assertEqual((answers, run.wait(helper.PATIENCE)), (asked, 0))
 
     def test_withdraw(self):
-        """what is queued is withdrawn while another action runs"""
+        """a queued action is withdrawn while another one runs"""
         run = self.served()
         run.tell(sleeper("r1", **{"for": "30"}), action("r1", "start"), action("r1", "stop"), action("r1", "stop"))
         for _ in range(100):
@@ -147,7 +146,7 @@ class Serving(helper.Check):
         self.assertEqual(run.told(), [], "a notice of a withdrawal")
 
     def test_signals(self):
-        """a notice of serve has the signal that ended its agent, one of run has none, and neither has one of another end"""
+        """a notice of serve has the signal that ended its agent; one of run has none, and neither has one of another end"""
         self.agent("Dies", 'case $1 in start) kill -SEGV $$ ;; stop) kill -TERM $$ ;; demote) exec sleep 30 ;; esac\n')
         asked = [helper.register("web", "Dies"), *[action("web", word) for word in ("start", "monitor", "stop")],
                  action("web", "demote", timeout=300)]
@@ -165,7 +164,7 @@ class Serving(helper.Check):
         self.assertFalse(any("signal" in value for value in told), "a notice of run")
 
     def test_kept(self):
-        """of sixty-five results sixty-four are kept"""
+        """sixty-four of sixty-five results are kept"""
         asked = [line for _ in range(65) for line in (action("a", "stop"), {"op": "drain"})]
         told = helper.lines(sleeper("a"), *asked, {"op": "history", "id": "a"})
         done = helper.run("run", "--memory", "--root", self.here, told=told)
@@ -174,7 +173,7 @@ class Serving(helper.Check):
 
     @helper.slow
     def test_cost(self):
-        """what waiting costs: nothing registered, and one agent asleep"""
+        """the cost of waiting: nothing registered, and one agent asleep"""
         run = self.served()
         time.sleep(0.2)
 
@@ -192,7 +191,7 @@ class Serving(helper.Check):
         self.assertLessEqual(asleep, 20)
 
     def test_script(self):
-        """a script of a run gives the same replies in the same order, but for the sentences of refusals"""
+        """a script for run gives the same replies in the same order, except for the sentences of refusals"""
         script = helper.lines(sleeper("a"), sleeper("a"), {"op": "list"}, action("a", "start"), {"op": "info", "id": "b"}, {"op": "fly"},
                               action("a", "fly"), {"op": "recur", "id": "a", "interval": 60000},
                               {"op": "cancel", "id": "a", "interval": 1}, {"op": "withdraw", "id": "a", "call": 9}, {"op": "drain"},
@@ -206,12 +205,12 @@ class Serving(helper.Check):
         self.assertEqual(replies("serve"), replies("run"))
 
     def life(self, journal, opens):
-        # what was asked of a run that is killed at a random moment, as it opens or with commands and monitors under way; and what it told
+        # the commands to a run that is killed at a random moment, as it opens or with commands and monitors under way; and its output
         run, asked = self.served("--journal", journal), [{"op": "list"}]
         for name in ("a", "b"):
             asked += [sleeper(name), {"op": "recur", "id": name, "interval": 20}]
             asked += [action(name, what) for what in ("start", "monitor", "stop")]
-            # the call of that stop, of a journal whose calls begin with it: a monitor and three actions of each resource
+            # the call of that stop, for a journal whose calls begin with it: a monitor and three actions of each resource
             asked.append({"op": "withdraw", "id": name, "call": 4 if name == "a" else 8})
         self.note(f"{os.path.basename(journal)}.asked", helper.lines(*asked))
         run.tell(asked[0])
@@ -236,7 +235,7 @@ class Serving(helper.Check):
 
     @helper.slow
     def test_kills(self):
-        """what was sent is found after kills at random moments"""
+        """every reported result is found after kills at random moments"""
         random.seed(helper.number("SEED", 7))
         lives, told = helper.number("LIVES", 60), 0
         for number in range(lives):

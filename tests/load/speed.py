@@ -1,8 +1,8 @@
 #!/usr/bin/env python3
 # check: slow alone
-"""Times the built program: `list` lines in and out over memory, and start to end on empty input. Each is the best of several rounds,
-since whatever else the machine does only makes a round slower. Wanted on a quiet machine: at least 150,000 lines a second, under 5
-milliseconds from start to end. It fails at a tenth of that, so that a busy machine does not, and at 8 MiB of resident memory.
+"""Times the built program: `list` lines in and out in memory, and start to end on empty input. Each is the best of several rounds, since
+other work of the machine only makes a round slower. Wanted on a quiet machine: at least 150,000 lines a second, under 5 milliseconds from
+start to end. The check fails at a tenth of that, so that it passes on a busy machine, and at 8 MiB of resident memory.
 Use: speed.py PROGRAM, with ROUNDS in the environment"""
 import os
 import signal
@@ -15,20 +15,20 @@ import helper  # noqa: E402
 from helper import PROGRAM  # noqa: E402
 
 LINES, STARTS = 300000, 50
-# what Python itself ignores, and what it starts is not to
+# signals that Python itself ignores, and the processes that it starts must not
 IGNORED = [signal.SIGPIPE, signal.SIGXFSZ]
 
 
 class Speed(helper.Check):
     def answered(self):
-        """Has all lines answered: the seconds, the resident memory, and the milliseconds of the processor."""
+        """Has all lines answered; returns the seconds, the resident memory, and the milliseconds of processor time."""
         with open(self.place("replies"), "w+b") as out:
             run = subprocess.Popen([PROGRAM, "run", "--memory"], stdin=subprocess.PIPE, stdout=out)
             self.addCleanup(run.kill)
             began = time.monotonic()
             run.stdin.write(b'{"op":"list"}\n' * LINES)
             run.stdin.flush()
-            # what is left now is in the pipe and the program's buffer
+            # the rest is now in the pipe and the program's buffer
             memory, worked = helper.kib(run.pid, "VmHWM"), helper.processor_time(run.pid)
             run.stdin.close()
             status, took = run.wait(300), time.monotonic() - began
@@ -37,7 +37,7 @@ class Speed(helper.Check):
         return took, memory, worked * 1000
 
     def test_lines(self):
-        """the rate of questions, and what memory they take"""
+        """the rate of questions, and their memory"""
         rounds = [self.answered() for _ in range(helper.number("ROUNDS", 5))]
         rate = round(LINES / min(took for took, _, _ in rounds))
         memory, worked = max(memory for _, memory, _ in rounds), min(worked for _, _, worked in rounds)

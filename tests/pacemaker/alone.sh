@@ -1,6 +1,6 @@
 #!/bin/bash
-# Runs a command in mount, process and network namespaces of its own, with EXECD in place of pacemaker-execd, or `real`, and
-# the helper of Pacemaker's suite beside it where HELPER, a file, is given. Use: [HELPER=FILE] alone.sh DIR EXECD COMMAND..
+# Runs a command in mount, process and network namespaces of its own, with EXECD in place of pacemaker-execd, or `real`, and with the helper
+# of Pacemaker's suite beside it if HELPER, a file, is given. Use: [HELPER=FILE] alone.sh DIR EXECD COMMAND..
 set -eu
 if [ "$1" != --inside ]; then
     exec unshare -m -n -p -f --mount-proc --kill-child "$0" --inside "$@"

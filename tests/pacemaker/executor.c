@@ -12,10 +12,10 @@ static void (*on_opened)(void);
 static GPid child;
 static int to_child = -1, from_child = -1;
 static bool is_open, is_news;         /* a child is ready, and on_opened was not called yet */
-static int owed;                      /* replies that are passed over */
-static GString *input;                /* what was read and is no whole line yet */
+static int owed;                      /* replies that are ignored */
+static GString *input;                /* input that is not a complete line yet */
 static GQueue notices = G_QUEUE_INIT; /* lines */
-static guint teller;                  /* the source that tells them, or 0 */
+static guint teller;                  /* the source that delivers them, or 0 */
 
 char *json_text(const char *text) {
     GString *json = g_string_new("\"");
@@ -30,7 +30,7 @@ char *json_text(const char *text) {
     return g_string_free(g_string_append_c(json, '"'), FALSE);
 }
 
-/* What is behind a key, or an empty text. */
+/* The value of a key, or an empty text. */
 static const char *behind(const char *line, const char *key) {
     g_autofree char *quoted = g_strdup_printf("\"%s\":", key);
     const char *found = strstr(line, quoted);
@@ -55,7 +55,7 @@ bool executor_did(const char *reply) {
     return reply && !g_str_has_prefix(reply, "{\"error\"");
 }
 
-/* From the main loop, so that nothing is told while a reply is waited for. */
+/* From the main loop, so that no notice is delivered while a reply is waited for. */
 static gboolean tell_news(gpointer data) {
     char *line;
     teller = 0;
@@ -70,11 +70,11 @@ static gboolean tell_news(gpointer data) {
     return FALSE;
 }
 
-/* Takes a line: a notice, the one that says that the child is ready, a reply that is passed over, or the one that is waited for. */
+/* Takes a line: a notice, the ready line of the child, a reply that is ignored, or the awaited reply. */
 static void take(char *line, char **reply) {
     bool is_notice = g_str_has_prefix(line, "{\"action\":");
     crm_trace("< %s", line);
-    if (g_str_has_prefix(line, "{\"end\":")) { /* of a turn that the child made by itself: nothing that ends so is asked for */
+    if (g_str_has_prefix(line, "{\"end\":")) { /* of a turn that the child made by itself: no command is answered so */
         crm_warn("The executor's turn ended: %s", line);
         g_free(line);
         return;
@@ -97,7 +97,7 @@ static void take(char *line, char **reply) {
         teller = g_idle_add_full(G_PRIORITY_HIGH, tell_news, NULL, NULL);
 }
 
-/* Reads once, and takes the whole lines. False where the child has ended. */
+/* Reads once, and takes the complete lines. False if the child has ended. */
 static bool hear(char **reply) {
     char bytes[65536], *end;
     ssize_t count;
@@ -112,7 +112,7 @@ static bool hear(char **reply) {
     return count > 0;
 }
 
-/* Sends a line. Lines are short beside what a pipe holds, so it waits for nothing; one to a child that has ended is lost. */
+/* Sends a line. Lines are short compared with a pipe, so it never waits; a line to a child that has ended is lost. */
 static void send_line(const char *format, va_list words) {
     g_autofree char *line = g_strdup_vprintf(format, words), *whole = g_strconcat(line, "\n", NULL);
     const char *at = whole;

@@ -11,7 +11,7 @@
 
 struct connection {
     struct client client;
-    bool greeted; /* one that has not greeted yet is told nothing */
+    bool greeted; /* a client that has not greeted yet is sent nothing */
     qb_ipcs_connection_t *to;
     GQueue events; /* GBytes that were not sent yet, the oldest first */
     guint retry;   /* the timer of another try, or 0 */
@@ -24,7 +24,7 @@ static qb_ipcs_service_t *service;
 static void (*on_request)(struct client *client, int32_t id, xmlNode *request);
 static void (*on_left)(const char *client);
 
-/* Sends what a client's ring has room for, and the rest later, as crm_ipcs_flush_events() of lib/common/ipc_server.c. */
+/* Sends what a client's ring has space for, and the rest later, as crm_ipcs_flush_events() of lib/common/ipc_server.c. */
 static gboolean send_events(gpointer data) {
     struct connection *connection = data;
     ssize_t sent = 0;

@@ -1,6 +1,6 @@
-/* A test program that stands in pacemaker-execd's place on a node, and has each OCF action done by one child, `ocfexec serve`
-   with a journal. It serves clients on the node itself and OCF agents: no other class, no fencing, no alerts and no remote nodes.
-   OCFEXEC in its environment is the child's command line, words with a space between each. Use: bridge [-l LOG] [-V] */
+/* A test program that takes the place of pacemaker-execd on a node, and has each OCF action done by one child, `ocfexec serve` with a
+   journal. It serves clients on the node itself and OCF agents: no other class, no fencing, no alerts and no remote nodes. OCFEXEC in
+   its environment is the child's command line, words separated by a space. Use: bridge [-l LOG] [-V] */
 #include "executor.h"
 #include "ipc.h"
 #include "operations.h"
@@ -36,7 +36,7 @@ static xmlNode *describe(const char *id, int call) {
     return reply;
 }
 
-/* Does what is asked about a resource; `asked` is its element of the request, or NULL. */
+/* Carries out a request about a resource; `asked` is its element of the request, or NULL. */
 static int act(const char *operation, xmlNode *request, xmlNode *asked, const char *client, int call) {
     const char *id = asked ? crm_element_value(asked, F_LRMD_RSC_ID) : NULL;
     const char *action = asked ? crm_element_value(asked, F_LRMD_RSC_ACTION) : NULL;
@@ -57,7 +57,7 @@ static int act(const char *operation, xmlNode *request, xmlNode *asked, const ch
     return -EOPNOTSUPP;
 }
 
-/* A request, as process_lrmd_message() of daemons/execd/execd_commands.c has it. Every one has a call of its own. */
+/* A request, as process_lrmd_message() of daemons/execd/execd_commands.c has it. Every request has a call of its own. */
 static void requested(struct client *client, int32_t number, xmlNode *request) {
     static int call;
     const char *operation = crm_element_value(request, F_LRMD_OPERATION);
@@ -84,7 +84,7 @@ static void requested(struct client *client, int32_t number, xmlNode *request) {
         ipc_tell_all(wire_done(operation, id, code, call));
 }
 
-/* The executor has opened the journal. Clients are let in the first time. */
+/* The executor has opened the journal. The first time, clients are let in. */
 static void opened(void) {
     static bool serves;
     operations_opened();

@@ -1,6 +1,6 @@
 #!/bin/bash
-# A cluster node in mount, process and host name namespaces of its own, and in the network namespace it is started in: corosync,
-# Pacemaker with EXECD in place of pacemaker-execd, or `real`, and SCRIPT while they run. All that it writes is below DIR/NAME.
+# A cluster node in mount, process and host name namespaces of its own, and in the network namespace in which it is started: corosync,
+# Pacemaker with EXECD in place of pacemaker-execd, or `real`, and SCRIPT while they run. All its files are below DIR/NAME.
 # Use: node.sh DIR NAME EXECD SCRIPT
 set -eu
 if [ "$1" != --inside ]; then
@@ -40,7 +40,7 @@ done
 pacemakerd -f > "$dir/pacemakerd.out" 2>&1 &
 pacemaker=$!
 
-# Waits until a command succeeds, for so many seconds at most. Use: within SECONDS COMMAND..
+# Waits until a command succeeds, for at most this many seconds. Use: within SECONDS COMMAND..
 within() {
     local ends=$((SECONDS + $1))
     shift
@@ -49,7 +49,7 @@ within() {
         sleep 0.2
     done
 }
-# Whether the cluster says so. Use: says PATTERN
+# Whether the cluster shows this. Use: says PATTERN
 says() {
     crm_mon -1 -r 2> /dev/null | grep -q -e "$1"
 }

@@ -17,10 +17,10 @@ struct operation {
     int options;
     guint interval; /* milliseconds, 0 for a one-time operation */
     guint delay;    /* the timer of its start delay, or 0 */
-    gint64 number;  /* the executor's call, or 0 where it has none */
+    gint64 number;  /* the executor's call, or 0 if it has none */
     gint64 queued;  /* milliseconds since 1970 */
-    bool probes;    /* it was interrupted, and a monitor in its place finds out whether its work is done */
-    bool told;      /* and then how last */
+    bool probes;    /* it was interrupted, and a monitor in its place finds out whether it was done */
+    bool told;      /* and then the last state of its result */
     int told_code, told_status;
     struct result result;
 };
@@ -29,11 +29,11 @@ struct resource {
     char *id, *quoted;      /* the latter as JSON */
     xmlNode *asked;         /* the element of the request that registered it */
     int options;
-    bool gone;              /* its client has unregistered it, and the executor not yet */
+    bool gone;              /* its client has unregistered it, but the executor has not yet */
     char *known;            /* provider, type and parameters as the executor has them, or NULL */
-    GList *pending;         /* what was not begun, in order */
+    GList *pending;         /* operations that have not begun, in order */
     GList *recurring;       /* recurring operations that were begun */
-    struct operation *busy; /* what was begun and has no result yet */
+    struct operation *busy; /* the operation that has begun and has no result yet */
 };
 
 static GHashTable *resources; /* by id */
@@ -78,7 +78,7 @@ static void tell(struct operation *operation) {
         ipc_tell_all(wire_result(operation->asked, result));
 }
 
-/* An operation has a result, which is told. Where it does not recur it is over. */
+/* An operation has a result, which is sent. If it does not recur it is over. */
 static void finish(struct operation *operation, int code, int status, const char *reason) {
     struct resource *resource = resource_of(operation->asked);
     struct result *result = &operation->result;
@@ -99,7 +99,7 @@ static void finish(struct operation *operation, int code, int status, const char
     free_operation(operation);
 }
 
-/* The executor did not take an operation, by its reply, or has ended. */
+/* The executor did not accept an operation, by its reply, or has ended. */
 static void refused(struct operation *operation, const char *reply) {
     g_autofree char *word = reply ? json_word(reply, "error") : NULL;
     g_autofree char *reason = g_strdup_printf("ocfexec: %s", word ? word : "it has ended");
@@ -108,8 +108,8 @@ static void refused(struct operation *operation, const char *reply) {
 
 /* ---- Begins */
 
-/* Whether a parameter is passed on. The level of a monitor is a word of its own to the executor, which itself gives agents the
-   interval, the action and the timeout, so these do not make an operation's parameters differ from another's. */
+/* Whether a parameter is passed on. The level of a monitor is a key of its own for the executor, which itself gives agents the interval,
+   the action and the timeout; so these do not make an operation's parameters differ from another's. */
 static bool is_passed_on(const char *name) {
     static const char *const apart[] = {"OCF_CHECK_LEVEL", "CRM_meta_interval", "CRM_meta_name", "CRM_meta_timeout", NULL};
     bool is_name = !g_ascii_isdigit(*name);
@@ -118,7 +118,7 @@ static bool is_passed_on(const char *name) {
     return is_name && !g_strv_contains(apart, name);
 }
 
-/* A resource with parameters, as words of a command. */
+/* A resource with parameters, as keys of a command. */
 static char *registration(const struct resource *resource, GHashTable *parameters) {
     const char *provider = crm_element_value(resource->asked, F_LRMD_PROVIDER);
     g_autofree char *quoted = json_text(provider ? provider : "");
@@ -137,14 +137,14 @@ static char *registration(const struct resource *resource, GHashTable *parameter
     return g_string_free(g_string_append_c(words, '}'), FALSE);
 }
 
-/* Where a cancelled monitor still runs this is refused, and its end brings another try. */
+/* While a cancelled monitor still runs this is refused, and its end brings another try. */
 static void leave(struct resource *resource) {
     g_autofree char *reply = executor_ask("{\"op\":\"unregister\",\"id\":%s}", resource->quoted);
     if (executor_did(reply))
         g_clear_pointer(&resource->known, g_free);
 }
 
-/* Has a resource stand in the executor by these words. The reply, or an empty text where it does already. */
+/* Registers a resource in the executor with these keys. Returns the reply, or an empty text if it is registered so already. */
 static char *stand(struct resource *resource, const char *words) {
     const char *parameters = strstr(words, "\"params\":");
     if (resource->known && strcmp(resource->known, words) == 0)
@@ -160,7 +160,7 @@ static char *stand(struct resource *resource, const char *words) {
     return reply;
 }
 
-/* Gives an operation to the executor, or the monitor in its place, with the operation's own parameters and timeout. */
+/* Passes an operation, or the monitor in its place, to the executor, with the operation's own parameters and timeout. */
 static void begin(struct resource *resource, struct operation *operation) {
     g_autoptr(GHashTable) parameters = xml2list(operation->asked);
     const char *level = g_hash_table_lookup(parameters, "OCF_CHECK_LEVEL");
@@ -182,7 +182,7 @@ static void begin(struct resource *resource, struct operation *operation) {
         refused(operation, reply ? reply : stands);
 }
 
-/* Begins what can be, and has the executor leave what is gone. */
+/* Begins the operations that can begin, and unregisters resources that are gone. */
 static void advance(gpointer data) {
     struct resource *resource = data;
     while (executor_is_open() && !resource->busy && resource->pending) {
@@ -215,7 +215,7 @@ static void work_later(void) {
         source = g_idle_add_full(G_PRIORITY_HIGH, work, &source, NULL);
 }
 
-/* ---- What the executor tells */
+/* ---- Messages of the executor */
 
 /* The code of a monitor that finds a start or a promote done. -1 for other operations, which are not probed. */
 static int code_when_done(const struct operation *operation) {
@@ -224,8 +224,8 @@ static int code_when_done(const struct operation *operation) {
     return g_ascii_strcasecmp(operation->action, "promote") == 0 ? PCMK_OCF_RUNNING_PROMOTED : -1;
 }
 
-/* An interrupted operation may have done its work. A monitor in its place, before anything else of the resource, decides which
-   result is sent. */
+/* An interrupted operation may have been done. A monitor in its place, before anything else of the resource, decides which result is
+   sent. */
 static void probe(struct operation *operation) {
     struct resource *resource = resource_of(operation->asked);
     crm_notice("The %s of %s was interrupted, and is probed", operation->action, resource->id);
@@ -243,7 +243,7 @@ static void conclude_probe(struct operation *operation, const char *outcome, int
         finish(operation, PCMK_OCF_UNKNOWN_ERROR, PCMK_EXEC_ERROR, "interrupted");
 }
 
-/* Ends an operation by a result. A recurring monitor that was interrupted runs again, so only its next result is sent. */
+/* Ends an operation with a result. A recurring monitor that was interrupted runs again, so only its next result is sent. */
 static void conclude(struct operation *operation, const char *line) {
     gint64 since = json_number(line, "since"), at = json_number(line, "at");
     g_autofree char *outcome = json_word(line, "outcome");
@@ -282,7 +282,7 @@ void operations_ended(const char *line) {
     work_later(); /* a resource that is gone may have waited for a cancelled monitor */
 }
 
-/* A one-time operation of which another executor has told nothing: its result was recorded, and not told. */
+/* A one-time operation whose result another executor recorded and did not report. */
 static void look_up(struct resource *resource) {
     g_autofree char *history = executor_ask("{\"op\":\"history\",\"id\":%s}", resource->quoted);
     g_autofree char *call = g_strdup_printf("\"call\":%" G_GINT64_FORMAT ",", resource->busy->number);
@@ -295,7 +295,7 @@ static void look_up(struct resource *resource) {
         refused(resource->busy, NULL);
 }
 
-/* A journal of an earlier life: the controller probes everything anew, so nothing of it is kept. */
+/* A journal from before: the controller probes everything anew, so nothing of it is kept. */
 static void empty(void) {
     g_autofree char *list = executor_ask("{\"op\":\"list\"}");
     g_auto(GStrv) words = g_strsplit_set(executor_did(list) ? strchr(list, '[') : "", "[],\"}", 0);
@@ -332,7 +332,7 @@ void operations_opened(void) {
     work_later();
 }
 
-/* ---- What clients ask */
+/* ---- Requests of clients */
 
 static gboolean delay_over(gpointer data) {
     ((struct operation *)data)->delay = 0;
@@ -346,7 +346,7 @@ static void stop_recurring(struct resource *resource, struct operation *operatio
     operation->number = 0;
 }
 
-/* Told at once, also where a run of it is under way: the executor begins nothing else of the resource before that has ended. */
+/* Reported at once, also if a run of it is under way: the executor begins nothing else of the resource before that has ended. */
 int operations_cancel(const char *id, const char *action, guint interval) {
     struct resource *resource = g_hash_table_lookup(resources, id);
     struct operation *operation = resource ? find(resource->pending, action, interval) : NULL;
@@ -367,8 +367,8 @@ static void cancel_recurring(struct resource *resource, const char *client) {
     }
 }
 
-/* A recurring operation that is there already takes the new call, and runs at once where it was begun before, as
-   merge_recurring_duplicate() of daemons/execd/execd_commands.c has it. */
+/* A recurring operation that exists already takes the new call, and runs at once if it was begun before, as merge_recurring_duplicate()
+   of daemons/execd/execd_commands.c has it. */
 static bool merged(struct resource *resource, const struct operation *new) {
     struct operation *begun = find(resource->recurring, new->action, new->interval);
     struct operation *same = begun ? begun : find(resource->pending, new->action, new->interval);
@@ -432,7 +432,7 @@ int operations_unregister(const char *id) {
     return resource->busy ? -EINPROGRESS : pcmk_ok;
 }
 
-/* The executor hears of it before its first operation, with the parameters of that. */
+/* The executor gets it before its first operation, with the parameters of that. */
 int operations_register(xmlNode *asked, int options) {
     struct resource *resource = resource_of(asked);
     const char *id = crm_element_value(asked, F_LRMD_RSC_ID);

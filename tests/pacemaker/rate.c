@@ -1,5 +1,5 @@
-/* One-time monitors through Pacemaker's client library, one after another, as a controller asks for them: how long each takes from
-   its request to its result. Use: rate COUNT PROVIDER TYPE */
+/* One-time monitors through Pacemaker's client library, one after another, as a controller requests them: how long each takes from its
+   request to its result. Use: rate COUNT PROVIDER TYPE */
 #include <crm/crm.h>
 #include <crm/common/logging.h>
 #include <crm/lrmd.h>

@@ -1,8 +1,8 @@
 #!/bin/bash
-# One-time monitors of an agent that only exits, one after another through Pacemaker's client library: by pacemaker-execd, and by
-# the bridge over `PROGRAM serve` with a journal below TMPDIR and with one in memory, by turns, each in namespaces of its own and
-# with no log. Prints a table in Markdown: each number is the median of the rounds. It wants what run.sh wants but the
-# suite. TMPDIR is not below /run or /dev/shm, which the namespaces have of their own.
+# One-time monitors of an agent that only exits, one after another through Pacemaker's client library: by pacemaker-execd, and by the bridge
+# over `PROGRAM serve` with a journal below TMPDIR and with one in memory, by turns, each in namespaces of its own and without a log. Prints
+# a table in Markdown: each number is the median of the rounds. It has the needs of run.sh except the suite. TMPDIR must not be below /run
+# or /dev/shm, which the namespaces have of their own.
 # Use: rate.sh PROGRAM [ROUNDS [COUNT]]
 set -eu
 folder=$(cd "$(dirname "$0")" && pwd)
@@ -34,7 +34,7 @@ mkdir -p "$here"/ocf/resource.d/bench "$here"/{real,memory,journal/parts}
 printf '#!/bin/sh\nexit 0\n' > "$here/ocf/resource.d/bench/Shell"
 chmod -R a+rX "$here"
 chmod 755 "$here/ocf/resource.d/bench/Shell"
-# How many milliseconds a write of 512 bytes takes with its sync, where the journal lies.
+# How many milliseconds a write of 512 bytes takes with its sync, in the directory of the journal.
 synced() {
     dd if=/dev/zero of="$here/journal/synced" bs=512 count=100 oflag=dsync conv=notrunc 2>&1 |
         sed -n 's/.*copied, \([0-9.e-]*\) s.*/\1/p' | awk '{ printf "%.2f\n", $1 * 10 }'

@@ -1,15 +1,14 @@
 #!/bin/bash
-# Pacemaker over `PROGRAM serve` with a journal: the bridge of this folder stands in pacemaker-execd's place. Wanted:
+# Pacemaker over `PROGRAM serve` with a journal: the bridge of this directory takes the place of pacemaker-execd. Wanted:
 #   suite   each OCF test of Pacemaker's own suite of its executor, cts-exec of its source package, passes
 #   two     on a cluster of two nodes all resources are placed as under pacemaker-execd, at creation, in standby and back
-#   slow    the executor is killed amid a slow start: the cluster finds the service started, as under pacemaker-execd, and whenever
-#           it says that the service is stopped, the service is down in truth
+#   slow    the executor is killed during a slow start: the cluster finds the service started, as under pacemaker-execd, and whenever
+#           it shows the service as stopped, the service really is down
 #   timeout a start runs past its timeout: the program that it waits for ends with it, as under pacemaker-execd, so the service does
 #           not come up after the stop
-# Everything runs in namespaces of its own and at the same time, each with a folder of its own. It wants root, bash, and of Debian
-# pacemaker, pacemaker-dev, pacemaker-cli-utils, corosync, resource-agents, libqb-dev, pkg-config, python3-psutil, iproute2,
-# procps and gcc; for the suite the source package is fetched. What can't be had is skipped by name: with nothing left the status
-# is 77.
+# Everything runs in namespaces of its own and at the same time, each with a directory of its own. It needs root, bash, and of Debian
+# pacemaker, pacemaker-dev, pacemaker-cli-utils, corosync, resource-agents, libqb-dev, pkg-config, python3-psutil, iproute2, procps and gcc;
+# for the suite the source package is fetched. A part whose needs are missing is skipped by name; if none is left the status is 77.
 # Use: run.sh PROGRAM [PART..]
 set -u
 . "$(dirname "$0")/../lib/common.sh" "$@"
@@ -17,7 +16,7 @@ folder=$(cd "$(dirname "$0")" && pwd)
 parts=${*:2}
 parts=${parts:-suite two slow timeout}
 
-# What the suite tests of other classes of agents than OCF, and of several at once.
+# The tests of the suite for other classes of agents than OCF, and for several at once.
 out_of_scope='_lsb$|_service$|_stonith$|_systemd$|^stonith_|^get_lsb_|^get_stonith_|^multi_rsc_|^verify_agent_lists$'
 
 skip() {

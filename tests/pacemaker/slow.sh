@@ -1,7 +1,7 @@
-# What the scripts have in common that run the agent Slow on a cluster of one node; to be sourced.
+# Shared code of the scripts that run the agent Slow on a cluster of one node; to be sourced.
 # shellcheck shell=bash
 
-# Has the cluster start db, an instance of Slow with these parameters and operations, and waits until its start has begun.
+# Makes the cluster start db, an instance of Slow with these parameters and operations, and waits until its start has begun.
 # Use: start_db XML
 start_db() {
     within 60 says 'Online: \[ n1 \]'
@@ -14,7 +14,7 @@ XML
     within 60 pgrep -f 'test/Slow start' > /dev/null
 }
 
-# What runs of the start, whether the service is up in truth, and what the cluster says of it: a line.
+# The running processes of the start, whether the service really is up, and what the cluster shows, on one line.
 state_of_db() {
     local truth=down
     [ ! -e /run/slow ] || truth=up

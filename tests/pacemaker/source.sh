@@ -1,7 +1,7 @@
 #!/bin/sh
-# Fetches Pacemaker's source package, of the version that is installed, and makes of it in DIR what the suite of its executor
-# needs and no Debian package has: `cts-exec` with its paths filled in, and `cts-exec-helper`, which is built over the source's
-# own headers. apt's lists are kept in DIR, so nothing of the system is changed. Ends with 77 where the source can't be had.
+# Fetches Pacemaker's source package, of the installed version, and builds in DIR the parts of its executor's suite that are in no Debian
+# package: `cts-exec` with its paths filled in, and `cts-exec-helper`, which is built with the source's own headers. apt's lists are kept in
+# DIR, so nothing of the system is changed. Ends with 77 if the source is not available.
 # Use: source.sh DIR
 set -eu
 cd "$1"
@@ -27,11 +27,11 @@ tar -xf pacemaker_*.orig.tar.* -C source --strip-components 1
 sed -e "s|@PYTHON@|/usr/bin/python3|; s|@abs_top_builddir@|/nonexistent|; s|@sbindir@|/usr/sbin|; s|@PC_NAME_GNUTLS@||" \
     -e "s|@CRM_DAEMON_DIR@|/usr/lib/pacemaker|; s|@OCF_RA_INSTALL_DIR@|/usr/lib/ocf/resource.d|g; s|@localstatedir@|/var|" \
     -e "s|@CRM_RSCTMP_DIR@|/run/resource-agents|" source/cts/cts-exec.in > cts-exec
-# it ends what is left of earlier tests by name: here each test has namespaces of its own
+# it ends leftovers of earlier tests by name: here each test has namespaces of its own
 sed -i 's|^    if not process_names:$|    if True:|' cts-exec
 chmod 755 cts-exec
 
-# what the source's configure would have found, as far as the helper's headers ask
+# the findings of the source's configure, as far as the helper's headers need them
 cat > config.h <<'CONFIG'
 #define HAVE_ALPHASORT 1
 #define HAVE_DAEMON 1

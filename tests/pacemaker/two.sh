@@ -1,5 +1,5 @@
 #!/bin/bash
-# Two nodes, n1 and n2, in network namespaces that a pair of veth joins; SCRIPT runs on n1. Use: two.sh DIR EXECD SCRIPT
+# Two nodes, n1 and n2, in network namespaces that a pair of veth connects; SCRIPT runs on n1. Use: two.sh DIR EXECD SCRIPT
 set -eu
 if [ "$1" != --inside ]; then
     exec unshare -m -n -p -f --mount-proc --kill-child "$0" --inside "$@"

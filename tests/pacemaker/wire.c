@@ -8,12 +8,12 @@
 #include <crm/msg_xml.h>
 #include <qb/qbipc_common.h>
 
-/* Of Pacemaker 2.1.5, and in no installed header: struct pcmk__ipc_header_s and PCMK__IPC_VERSION of
-   lib/common/crmcommon_private.h. Read there by pcmk__client_data2xml(), written by pcmk__ipc_prepare_iov(), both of
-   lib/common/ipc_server.c. The text behind it ends with a NUL, which is counted. */
+/* Of Pacemaker 2.1.5, and in no installed header: struct pcmk__ipc_header_s and PCMK__IPC_VERSION of lib/common/crmcommon_private.h.
+   Read there by pcmk__client_data2xml(), written by pcmk__ipc_prepare_iov(), both of lib/common/ipc_server.c. The text after it ends
+   with a NUL, which is counted. */
 struct header {
     struct qb_ipc_response_header qb;
-    uint32_t size_uncompressed, size_compressed; /* of the text; the latter is 0 where it is not compressed */
+    uint32_t size_uncompressed, size_compressed; /* of the text; the latter is 0 if it is not compressed */
     uint32_t flags;                              /* enum crm_ipc_flags */
     uint8_t version;
 };
@@ -68,7 +68,7 @@ xmlNode *wire_done(const char *operation, const char *resource, int code, int ca
     return xml;
 }
 
-/* As send_cmd_complete_notify() of daemons/execd/execd_commands.c: the names of what was asked are those of what is told. */
+/* As send_cmd_complete_notify() of daemons/execd/execd_commands.c: the names in the request are those in the message. */
 xmlNode *wire_result(xmlNode *asked, const struct result *result) {
     xmlNode *xml = copy_xml(asked);
     xmlNodeSetName(xml, (const xmlChar *)T_LRMD_NOTIFY);

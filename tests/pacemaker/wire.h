@@ -1,4 +1,4 @@
-/* The messages of Pacemaker's executor: XML behind a header. What a message says is named in <crm/lrmd.h>. */
+/* The messages of Pacemaker's executor: XML after a header. The names in a message are those of <crm/lrmd.h>. */
 #ifndef WIRE_H
 #define WIRE_H
 
@@ -17,14 +17,14 @@ struct result {
     int run_time, queue_time;     /* milliseconds */
 };
 
-/* Reads a request, whose number is left in `id`. NULL where it is none, or one that expects no reply. */
+/* Reads a request, whose number is left in `id`. NULL if it is none, or one that expects no reply. */
 xmlNode *wire_read(const void *bytes, size_t size, int32_t *id);
 
-/* The bytes of a message: the reply to the request of this number, or an event of this number. NULL where it is too long. */
+/* The bytes of a message: the reply to the request of this number, or an event of this number. NULL if it is too long. */
 GBytes *wire_bytes(xmlNode *message, int32_t id, bool event);
 
-/* A reply; an event that tells how a request about a resource went, or NULL; and one that tells of a result, with what was
-   asked, the element of the request. A code is 0 or a negated error number. */
+/* A reply; an event with the outcome of a request about a resource, or NULL; and an event with a result and its request, the element of
+   the request. A code is 0 or a negated error number. */
 xmlNode *wire_reply(int code, int call);
 xmlNode *wire_done(const char *operation, const char *resource, int code, int call);
 xmlNode *wire_result(xmlNode *asked, const struct result *result);

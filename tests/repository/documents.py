@@ -1,10 +1,10 @@
 #!/usr/bin/env python3
-"""The names in the documents: each path, file, edit, item of a crate, target of make, subcommand and option that README.md,
-CONTRIBUTING.md, docs/, mutants/README.md and the crates' READMEs name in backticks is there, and each other word in backticks stands
-somewhere in the repository beside the documents; in a README, a section or a row of one crate it stands in that crate. Each label of
-a clause that a table or a list names after a function is that of a clause or of a field of a definition. Each file with a body that is
-proved by hand is named as trusted. ARCHITECTURE's rows are the headings of crates.txt, and no crate depends on one above its row. The
-manual page has the options of `--help`, and no others, and fits 80 columns.
+"""The names in the documents. Each path, file, edit, item of a crate, target of make, subcommand and option that README.md,
+CONTRIBUTING.md, docs/, mutants/README.md and the crates' READMEs name in backticks exists, and each other word in backticks occurs
+somewhere in the repository outside the documents; in a README, a section or a row of one crate it occurs in that crate. Each label of a
+clause that a table or a list names after a function is that of a clause or of a field of a definition. Each file with a body that is proved
+by hand is named as trusted. ARCHITECTURE's rows are the headings of crates.txt, and no crate depends on one above its row. The manual page
+has the options of `--help`, and no others, and fits 80 columns.
 Use: documents.py PROGRAM"""
 import collections
 import fnmatch
@@ -22,26 +22,26 @@ import helper  # noqa: E402
 DOCUMENTS = ["README.md", "CONTRIBUTING.md", "mutants/README.md",
              *sorted(glob.glob("docs/*.md", root_dir=helper.TOP) + glob.glob("crates/*/README.md", root_dir=helper.TOP))]
 MANUAL = "docs/ocfexec.8"
-# What is made of the definitions.
+# Generated from the definitions.
 STATEMENT = "docs/STATEMENT.antt.txt"
 SUBCOMMANDS = ["run", "serve", "show", "status", "log", "metrics", "once"]
-# What others name so, what only a gate or a check leaves, and what a document says is not there.
+# Names of other programs, of files that only a gate or a check leaves, and of things that a document says do not exist.
 OUTSIDE = {"--default-signal", "--keep-size", "--length", "--pdeathsig", "/srv/hour", "ArgGroup", "clap_complete", "clone3",
            "crates/ocfexec/out/gate", "crates/ocfexec/out/ocfexec", "fallocate", "flock", "get_ocf_metadata", "hidepid",
            "list_ocf_providers", "migrate_from", "migrate_to", "nohup", "ocfexec run --version", "perf", "rattle-kit-13f",
            "rt check --fix-imports", "strace -c -w", "systemctl reload", "tests/failed", "wait4"}
-# What stands for any name of its kind.
+# A placeholder for any name of its kind.
 ANY = re.compile(r"\b(NAME|FILE|CRATE)\b")
 FILE = re.compile(r"[\w.*-]+\.(rt|antt|py|sh|c|h|md|edit|service|jsonl|8)")
 ITEM = re.compile(r"\w+(::\w+)*")
 PAIR = re.compile(r"[a-z]\w* [A-Z]\w*")
 PATH = re.compile(r"[\w.*-]+(/[\w.*-]*)+")
 OPTION = re.compile(r"(?<![\w-])--?[A-Za-z][a-z-]*")
-# The labels after a name in a table or a list, as `Journal::open`: opened, failed; and what is a label: of a clause, or a field or a case
-# of a definition.
+# The labels after a name in a table or a list, as `Journal::open`: opened, failed; and what counts as a label: that of a clause, or a field
+# or a case of a definition.
 LABELS = re.compile(r"`[\w:]+`: ([a-z_]+(?:, [a-z_]+)*)(?=;|\)| \||, `| \(|$)")
 LABEL = re.compile(r"^ *(?:(?:ensures|requires) (\w+) \{|(?:pub )?(\w+) :)", re.MULTILINE)
-# The sections of a crate's README, in their order; what it is and how it works stands before them.
+# The sections of a crate's README, in their order; the description comes before them.
 SECTION = re.compile(r"^(## Proved|\*\*[^*]+\.\*\*)", re.MULTILINE)
 SECTIONS = ["## Proved", "**Tested.**", "**Trusted.**", "**Not proved.**", "**Not done.**"]
 CALL = re.compile(r"[ $]*((?:ocfexec|make) [^|<>&#]*?)(?:   .*)?$")
@@ -53,7 +53,7 @@ def read(path):
 
 
 def tree():
-    """The files of the repository, without what is built."""
+    """The files of the repository, except built ones."""
     found = []
     for top, folders, files in os.walk(helper.TOP):
         folders[:] = [folder for folder in folders if folder not in (".git", "out", "failed", "__pycache__")]
@@ -89,14 +89,14 @@ def rows(text):
 
 
 def upward(found):
-    """Each crate that depends on one of a heading after its own, with that one."""
+    """Each crate that depends on one of a later heading, with that one."""
     order = {name: number for number, crates in enumerate(found.values()) for name in crates}
     return [(name, one) for crates in found.values() for name, below in crates.items() for one in below
             if order.get(one, -1) > order[name]]
 
 
 class Names:
-    """What there is to be named. A place is a line of a document, after its heading."""
+    """The names that exist. A place is a line of a document, after its heading."""
 
     def __init__(self):
         self.crates = set(os.listdir(os.path.join(helper.TOP, "crates")))
@@ -115,7 +115,7 @@ class Names:
         self.targets = set(re.findall(r"^(\w+):", read("Makefile"), re.MULTILINE))
 
     def near(self, place):
-        """The crates that a place names in backticks, and the one whose README it is in; all where there are none."""
+        """The crates that a place names in backticks, and the one whose README it is in; all crates if there are none."""
         readme = re.match(r"crates/(\w+)/README.md\n", place)
         names = re.findall(r"`(\w+)", place) + ([*readme.groups()] if readme else [])
         return self.crates.intersection(names) or self.crates
@@ -127,7 +127,7 @@ class Names:
         return found[1] if found and found[1] in self.crates else None
 
     def is_path(self, name, place):
-        """From the top, in docs/, in crates/ or in a crate that the place names; or an edit."""
+        """A path from the top, in docs/, in crates/ or in a crate that the place names; or an edit."""
         crate, _, edit = name.partition("/")
         tried = [name, f"docs/{name}", f"crates/{name}", f"mutants/{name}.edit", f"mutants/gate/{name}.edit",
                  f"crates/{crate}/must-fail/{edit}.edit"]
@@ -139,7 +139,7 @@ class Names:
         return any(path[0] != "crates" or path[1] in self.near(place) for path in found)
 
     def is_item(self, name, place):
-        """Each word in the crate that begins it, or whose section it is; else the first and the last one in one file."""
+        """Each word in the crate that it begins with, or whose section it is; otherwise the first and the last one in one file."""
         words = name.split("::")
         crate = words[0] if words[0] in self.crates else self.owner(place)
         if crate:
@@ -161,7 +161,7 @@ class Names:
         return words[0] == "help" or words[0] in SUBCOMMANDS and options(name) <= options(self.helps[words[0]])
 
     def is_there(self, name, place=""):
-        """Whether what is named so at a place is there."""
+        """Whether the thing that is named at a place exists."""
         found = ANY.sub("*", name)
         if name in OUTSIDE:
             return True
@@ -184,8 +184,8 @@ class Names:
 
 
 def named(path, text):
-    """What a text names, and the place, behind the path of a crate's README: in backticks, by a link, as `crate` `File`, or in a line that
-    calls the program or make."""
+    """The names in a text, each with its place, after the path of a crate's README: in backticks, in a link, as `crate` `File`, or in a
+    line that calls the program or make."""
     fenced, heading = False, ""
     for line in text.splitlines():
         heading = line if line.startswith("#") and not fenced else heading
@@ -211,15 +211,15 @@ class Documents(helper.Check):
         cls.found = [(path, *name) for path in DOCUMENTS for name in named(path, read(path))]
 
     def test_names(self):
-        """what the documents name is there"""
+        """every name in the documents exists"""
         self.assertEqual([f"{path}: {name}" for path, name, place in self.found if not self.names.is_there(name, place)], [])
 
     def test_misspelled(self):
-        """a name of theirs that is misspelled in any word is not there"""
+        """a name in the documents that is misspelled in any word does not exist"""
         self.assertEqual([one for _, name, place in self.found for one in misspelled(name) if self.names.is_there(one, place)], [])
 
     def test_labels(self):
-        """the labels of clauses that tables and lists name are there, and none is that is misspelled"""
+        """the labels of clauses that tables and lists name exist, and misspelled ones do not"""
         found = [label for path in DOCUMENTS for row in re.findall(r"^(?:\||- ).*", read(path), re.MULTILINE)
                  for labels in LABELS.findall(row) for label in labels.split(", ")]
         self.assertGreater(len(found), 100)
@@ -227,7 +227,7 @@ class Documents(helper.Check):
         self.assertEqual([label for label in found if label[:1] + "q" + label[1:] in self.names.labels], [])
 
     def test_readmes(self):
-        """each crate but those of scenarios says of itself, in at most 40 lines, what is proved of it"""
+        """each crate except those of scenarios has a README of at most 40 lines"""
         crates = [crate for crate in self.names.crates if not crate.startswith("scenario")]
         lines = {crate: os.path.join(helper.TOP, "crates", crate, "README.md") for crate in crates}
         self.assertEqual([crate for crate, path in lines.items() if not os.path.exists(path) or read(path).count("\n") > 40], [])
@@ -255,7 +255,7 @@ class Documents(helper.Check):
         self.assertEqual([path for path in files if f"`{path}`" not in trusted], [])
 
     def test_moved(self):
-        """nor is an item or a file of a crate in the place of another one's"""
+        """an item or a file of one crate is not found in another one"""
         for name, place in (("exec_session::run_lines", ""), ("src/session.rt", "`exec_session`"), ("exec_session Breaks", "")):
             self.assertTrue(self.names.is_there(name, place), name)
             moved = [text.replace("exec_session", "two_parts") for text in (name, place)]

@@ -1,8 +1,8 @@
 #!/usr/bin/env python3
-"""What each wrong body says of itself: an edit of crates/CRATE/must-fail, mutants/CRATE or mutants/gate/CRATE names the functions of its
-crate that must refuse it, with clauses that they have, and one of mutants/tests a script of `make check` and a sentence of it. The list
-of mistakes in mutants/README.md names edits that there are, with a star where they are tried for each commit. What an edit takes away is
-there once in its file.
+"""The lines of each wrong body. An edit of crates/CRATE/must-fail, mutants/CRATE or mutants/gate/CRATE names the functions of its crate
+that must refuse it, with existing clauses, and an edit of mutants/tests a script of `make check` and a sentence of it. The list of mistakes
+in mutants/README.md names existing edits, with a star if they are tried for each commit. The old text of an edit occurs exactly once in its
+file.
 Use: edits.py PROGRAM"""
 import collections
 import os
@@ -43,14 +43,14 @@ def clauses(crate):
 
 
 def listed():
-    """The edits that the list of mistakes names: the crate and the name of each, and whether it has a star."""
+    """The edits in the list of mistakes: the crate and the name of each, and whether it has a star."""
     for line in goals.read(TOP / "mutants/README.md").splitlines():
         if line.startswith("- **"):
             yield from ((crate, name, bool(star)) for crate, name, star in QUOTED.findall(line))
 
 
 def taken(path, crate):
-    """What an edit takes away: each text, with the file that it stands in."""
+    """The old texts of an edit, each with its file."""
     file, top = None, TOP if crate == "tests" else TOP / "crates" / crate
     for line in goals.read(path).splitlines():
         key, _, text = line.partition(": ")
@@ -68,11 +68,11 @@ def is_slow(text, sentence):
 
 
 class Edits(helper.Check):
-    # What is wrong of an edit is told without all the others.
+    # The faults of an edit are printed without all the others.
     longMessage = False
 
     def test_named(self):
-        """each edit names functions of its crate that must refuse it, and clauses that they have"""
+        """each edit names functions of its crate that must refuse it, and existing clauses of them"""
         known = {crate: clauses(crate) for crate in {crate for crate, _ in edits()}}
         for (crate, name), path in edits().items():
             named = goals.named(path)
@@ -82,14 +82,14 @@ class Edits(helper.Check):
                 self.assertTrue(clause is None or clause in known[crate][function], f"{crate}/{name}: {function} ensures no {clause}")
 
     def test_there(self):
-        """what an edit takes away is there once in its file"""
+        """the old text of an edit occurs exactly once in its file"""
         tried = edits() | {("tests", path.stem): path for path in TOP.glob("mutants/tests/*.edit")}
         for (crate, name), path in tried.items():
             for file, text in taken(path, crate):
                 self.assertEqual(goals.read(file).count(text), 1, f"{crate}/{name}: not there once in {file.relative_to(TOP)}: {text}")
 
     def test_sentences(self):
-        """each edit that a test refuses names a check that there is"""
+        """each edit that a test refuses names an existing check"""
         for path in TOP.glob("mutants/tests/*.edit"):
             named = REFUSED_BY.search(goals.read(path))
             self.assertTrue(named, f"{path.relative_to(TOP)}: it has no line 'refused by: SCRIPT, SENTENCE'")
@@ -103,7 +103,7 @@ class Edits(helper.Check):
             self.assertEqual(is_slow(goals.read(TOP / script), sentence), says, f"{path.relative_to(TOP)}: {script}, {sentence}")
 
     def test_table(self):
-        """the list of mistakes names edits that there are, with a star where they are tried for each commit"""
+        """the list of mistakes names existing edits, with a star if they are tried for each commit"""
         found = edits() | {("tests", path.stem): path for path in TOP.glob("mutants/tests/*.edit")}
         self.assertGreater(len(list(listed())), 50)
         for crate, name, star in listed():
@@ -112,7 +112,7 @@ class Edits(helper.Check):
             self.assertEqual(star, is_tried, f"{crate}/{name}: a star, and not tried for each commit, or the other way round")
 
     def test_untried(self):
-        """mutants/untried names edits that there are, each once and in order"""
+        """mutants/untried names existing edits, each once and in order"""
         names = goals.read(TOP / "mutants/untried").split()
         self.assertEqual(names, sorted(set(names)), "mutants/untried: not in order, or not once")
         found = {f"{crate}/{name}" for crate, name in edits()} | {f"tests/{path.stem}" for path in TOP.glob("mutants/tests/*.edit")}

@@ -1,7 +1,7 @@
 #!/usr/bin/env python3
-"""What contracts say of refused growths rests on one lemma, `Refused.refuses` of crates/growth: nothing else cites it, no condition on a
-caller, invariant or ghost field claims that an allocator refuses, but the edge of a run keeps what a send that failed said; and each call
-of a library that grows memory by itself says that it is trusted.
+"""Contracts about refused growths depend on one lemma, `Refused.refuses` of crates/growth: nothing else cites it; no condition on a caller,
+invariant or ghost field claims that an allocator refuses, except that the edge of a run keeps the answer of a failed send; and each call of
+a library that allocates by itself is marked as trusted.
 Use: growth.py PROGRAM"""
 import glob
 import os
@@ -14,7 +14,7 @@ import helper  # noqa: E402
 LEMMA = re.compile(r"\bgrowth\.specs\.Refused\b|\bspecs::Refused::refuses\b|\brefuses_here\b")
 CLAIM = re.compile(r"IsTrue\s*\(?[\w.]*\brefuses\b")
 CLAUSE = re.compile(r"^\s*(requires|ensures|ghost \w+ =|ghost \w+:|pub fn|fn|impl|\{)")
-# It is said of a failure that is kept, and a new edge keeps none of this kind.
+# The claim about a failure that is kept; a new edge keeps none of this kind.
 KEPT = ("crates/exec_trace/src/edge.rt", "ghost invariant = { λ e. e.fault ≡ Memory → IsTrue T.refuses };")
 TRUSTED_CALL = re.compile(r"\b\w+::library_growth\(")
 
@@ -40,7 +40,7 @@ def conditions(lines):
 
 class Growth(helper.Check):
     def test_cited(self):
-        """one crate alone cites that an allocator refuses"""
+        """only one crate cites that an allocator refuses"""
         cited = {path for path, lines in sources("rt", "antt") if any(map(LEMMA.search, lines))}
         self.assertEqual(cited, {"crates/growth/specs/Refused.antt", "crates/growth/src/growth.rt"})
 
@@ -51,7 +51,7 @@ class Growth(helper.Check):
         self.assertEqual(claims, [])
 
     def test_trusted(self):
-        """each growth of a library says that it is trusted"""
+        """each growth by a library is marked as trusted"""
         silent = [f"{path}:{number + 1}" for path, lines in sources("rt") for number, line in enumerate(lines)
                   if TRUSTED_CALL.search(line) and not any("// TRUSTED:" in near for near in lines[max(0, number - 3):number + 1])]
         self.assertEqual(silent, [])

@@ -1,7 +1,7 @@
 #!/bin/sh
 # check: alone
-# The blocks of README.md, at the top of the repository, in their order, as they are pasted: each prints what the block after it says,
-# but for lengths of time.
+# The blocks of README.md, at the top of the repository, in their order, as they would be pasted: each prints the block after it, except for
+# durations.
 # Use: readme.sh PROGRAM
 set -u
 . "$(dirname "$0")/../lib/common.sh" "$@"

@@ -1,6 +1,6 @@
 #!/usr/bin/env bash
-# The version of the program is that of the newest release, or above it, and the manual page has it, too. In a copy a release is made, which
-# is written everywhere and tagged; one that is not above the last one, or of a tree with changes, is refused and changes nothing.
+# The version of the program is that of the newest release, or higher, and the manual page has it, too. In a copy a release is made, which
+# is written everywhere and tagged. A version that is not higher than the last one, or a tree with changes, is refused and changes nothing.
 # Use: release.sh PROGRAM
 set -u
 . "$(dirname "$0")/../lib/common.sh" "$@"

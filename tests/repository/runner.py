@@ -1,6 +1,6 @@
 #!/usr/bin/env python3
-"""The runner of the checks, tests/lib/runner.py, over scripts that stand in for the checks: what it counts, what it says at the end, what
-it leaves out, and what it runs at once; and what is left of a test by chance that failed.
+"""The runner of the checks, tests/lib/runner.py, with scripts that stand in for the checks: what it counts, what it prints at the end, what
+it leaves out, and what it runs at once; and the leftovers of a random test that failed.
 Use: runner.py PROGRAM"""
 import os
 import re
@@ -15,8 +15,8 @@ import helper  # noqa: E402
 
 FOLDERS = ["cli", "journal", "agents", "crash", "load", "system", "repository", "lib"]
 GOOD = 'echo "ok         0.10 s  good: a check"\n'
-# Counts the scripts that are under way, this one too, into a file of its own name, and waits for another one to do so, for {wait} tenths of
-# a second at most.
+# Counts the scripts that are running, including this one, in a file of its own name, and waits for another one to do so, for at most {wait}
+# tenths of a second.
 COUNTS = """cd {here}
 touch live/$$
 n=0; until [ "$(ls live | wc -l)" -gt 1 ] || [ $n -ge {wait} ]; do sleep 0.1; n=$((n+1)); done
@@ -24,7 +24,7 @@ ls live | wc -l > counted.$$ && mv counted.$$ seen.$(basename "$0" .sh)
 n=0; until [ "$(echo seen.* | wc -w)" -gt 1 ] || [ $n -ge {wait} ]; do sleep 0.1; n=$((n+1)); done
 rm live/$$
 """
-# A test by chance that fails, and one that does not.
+# A random test that fails, and one that does not.
 THROWS = """#!/usr/bin/env python3
 import random
 import sys
@@ -71,7 +71,7 @@ class Runner(helper.Check):
         os.chmod(self.place(f"tests/{name}.sh"), mode)
 
     def ran(self, *words):
-        """The status, and the lines of what is said, without those of how long it took."""
+        """The status, and the lines of the output, without those about durations."""
         done = subprocess.run([*self.words, *words], capture_output=True, text=True, env=self.environment, timeout=helper.WHOLE)
         self.assertEqual(done.stderr, "")
         return done.returncode, [line for line in done.stdout.splitlines() if "at once, in" not in line]
@@ -83,7 +83,7 @@ class Runner(helper.Check):
         return done.stderr
 
     def test_counts(self):
-        """each check counts, what failed is named with its file, and what a script printed is shown whole"""
+        """each check counts, a failure is named with its file, and the output of a script is shown whole"""
         self.script("cli/good", GOOD)
         self.script("load/bad", GOOD + 'echo "failed     0.20 s  bad: another check"; sleep 0.3; echo why >&2; exit 1\n')
         status, said = self.ran()
@@ -118,7 +118,7 @@ class Runner(helper.Check):
         self.script(f"{name}/build", body)
 
     def test_built(self):
-        """what scripts need is built once before they begin, and all else begins before"""
+        """the programs that scripts need are built once before they begin, and everything else begins before"""
         self.build("trials", f"sleep 1.5; echo built >> {self.place('log')}; echo of a compiler >&2; echo /its/place\n")
         for name, mark in (("a_needs", "# check: trials\n"), ("b_needs", "# check: trials\n"), ("other", "")):
             self.script(f"cli/{name}", f"echo {name} $BUILT_TRIALS >> {self.place('log')}\n" + GOOD, mark=mark)
@@ -129,7 +129,7 @@ class Runner(helper.Check):
         self.assertEqual((other, built, sorted(needs)), ("other", "built", ["a_needs /its/place", "b_needs /its/place"]))
 
     def test_not_built(self):
-        """where a build fails each script that needs it fails, with what the build said, and all else goes on"""
+        """if a build fails, each script that needs it fails, with the output of the build, and everything else goes on"""
         self.build("scenarios", "echo no compiler; exit 3\n")
         for name, mark in (("needs", "# check: scenarios\n"), ("other", "")):
             self.script(f"cli/{name}", GOOD, mark=mark)
@@ -148,7 +148,7 @@ class Runner(helper.Check):
         self.assertEqual(sorted(found), ["    tests/system/all.sh: no moon here", "    tests/system/part.sh: the sun: it is not there"])
 
     def test_chosen(self):
-        """names of scripts and of folders choose, and --fast leaves out what is marked slow"""
+        """names of scripts and of directories choose, and --fast leaves out what is marked slow"""
         for name in ("cli/one", "cli/two", "load/three"):
             self.script(name, GOOD, mark="# check: slow\n" if name == "cli/two" else "")
         for words, count in (([], 3), (["cli"], 2), (["one", "load"], 2), (["two.sh"], 1), (["tests/cli/two.sh"], 1), (["--fast"], 2)):
@@ -173,7 +173,7 @@ class Runner(helper.Check):
         self.assertEqual(log, ["one", "three", "two", "two", "two", "three", "one", "one", "three", "two"])
 
     def test_alone(self):
-        """several run at once, and nothing beside what is marked alone"""
+        """several run at once, and nothing runs beside a script that is marked alone"""
         os.mkdir(self.place("live"))
         for name, wait in (("one", 100), ("two", 100), ("alone", 3)):
             self.script(f"cli/{name}", COUNTS.format(here=self.here, wait=wait) + GOOD, mark="# check: alone\n" if name == "alone" else "")
@@ -185,7 +185,7 @@ class Runner(helper.Check):
         self.assertEqual(seen, {"one": 2, "two": 2, "alone": 1})
 
     def test_ended(self):
-        """a runner that is ended ends what it runs, and begins nothing more"""
+        """a runner that is ended ends what it runs, and starts nothing more"""
         for name in ("one", "two", "three"):
             self.script(f"cli/{name}", f"echo $$ > {self.place(name)}; sleep 60\n")
         run = subprocess.Popen(self.words, stdout=subprocess.DEVNULL, env=self.environment)
@@ -204,7 +204,7 @@ class Runner(helper.Check):
                 self.assertFalse(helper.is_alive(int(file.read())), name)
 
     def test_kept(self):
-        """of a test by chance that fails, or takes too long, it is said how it is played again, and what it was given is kept"""
+        """of a random test that fails, or takes too long, the output says how to repeat it, and its input is kept"""
         for name in ("helper.py", "schema.py"):
             shutil.copy(os.path.join(helper.TOP, "tests/lib", name), self.place("tests/lib"))
         with open(self.place("tests/crash/throws.py"), "w", encoding="ascii") as file:

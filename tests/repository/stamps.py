@@ -1,7 +1,7 @@
 #!/usr/bin/env python3
 # check: slow
-"""The stamps of wrong bodies, mutants/stamps.py, over a repository of three small crates and an `rt` that stands in for the kit's: it
-refuses each edit whose old text is there, but for those that say that they are harmless, and notes which edits it was handed.
+"""The stamps of wrong bodies, mutants/stamps.py, with a repository of three small crates and a stand-in for the kit's `rt`: it refuses each
+edit whose old text exists, except those that are marked as harmless, and notes which edits it got.
 Use: stamps.py PROGRAM"""
 import datetime
 import os
@@ -14,7 +14,7 @@ import time
 sys.path[0] += "/../lib"
 import helper  # noqa: E402
 
-# What asks for nothing but a line is answered by the shell, which starts sooner.
+# Calls that only print a line are answered by the shell, which starts sooner.
 SH = f"""#!/bin/sh
 case $1 in
 version) cat "${{0%/*}}/kit" ;;
@@ -54,7 +54,7 @@ else:
 """
 CRATES = {"low": "", "high": "low", "beside": ""}
 BODIES = {"kept": "n + 1", "asks": "kept(n)", "other": "n * 3"}
-# A goal that stands at the attribute of a function is of that one.
+# A goal at the attribute of a function belongs to that function.
 SOURCE = "".join(f"#[tactic(auto)]\npub fn {name}(n: u64) -> u64 {{\n    {body}\n}}\n\n" for name, body in BODIES.items())
 EVERY = ["beside/one", "high/one", "high/two", "low/one"]
 
@@ -95,11 +95,11 @@ class Stamps(helper.Check):
             return {edit: total for edit, total, *_ in map(str.split, file)}
 
     def environment(self):
-        """An environment whose `rt` is the one that stands in."""
+        """An environment whose `rt` is the stand-in."""
         return {**os.environ, "CI": self.ci, "PATH": self.place("bin") + ":" + os.environ["PATH"]}
 
     def called(self, *words, script="mutants/stamps.py"):
-        """What a call of a script says, its status, and the edits that were tried meanwhile."""
+        """The output of a call of a script, its status, and the edits that were tried meanwhile."""
         self.write("bin/asked", "")
         begin = [sys.executable] if script.endswith(".py") else []
         done = subprocess.run([*begin, self.place(f"top/{script}"), *words], capture_output=True, text=True, env=self.environment())
@@ -108,14 +108,14 @@ class Stamps(helper.Check):
             return done.stdout, done.returncode, sorted(file.read().split())
 
     def tries(self, wanted, passed, failed, *words):
-        """A call tries just these edits, and counts so many. Gives what it says."""
+        """A call tries exactly these edits, and counts this many. Returns its output."""
         said, status, asked = self.called(*(words or ["check"]))
         self.assertEqual(asked, wanted, said)
         self.assertEqual((said.splitlines()[-1], status), (f"{passed} passed, {failed} failed", 1 if failed else 0), said)
         return said
 
     def begins_stamped(self):
-        """All edits were seen refused before; what was tried for one test is so for the others."""
+        """All edits were seen refused before; one test's tries count for the others."""
         if not Stamps.stamped:
             self.tries(EVERY, 4, 0)
             with open(self.place("top/mutants/tried"), encoding="ascii") as file:
@@ -130,7 +130,7 @@ class Stamps(helper.Check):
         self.tries(EVERY, 4, 0, "all", "-j", "2")
 
     def test_one_crate(self):
-        """a call for one crate tries all edits of it and no other's, or those that it names; a call for gate tries those under a stamp"""
+        """a call for one crate tries all its edits and no others, or those that it names; a call for gate tries those with a stamp"""
         for folder, edit in (("crates", "high/must-fail/own"), ("crates", "low/must-fail/own"), ("mutants", "high/more")):
             self.edit(edit, folder=folder)
         for words, wanted in ((["high"], ["more", "one", "own", "two"]), (["high", "more", "two"], ["more", "two"])):
@@ -140,7 +140,7 @@ class Stamps(helper.Check):
         self.assertEqual((asked, status, sorted(self.lines())), (EVERY, 0, EVERY))
 
     def test_every(self):
-        """the name of a crate chooses all its edits, every chooses all there are, and what was tried when is shown"""
+        """the name of a crate chooses all its edits, every chooses all edits, and show lists when each was tried"""
         self.edit("high/more", folder="mutants")
         self.tries(["high/more", "high/one", "high/two"], 3, 0, "all", "high")
         with open(self.place("top/mutants/tried"), encoding="ascii") as file:
@@ -159,7 +159,7 @@ class Stamps(helper.Check):
         self.assertEqual((done.returncode, done.stdout, done.stderr), (1, "", "stamps.py: mutants has no edit of a crate none\n"))
 
     def test_tests(self):
-        """an edit that a test refuses rests on all of the program, and its own script says what became of it"""
+        """the stamp of an edit that a test refuses depends on the whole program, and its own script reports its fate"""
         self.write("top/crates.txt", "low:\nhigh: low\nbeside:\nocfexec: high\n")
         self.edit("tests/told", folder="mutants")
         self.write("top/mutants/try_tests.sh", "#!/bin/sh\nfor name; do echo \"$name: refused\"; done\n")
@@ -173,7 +173,7 @@ class Stamps(helper.Check):
         self.assertEqual(self.lines(), {})
 
     def test_ci(self):
-        """where the kit takes no crate by name, as CI is true, the gate is a copy's of it and those below; what is not refused fails"""
+        """if the kit takes no crate by name, as CI is true, the gate runs on a copy of it and those below; an edit not refused fails"""
         self.ci = "true"
         notes = "    open(os.path.join(here, 'there'), 'a').write(' '.join(sorted(os.listdir('crates'))) + '\\n')\n"
         self.write("bin/rt.py", RT.replace("    failed = 0\n", "    failed = 0\n" + notes))
@@ -185,7 +185,7 @@ class Stamps(helper.Check):
         self.assertEqual(sorted(self.lines()), EVERY[:3])
 
     def test_another_sum(self):
-        """an edit whose line has another sum, or is gone, is tried, and no other one"""
+        """an edit whose line has another sum, or is missing, is tried, and no other one"""
         self.begins_stamped()
         found = self.lines()
         for broken in ("high/two 0123\n", "high/two\n", "high/two " + found["high/one"] + "\n", ""):
@@ -194,7 +194,7 @@ class Stamps(helper.Check):
             self.assertEqual(self.lines(), found)
 
     def test_texts(self):
-        """a change of an edit, of a file at or below its crate, of what it stands on or of the kit makes its line old"""
+        """a change of an edit, of a file at or below its crate, of its dependencies or of the kit makes its line old"""
         self.begins_stamped()
         self.edit("high/two", new="n + 3")
         self.tries(["high/two"], 4, 0)
@@ -212,7 +212,7 @@ class Stamps(helper.Check):
         self.tries(EVERY, 4, 0)
 
     def test_not_applied(self):
-        """an edit that no longer applies fails, at each call, until it does again"""
+        """an edit that no longer applies fails, at each call, until it applies again"""
         self.begins_stamped()
         self.write("top/crates/high/src/lib.rt", SOURCE.replace("n + 1", "1 + n"))
         for _ in range(2):
@@ -222,7 +222,7 @@ class Stamps(helper.Check):
         self.tries(["high/one", "high/two"], 4, 0)
 
     def test_not_refused(self):
-        """an edit that is not refused fails, and has no line, also where it had one"""
+        """an edit that is not refused fails, and has no line, even if it had one"""
         self.edit("low/one", new="n + 1 /* harmless */")
         self.assertIn("NOT REFUSED", self.tries(EVERY, 3, 1))
         self.assertEqual(sorted(self.lines()), EVERY[:3])
@@ -235,7 +235,7 @@ class Stamps(helper.Check):
         self.assertEqual(self.lines(), {})
 
     def test_goal(self):
-        """an edit counts where its first refused goal is of the edited function or of a caller, and nowhere else"""
+        """an edit counts if its first refused goal is of the edited function or of a caller, and only then"""
         self.edit("high/one", fn="asks")
         self.edit("high/two", fn="other")
         said = self.tries(EVERY, 3, 1)
@@ -243,7 +243,7 @@ class Stamps(helper.Check):
         self.assertEqual(sorted(self.lines()), ["beside/one", "high/one", "low/one"])
 
     def test_named(self):
-        """an edit that another function refuses than it names is told, and what it names makes no line old"""
+        """if another function refuses an edit than it names, that is reported, and the named functions make no line old"""
         self.edit("high/one", fn="asks", named="kept, more; other")
         self.edit("high/two", fn="asks", named="kept; asks, more")
         told = "high/one: DIFFERS: refused in asks, and its edit names kept and other"
@@ -256,7 +256,7 @@ class Stamps(helper.Check):
             self.assertEqual((status, re.findall(".*DIFFERS.*", said)), (len(wanted), wanted))
 
     def test_not_tried(self):
-        """an edit of which the kit says nothing fails, and so does a file that is no edit of a crate"""
+        """an edit that the kit does not report fails, and so does a file that is no edit of a crate"""
         self.begins_stamped()
         self.write("top/mutants/gate/high/three.edti", "")
         self.write("top/mutants/gate/none/four.edit", "")
@@ -268,7 +268,7 @@ class Stamps(helper.Check):
         self.tries([], 4, 0)
 
     def test_ended(self):
-        """a call that is ended leaves no process behind it, and the lines as they were"""
+        """a call that is ended leaves no process, and the lines as they were"""
         self.begins_stamped()
         found = self.lines()
         waits = "    open(os.path.join(here, 'pid'), 'w').write(str(os.getpid()))\n    import time; time.sleep(60)\n"
@@ -285,7 +285,7 @@ class Stamps(helper.Check):
         self.assertEqual(self.lines(), found)
 
     def test_gone(self):
-        """the line of an edit that is gone goes, once another one is tried"""
+        """the line of a removed edit is removed, once another one is tried"""
         self.begins_stamped()
         os.remove(self.place("top/mutants/gate/beside/one.edit"))
         self.edit("low/one", new="n + 9")
@@ -293,14 +293,14 @@ class Stamps(helper.Check):
         self.assertEqual(sorted(self.lines()), EVERY[1:])
 
     def test_not_written(self):
-        """where its file cannot be written it says so, tries what it has to, and fails nothing"""
+        """if its file cannot be written it says so, tries what it has to, and fails nothing"""
         os.mkdir(self.place("top/mutants/tried.new"))
         for _ in range(2):
             self.assertIn("cannot be written", self.tries(EVERY, 4, 0))
         self.assertFalse(os.path.exists(self.place("top/mutants/tried")), "no line was written")
 
     def test_changed_meanwhile(self):
-        """an edit counts only where no file that it rests on changed while it was tried"""
+        """an edit counts only if no file that it depends on changed while it was tried"""
         change = f"open({self.place('top/crates/low/src/lib.rt')!r}, 'a').write('// more')"
         self.write("bin/rt.py", RT.replace("    failed = 0\n", f"    failed = 0\n    {change}\n"))
         said = self.tries(EVERY, 1, 3)

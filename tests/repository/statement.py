@@ -1,6 +1,6 @@
 #!/usr/bin/env python3
-"""The statement in one file, docs/STATEMENT.antt.txt: it is what docs/statement.py makes of the definitions of this tree, a change of
-a text in it makes it stale, and what its definitions name is in it; docs/STATEMENT.md names nothing else.
+"""The statement in one file, docs/STATEMENT.antt.txt: it is what docs/statement.py generates from the definitions of this tree, a change of
+a text in it makes it stale, and it contains everything that its definitions name; docs/STATEMENT.md names nothing else.
 Use: statement.py PROGRAM"""
 import os
 import re
@@ -12,12 +12,12 @@ sys.path[0] += "/../lib"
 import helper  # noqa: E402
 
 SCRIPT, STATEMENT, READING = "docs/statement.py", "docs/STATEMENT.antt.txt", "docs/STATEMENT.md"
-# What the reading names besides definitions: the program, and what its example asks for.
+# The names in docs/STATEMENT.md besides definitions: the program, and the commands of its example.
 EXAMPLE = {"exec", "ocfexec", "register", "web"}
 KEY = re.compile(r"^(?:abbrev|unfoldable|record|data) ([^\s:({]+)", re.MULTILINE)
-# What the language has, and variables.
+# Built into the language, and variables.
 BUILT_IN = {"Type", "Unit", "Why"}
-# A change of each kind of text in it: a file, and what is there once, with what it becomes.
+# A change of each kind of text in it: a file, and a text that occurs there once, with its replacement.
 CHANGES = [
     ("executor/src/laws.rt", "        → (zs : List Event) × FoundAs (after_all start zs) c\n        × Runs",
      "        → (zs : List Event) × FoundAs start c\n        × Runs"),
@@ -30,7 +30,7 @@ CHANGES = [
     ("ocf_types/specs/Names.antt", "is_ascii_alphanumeric, is_ascii_alphabetic}",
      "is_ascii_alphanumeric, is_ascii as is_ascii_alphabetic}"),
 ]
-# What is no text of it: a lemma, and a definition that nobody names.
+# Texts that are not in it: a lemma, and a definition that nobody names.
 OTHERS = [
     ("gated_slots/specs/Slot.antt", "length-slot body = omega (arith, ", "length-slot body = omega (arith, arith, "),
     ("executor/specs/Runs.antt", "-- a behaviour of the",
@@ -49,26 +49,26 @@ def write(path, text):
 
 
 def check(top):
-    """The status of a check of the statement in a tree, and what it says."""
+    """The status of a check of the statement in a tree, and its output."""
     done = subprocess.run([sys.executable, os.path.join(top, SCRIPT), "--check"], capture_output=True, text=True)
     return done.returncode, done.stderr
 
 
 def words(text):
-    """The words of definitions that are no projections, without comments."""
+    """The words of definitions that are not projections, without comments."""
     return re.findall(r"(?<![\w.'])[A-Za-z_][\w']*", re.sub(r"--.*", "", text))
 
 
 class Statement(helper.Check):
     def copied(self):
-        """A copy of what the statement is made of."""
+        """A copy of the files from which the statement is generated."""
         for folder in ("docs", "crates"):
             left_out = shutil.ignore_patterns("out", "proofs", "must-fail")
             shutil.copytree(os.path.join(helper.TOP, folder), self.place(folder), ignore=left_out)
         self.assertEqual(check(self.here), (0, ""))
 
     def with_change(self, path, old, new):
-        """What a check of the copy says while one file of a crate is changed."""
+        """The output of a check of the copy while one file of a crate is changed."""
         path = self.place(f"crates/{path}")
         text = read(path)
         self.assertEqual(text.count(old), 1, (path, old))
@@ -94,7 +94,7 @@ class Statement(helper.Check):
             self.assertEqual(self.with_change(*change), (0, ""), change)
 
     def test_gone(self):
-        """a definition that is gone is an error, and so is a lemma in its place"""
+        """a missing definition is an error, and so is a lemma in its place"""
         self.copied()
         for new in ("abbrev pub booted_at", "pub booted"):
             self.assertEqual(self.with_change("exec_ledger/specs/Boots.antt", "abbrev pub booted", new),

@@ -1,6 +1,6 @@
 #!/usr/bin/env python3
-"""The places that are trusted, docs/TRUSTED.txt: it is what docs/trusted.py makes of this tree, and a place more or less, or a file that is
-longer, makes it old.
+"""The trusted places, docs/TRUSTED.txt: it is what docs/trusted.py generates from this tree, and a place more or less, or a longer file,
+makes it old.
 Use: trusted.py PROGRAM"""
 import os
 import shutil
@@ -15,7 +15,7 @@ OLD = (1, "docs/TRUSTED.txt is old: docs/trusted.py writes it\n")
 
 
 def check(top):
-    """The status of a check of the list in a tree, and what it says."""
+    """The status of a check of the list in a tree, and its output."""
     done = subprocess.run([sys.executable, os.path.join(top, SCRIPT), "--check"], capture_output=True, text=True)
     return done.returncode, done.stderr
 
@@ -26,7 +26,7 @@ class Trusted(helper.Check):
         self.assertEqual(check(helper.TOP), (0, ""))
 
     def test_changed(self):
-        """a place that is gone, one that says something else, and a line more make it old"""
+        """a removed place, a changed text, and another line make it old"""
         for folder in ("docs", "crates"):
             left_out = shutil.ignore_patterns("out", "proofs", "must-fail")
             shutil.copytree(os.path.join(helper.TOP, folder), self.place(folder), ignore=left_out)
@@ -41,7 +41,7 @@ class Trusted(helper.Check):
             self.assertEqual(check(self.here), OLD)
 
     def test_each_method(self):
-        """each method of the system's host that its trait promises something of says what is trusted of it"""
+        """each method of the system's host with a promise in its trait says what is trusted of it"""
         with open(os.path.join(helper.TOP, "crates/exec_program/src/host.rt"), encoding="utf-8") as file:
             promised = {part.split("(")[0] for part in file.read().split("    fn ")[1:] if "ensures" in part.split(";")[0]}
         with open(os.path.join(helper.TOP, HOST), encoding="utf-8") as file:

@@ -1,6 +1,6 @@
 #!/usr/bin/env bash
-# Builds the player of scenarios, tests/scenarios/src, with checks, and prints where the program is; tests/lib/checked.sh says how. That
-# takes a minute and a half of one processor where a text has changed.
+# Builds the player of scenarios, tests/scenarios/src, with checks, and prints the path of the program, as tests/lib/checked.sh describes.
+# That takes a minute and a half of processor time if a text has changed.
 # Use: build.sh
 set -eu
 cd "$(dirname "$0")/../.."

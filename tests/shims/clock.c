@@ -1,4 +1,4 @@
-/* The wall clock is ahead by the seconds that the file named by AHEAD holds. Loaded before the C library, by clock.py. */
+/* Sets the wall clock ahead by the seconds in the file named by AHEAD. Loaded before the C library, by clock.py. */
 #define _GNU_SOURCE
 #include <dlfcn.h>
 #include <stdio.h>

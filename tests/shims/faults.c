@@ -1,5 +1,5 @@
-/* Has each write and sync of a journal's files fail, for tests/crash/faults.py: loaded before the C library (LD_PRELOAD). They fail as long
-   as the file $FAULT exists, with the error whose number it holds. Children get neither variable, so they are left alone. */
+/* Makes each write and sync of a journal's files fail, for tests/crash/faults.py: loaded before the C library (LD_PRELOAD). They fail as
+   long as the file $FAULT exists, with the error number that it contains. Children get neither variable, so they are left alone. */
 #define _GNU_SOURCE
 #include <dlfcn.h>
 #include <errno.h>

@@ -1,7 +1,8 @@
 /* Refuses one growth of memory, for tests/crash/growths.py: loaded before the C library (LD_PRELOAD), it counts each malloc, calloc and
-   realloc from the start of the program on, and answers that of the number $REFUSE as if there were no memory. The file $GROWTHS,
-   of 16 bytes, has the count of growths and that of refused ones at any moment, also behind a crash. Children get neither variable,
-   so they are left alone. With LINKED it is linked into the program, in front of a sanitizer's own functions (tests/sanitize.sh). */
+   realloc from the start of the program on, and makes the one with the number $REFUSE fail as if there were no memory. The file
+   $GROWTHS, of 16 bytes, has the number of growths and that of refused ones at any moment, also after a crash. Children get neither
+   variable, so they are left alone. With LINKED it is linked into the program, in front of a sanitizer's own functions
+   (tests/sanitize.sh). */
 #include <errno.h>
 #include <fcntl.h>
 #include <stddef.h>
@@ -9,7 +10,7 @@
 #include <sys/mman.h>
 #include <unistd.h>
 
-/* what is called in the place of a function of the C library, and that function */
+/* the function that is called in place of a function of the C library, and that function */
 #ifdef LINKED
 #define CALLED(name) __wrap_##name
 #define OWN(name) __real_##name

@@ -88,9 +88,9 @@ static const char *path_of(int file) {
     return file == STDOUT_FILENO ? "out" : path;
 }
 
-/* What is done. */
+/* The calls that are really made. */
 
-/* Whether this fault is planned for the call that is made. */
+/* Whether this fault is planned for the current call. */
 static int meets(const char *word) {
     return calls == fault_at && strcmp(fault, word) == 0;
 }
@@ -120,7 +120,7 @@ static ssize_t device_write(int file, const void *bytes, size_t size, off_t at) 
     return answer;
 }
 
-/* What the program asks for. */
+/* The calls of the program. */
 
 /* A sync of the other part, where the file is a part. */
 static int sync_other(const char *call, int file) {
@@ -134,8 +134,8 @@ static int sync_other(const char *call, int file) {
     return answer;
 }
 
-/* A sync as it is answered. By a lie every fortieth is not made (skip40), nor any of an opening, by fsync (opening), nor the first of
-   each two by fdatasync (second); or the other part is synced (other), or one that failed is made again (again). */
+/* A sync as it is answered. A lie skips every fortieth (skip40), or all of an opening, by fsync (opening), or the first of each two by
+   fdatasync (second); or syncs the other part (other), or repeats one that failed (again). */
 static int lie(const char *call, int file) {
     static long asked, of_data;
     int is_data = strcmp(call, "fdatasync") == 0;
@@ -199,7 +199,7 @@ int ftruncate64(int file, off_t size) {
     return cut(file, size);
 }
 
-/* An open that makes its file is noted as `make`. */
+/* An open that creates its file is noted as `make`. */
 static int open_at(int directory, const char *path, int flags, mode_t mode) {
     int before = errno, was_there = faccessat(directory, path, F_OK, AT_SYMLINK_NOFOLLOW) == 0;
     errno = before;
@@ -209,7 +209,7 @@ static int open_at(int directory, const char *path, int flags, mode_t mode) {
     return file;
 }
 
-/* Opens by the mode that comes after the flags where they ask for one. */
+/* Opens with the mode that comes after the flags if they need one. */
 #define OPEN_BY_MODE(directory, path, flags) \
     do { \
         va_list more; \

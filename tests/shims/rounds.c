@@ -1,7 +1,7 @@
 /* No wait lasts, for tests/load/rounds.py: loaded before the C library (LD_PRELOAD). nanosleep returns at once, and so does poll, which
-   asks the system only once in 1,001 times, and else finds nothing: an odd number, since calls may come in pairs. The file $WAITS, of
-   8 bytes, has the number of waits at any moment. Children get no such variable. No other function of the C library is called, so
-   that a program with AddressSanitizer in it can be tried, too. */
+   asks the system only once in 1,001 times, and otherwise finds nothing: an odd number, since calls may come in pairs. The file $WAITS,
+   of 8 bytes, has the number of waits at any moment. Children get no such variable. It calls no other function of the C library, so that
+   it also works for a program with AddressSanitizer. */
 #define _GNU_SOURCE
 #include <fcntl.h>
 #include <poll.h>

@@ -1,5 +1,5 @@
-/* To be loaded before the C library's: an agent of the type Stuck is never seen to end, as one that waits for a device that is gone,
-   whatever signal it is sent. */
+/* To be loaded before the C library: an agent of the type Stuck is never seen to end, like one that waits for a lost device, whatever
+   signal it is sent. */
 #define _GNU_SOURCE
 #include <dlfcn.h>
 #include <fcntl.h>

@@ -1,7 +1,7 @@
-/* Counts the syncs and writes of a journal's files, for tests/crash/together.py: loaded before the C library (LD_PRELOAD). The file $CALLS,
-   of 16 bytes, has the number of syncs and that of writes at any moment, also behind a crash. The call of the number $STOP, counted
-   over both, kills the program: a sync before it is made, a write in its middle. Children get neither variable and no file, so they
-   are left alone. */
+/* Counts the syncs and writes of a journal's files, for tests/crash/together.py: loaded before the C library (LD_PRELOAD). The file
+   $CALLS, of 16 bytes, has the number of syncs and that of writes at any moment, also after a crash. The call with the number $STOP,
+   counted over both, kills the program: a sync before it is made, a write in its middle. Children get neither variable and no file, so
+   they are left alone. */
 #define _GNU_SOURCE
 #include <dlfcn.h>
 #include <fcntl.h>

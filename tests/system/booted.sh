@@ -1,8 +1,8 @@
 #!/bin/sh
 # check: slow
-# The units of examples/, and the guide with the package, under a systemd that runs. systemd-nspawn boots the tree of this machine in a
-# container with a network of its own; what is written there is kept in memory, and is gone with it. Nothing but what tests/lib/booted.py
-# starts runs in it. Without root or the package systemd-container, or where no container boots, it is skipped, with the reason.
+# The units of examples/, and the guide with the package, under a running systemd. systemd-nspawn boots the tree of this machine in a
+# container with a network of its own; its writes are kept in memory, and vanish with it. Nothing runs in it except what tests/lib/booted.py
+# starts. Without root or the package systemd-container, or if no container boots, it is skipped, with the reason.
 # Use: booted.sh PROGRAM
 set -u
 . "$(dirname "$0")/../lib/common.sh" "$@"
@@ -31,7 +31,7 @@ StandardError=inherit
 ExecStart=$(command -v python3) /top/tests/lib/booted.py /check/ocfexec
 ExecStopPost=/bin/sh /check/after
 UNIT
-# what is done in the end: a shutdown while a resource runs
+# the last step: a shutdown while a resource runs
 cat > "$here/after" << 'AFTER'
 echo "$EXIT_STATUS" > /check/status
 : > /check/calls

@@ -1,5 +1,5 @@
 #!/usr/bin/env bash
-# The client of the shell in examples/, with a resource of ocf_agents: what it prints, and how it ends; and a slow reader.
+# The shell client of examples/, with a resource of ocf_agents: its output, and how it ends; and a slow reader.
 # Use: clients.sh PROGRAM
 set -u
 . "$(dirname "$0")/../lib/common.sh" "$@"
@@ -10,7 +10,7 @@ has() {
     [ "$(outcomes "$here/out" | grep -c -x "$2")" -ge "$1" ]
 }
 
-# The client of the shell
+# The shell client
 "$top/examples/client.sh" pacemaker Dummy "state=$here/shell" "$program" serve --memory --via "$agents" > "$here/out" 2> "$here/err"
 status=$?
 [ $status -eq 0 ] || differs "client.sh, status" 0 "$status, $(cat "$here/err")"
@@ -23,7 +23,7 @@ has 3 'monitor done 0' || differs "client.sh" "three monitors at least" "$(cat "
 
 checked "the client of the shell"
 
-# A reader that sleeps loses nothing: the replies are more than a pipe holds
+# A reader that sleeps loses nothing: the replies are longer than a pipe
 found=$(yes '{"op":"list"}' | head -n 3000 | "$program" run --memory | { sleep 0.5 && cat; } | sort | uniq -c | sed 's/^ *//')
 same "a slow reader" '3000 {"ok":true,"resources":[]}' "$found"
 

@@ -1,7 +1,7 @@
 #!/bin/sh
 # check: slow
-# Runs the cluster of examples/cluster through random kills, in namespaces of its own where they can be had: cluster_kills.py says what
-# is wanted. It is skipped where there is no etcd.
+# Runs the cluster of examples/cluster through random kills, in namespaces of its own if they are available: cluster_kills.py lists the
+# requirements. It is skipped without etcd.
 # Use: cluster.sh PROGRAM [KILLS [SEED]], or with KILLS and SEED in the environment
 set -eu
 for needed in etcd setpriv flock pgrep python3; do

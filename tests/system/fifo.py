@@ -1,6 +1,7 @@
 #!/usr/bin/env python3
 """The pair of units by which several programs share one executor, as systemd starts them: the FIFO is held open, and is the executor's
-input; its answers go to a file; and it ends by the unit's own command. Two writers write at once, and each knows what is its own by tags.
+input; its answers go to a file; and it ends by the unit's own command. Two writers write at once, and each recognizes its own answers by
+tags.
 Use: fifo.py PROGRAM"""
 import os
 import subprocess
@@ -14,8 +15,8 @@ from helper import PROGRAM  # noqa: E402
 
 EXAMPLES = os.path.join(helper.TOP, "examples")
 LINES = 1000
-# Writes so many lines, each by one write of a shell, of which each sets the parameters of one resource, and a registration, a line that
-# is refused, and a start with them. Each has a tag: the writer's name and a number.
+# Writes this many lines, each by one write of a shell. Each of them sets the parameters of one resource; with them come a registration, a
+# line that is refused, and a start. Each has a tag: the writer's name and a number.
 # Use: sh -c WRITER sh NAME COUNT FIFO
 WRITER = """exec > "$3"
 printf '{"op":"register","id":"%s","provider":"test","type":"Fast","tag":"%s 0"}\\n' "$1" "$1"
@@ -39,7 +40,7 @@ class Pair(helper.Check):
         self.answers = self.service.get("Service.StandardOutput").removeprefix("append:")
 
     def starts(self):
-        """Starts the service as systemd does behind the first line."""
+        """Starts the service as systemd does after the first line."""
         if not os.path.exists(self.fifo):
             os.mkfifo(self.fifo, int(self.socket.get("Socket.SocketMode"), 8))
         held = os.open(self.fifo, os.O_RDWR)
@@ -59,7 +60,7 @@ class Pair(helper.Check):
         self.assertEqual(stop.wait(20), 0)
 
     def answered(self, run, count):
-        """The values of the answers, as soon as there are so many."""
+        """The values of the answers, as soon as there are this many."""
         until = time.monotonic() + 120
         while True:
             with open(self.answers, "rb") as answers:
@@ -71,7 +72,8 @@ class Pair(helper.Check):
             time.sleep(0.05)
 
     def are_of(self, name, count, found):
-        """These are the replies to all lines of a writer, in their order, and behind the last one its result: known by their tags alone."""
+        """These are the replies to all lines of a writer, in their order, and after the last one its result: recognized by their tags
+        alone."""
         *replies, refused, start, result = found
         self.assertEqual(replies, [{"ok": True, "tag": f"{name} {number}"} for number in range(count + 1)])
         self.assertEqual((refused["key"], refused["tag"]), ("action", f"{name} {count + 1}"))
@@ -99,12 +101,12 @@ class Pair(helper.Check):
         self.assertEqual(self.answered(run, len(found) + 1)[-1], {"end": "left"})
 
     def test_pair(self):
-        """it serves two writers at once, goes on when they have gone, and ends in order; another one goes on behind it"""
+        """it serves two writers at once, goes on when they have gone, and ends in order; another one continues after it"""
         self.writers(20)
         run = self.starts()
         with open(self.fifo, "w", encoding="ascii") as commands:
             commands.write('{"op":"list"}\n')
-        # (what the executor before it answered, with its end, stands before this)
+        # (the answers of the executor before it, and its end, come before this)
         self.assertEqual(sorted(self.answered(run, 2 * 24 + 2)[-1]["resources"]), ["one", "two"])
         self.stops(run)
 

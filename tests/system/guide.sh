@@ -1,9 +1,9 @@
 #!/bin/sh
 # check: slow
-# The first hour in one go: the Debian package is built and installed, each block of the guide is run and prints what the guide
-# says, and the package is removed. It is installed into a folder of its own; with `/`, on this machine, as the guide says it.
-# Where no gate has passed on these programs there is no package: then it is the program as it was built, and with `/` an error.
-# Where no systemd runs, and in a folder, tests/lib/systemctl.py plays it by the unit.
+# The first hour in one go: the Debian package is built and installed, each block of the guide is run and prints what the guide says, and
+# the package is removed. It is installed into a directory of its own; with `/`, on this machine, as the guide says. If no gate has passed
+# on these programs there is no package: then the check uses the program as it was built, and with `/` that is an error. Without a running
+# systemd, and in a directory, tests/lib/systemctl.py plays it by the unit.
 # Use: guide.sh PROGRAM [/]
 set -u
 . "$(dirname "$0")/../lib/common.sh" "$@"
@@ -23,12 +23,12 @@ PATH=$PATH:/usr/sbin:/sbin
 root=$here/root
 libexec=$root/usr/libexec/ocfexec
 installed=
-# the folders of this machine that the guide makes, once it is known that they are not there
+# the directories of this machine that the guide creates, once it is known that they do not exist
 ours=
 mkdir "$root" "$here/hour" "$here/systemd" "$here/bin"
 chmod 755 "$here" "$root"
 
-# Use: package WORD.., as dpkg does it, there or on this machine
+# Use: package WORD.., like dpkg, there or on this machine
 package() {
     if [ "$on_machine" = / ]; then
         dpkg "$@" > "$here/dpkg" 2>&1
@@ -48,7 +48,7 @@ install() {
     checked "the package is built and installed"
 }
 
-# Removes the package, of which nothing stays.
+# Removes the package, of which no file stays.
 remove() {
     installed=
     package -P ocfexec
@@ -59,7 +59,7 @@ remove() {
 
 # Whatever fails, no service of the guide stays, and no package.
 leave() {
-    # dash's own kill takes no group behind --
+    # dash's own kill takes no group after --
     [ ! -s "$hour/nginx.pid" ] || env kill -KILL -- "-$(cat "$hour/nginx.pid")" 2> /dev/null
     [ -z "$installed" ] || package -P ocfexec
     rm -rf "$here"
@@ -92,7 +92,7 @@ else
     unit=$top/examples/ocfexec.service
 fi
 
-# Use: placed FILE, with the places of this check in place of those of a machine
+# Use: placed FILE, with the paths of this check in place of those of a machine
 placed() {
     if [ "$on_machine" = / ]; then
         cat "$1"

@@ -1,6 +1,6 @@
 #!/usr/bin/env bash
-# Builds the Debian package, in which lintian, where it is installed, finds nothing wrong; installs it into a folder of its own, runs
-# what is in it, and removes it. Without a gate that passed on these programs, or without dpkg, it is skipped.
+# Builds the Debian package, in which lintian, if it is installed, finds nothing wrong; installs it into a directory of its own, runs its
+# programs, and removes it. Without a gate that passed on these programs, or without dpkg, it is skipped.
 # Use: package.sh PROGRAM
 set -u
 . "$(dirname "$0")/../lib/common.sh" "$@"

@@ -1,8 +1,8 @@
 #!/bin/sh
 # check: slow
-# The agents of the package resource-agents, unchanged, under ocfexec: the metadata of each agent is passed on byte for byte
-# as the agent prints it by itself in the same environment, and those that need no hardware and no other software are
-# started, monitored and stopped, with the exit codes of the OCF Resource Agent API.
+# The agents of the package resource-agents, unchanged, under ocfexec. The metadata of each agent are passed on byte for byte as the agent
+# prints them by itself in the same environment. Agents that need no hardware and no other software are started, monitored and stopped, with
+# the exit codes of the OCF Resource Agent API.
 # Use: real_agents.sh PROGRAM
 set -u
 . "$(dirname "$0")/../lib/common.sh" "$@"
@@ -42,13 +42,13 @@ tells_metadata() {
     cmp "$here/wanted" "$here/found" || differs "meta of $1" "$(head -n 1 "$here/wanted")" "$(head -n 1 "$here/found")"
 }
 
-# The line that queues an action, to take at most TIMEOUT milliseconds. A resource's id has this process in it, since agents
-# keep files by ids. Use: queues TYPE ACTION [TIMEOUT]
+# The line that queues an action, with a timeout of TIMEOUT milliseconds. A resource's id has this process's number in it, since agents keep
+# files by ids. Use: queues TYPE ACTION [TIMEOUT]
 queues() {
     printf '{"op":"exec","id":"%s-%d","action":"%s","timeout":%d}\n' "$1" $$ "$2" "${3:-20000}"
 }
 
-# The lines of an agent's life: each action is drained. Use: life TYPE PARAMS ACTION..
+# The lines of a session with one agent: each action is drained. Use: life TYPE PARAMS ACTION..
 life() {
     printf '{"op":"register","id":"%s-%d","provider":"heartbeat","type":"%s","params":{%s}}\n' "$1" $$ "$1" "$2"
     type=$1
@@ -71,7 +71,7 @@ goes() {
     return 1
 }
 
-# An agent that is started and stopped, each of them twice. Use: lives TYPE PARAMS
+# An agent that is started and stopped, each twice. Use: lives TYPE PARAMS
 lives() {
     goes "$1" 'monitor done 7 OCF_NOT_RUNNING
 start done 0 OCF_SUCCESS
@@ -119,7 +119,7 @@ demote done 0 OCF_SUCCESS
 monitor done 0 OCF_SUCCESS
 stop done 0 OCF_SUCCESS' Stateful "$stateful" start promote monitor demote monitor stop
 
-# What agents refuse, what is not there, and what takes too long
+# Refusals of agents, missing agents, and actions that take too long
 ends Dummy "$dummy" validate-all 'validate-all done 0 OCF_SUCCESS'
 ends Dummy "$dummy" promote 'promote done 3 OCF_ERR_UNIMPLEMENTED'
 ends symlink '' start 'start done 6 OCF_ERR_CONFIGURED'
@@ -137,7 +137,7 @@ stop done 0 OCF_SUCCESS
 monitor done 7 OCF_NOT_RUNNING'
 [ "$found" = "$wanted" ] || differs "Delay, longer than its timeout" "$wanted" "$found"
 
-# All at once: they run side by side, and each ends as it does alone
+# All at once: they run in parallel, and each ends as it does alone
 {
     life Dummy "$dummy"
     life dummypy "$dummypy"

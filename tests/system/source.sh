@@ -1,8 +1,8 @@
 #!/usr/bin/env bash
 # check: slow
-# Builds the Debian source package of this commit, in which lintian, where it is installed, finds nothing wrong; unpacks it, and builds the
-# package from it. The compiler is played: what stands in for `rt` hands over the programs of this check. Without it the build says what
-# is missing. It is skipped without git or dpkg-dev.
+# Builds the Debian source package of this commit, in which lintian, if it is installed, finds nothing wrong; unpacks it, and builds the
+# package from it. The compiler is simulated: its stand-in for `rt` copies the programs of this check. Without it the build names what is
+# missing. It is skipped without git or dpkg-dev.
 # Use: source.sh PROGRAM
 set -u
 . "$(dirname "$0")/../lib/common.sh" "$@"
@@ -22,7 +22,7 @@ if command -v lintian > /dev/null; then
 fi
 checked "a source package is built"
 
-# Builds the package in the tree of the source package. Use: builds FOLDER, with rt in it or not
+# Builds the package in the tree of the source package. Use: builds DIRECTORY, with rt in it or not
 builds() {
     (cd "$here/tree" && PATH=$1:/usr/sbin:/usr/bin:/sbin:/bin dpkg-buildpackage --no-sign --build=binary > "$here/said" 2>&1)
 }

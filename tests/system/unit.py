@@ -1,6 +1,6 @@
 #!/usr/bin/env python3
-"""The unit of examples/ with the client and its file, as systemd runs it by what the unit says: its start, its reload, a restart that
-leaves the services running, a kill, a stop, and a status that wants a person. All units are checked by systemd-analyze where it is.
+"""The unit of examples/ with the client and its file, run as systemd runs it: its start, its reload, a restart that leaves the services
+running, a kill, a stop, and a status that needs an administrator. systemd-analyze, if it is installed, checks all units.
 Use: unit.py PROGRAM"""
 import json
 import os
@@ -47,7 +47,7 @@ class Keeper(helper.Check):
         os.rename(self.place("new"), self.place("resources.json"))
 
     def called(self):
-        """What the agent was called for, without its monitors."""
+        """The actions of the agent, without its monitors."""
         with open(self.place("calls"), encoding="ascii") as file:
             return [word for word in file.read().split() if word != "monitor"]
 
@@ -58,7 +58,7 @@ class Keeper(helper.Check):
             time.sleep(0.02)
 
     def test_restart(self):
-        """a restart leaves the services running, a reload brings in new ones, and a stop stops all"""
+        """a restart leaves the services running, a reload adds new ones, and a stop stops all"""
         self.manager.start()
         self.assertEqual((self.manager.read("active"), self.called()), ("active", ["start"]))
         main = self.manager.read("MainPID")
@@ -74,7 +74,7 @@ class Keeper(helper.Check):
         self.assertEqual((self.manager.read("ExecMainStatus"), self.called()), ("0", ["start", "start", "stop", "stop"]))
 
     def test_killed(self):
-        """a client that is killed is started again, and goes on with what runs; told to leave it is not, and what runs stays"""
+        """a killed client is started again, and keeps running services; told to leave, it is not started again, and they stay"""
         self.manager.start()
         main = self.manager.read("MainPID")
         self.manager.signal(signal.SIGKILL)
@@ -98,7 +98,7 @@ class Keeper(helper.Check):
             self.assertEqual((self.manager.read("active"), self.manager.read("ExecMainStatus")), ("", status))
 
     def test_removed(self):
-        """the package's removal leaves what runs, and says so; its upgrade ends nothing before the new one is there"""
+        """the package's removal leaves services running, and says so; its upgrade ends nothing before the new one is installed"""
         self.manager.start()
         played = os.path.join(self.here, "bin")
         os.mkdir(played)
@@ -116,7 +116,7 @@ class Keeper(helper.Check):
         self.assertTrue(os.path.exists(self.place("web")), "the service of web is up")
 
     def test_nothing(self):
-        """without a file it is up, and nothing is started, until a reload finds one"""
+        """without a file it is up, and starts nothing, until a reload finds a file"""
         os.remove(self.place("resources.json"))
         self.manager.start()
         self.assertEqual((self.manager.read("active"), self.manager.read("StatusText")), ("active", "nothing is configured"))

@@ -1,6 +1,6 @@
 #!/usr/bin/env bash
-# Builds the trials, tests/trials/src, with checks, and prints where the program is; tests/lib/checked.sh says how. That takes about
-# four minutes of processor time where a text has changed, by two processors at once at its end.
+# Builds the trials, tests/trials/src, with checks, and prints the path of the program, as tests/lib/checked.sh describes. That takes about
+# four minutes of processor time if a text has changed, on two processors at once at its end.
 # Use: build.sh
 set -eu
 cd "$(dirname "$0")/../.."
