@@ -108,7 +108,7 @@ class Events(helper.Check):
         done = helper.explained("run", "--journal", journal, "--orphans", "0", "--root", self.here, "--events")
         self.assertEqual(done.returncode, 0, done.stderr)
         said = [line for line in done.stderr.decode().splitlines() if "web: " in line and line.startswith("<")]
-        self.assertEqual(said, ["<4>web: start interrupted: the executor stopped while it ran; it may be done or not"])
+        self.assertEqual(said, ["<4>web: start interrupted: the executor ended while it ran; it may be done or not"])
 
     def test_output(self):
         """standard output is the same with them and without"""

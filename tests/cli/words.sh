@@ -7,7 +7,7 @@ set -u
 . "$(dirname "$0")/../lib/common.sh" "$@"
 
 # The remedy, as it is printed after the line of a fault.
-check_streams="Check what standard input and output are connected to. A command without a reply may be recorded."
+check_streams="Check what standard input and output are connected to. A command without a reply may have been recorded."
 output_line="ocfexec: input or output"
 
 # Compares the status, and the lines on standard error. Use: ended NAME STATUS WANTED_STATUS TEXT

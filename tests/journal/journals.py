@@ -199,7 +199,7 @@ class Journals(helper.Check):
     def test_no_room(self):
         """a part without space for a boot is shown, and not opened"""
         folder = self.spelled("journal", crowded(), b"")
-        self.stays(folder, 6, "ocfexec: full", "Nothing was changed. See what it holds by show")
+        self.stays(folder, 6, "ocfexec: full", "Nothing was changed. Print what the journal holds with show")
         found = self.shows(folder)
         self.assertEqual(found.returncode, 0)
         self.assertEqual(helper.replies(found.stdout)[1]["running"], {"call": 1, "key": "r1_start_0", "run": 1})

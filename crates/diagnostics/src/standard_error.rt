@@ -1,6 +1,6 @@
 //! Reports of the fault that ends the program: one line on standard error. If a person reads that, at a terminal or in the
 //! system's journal, lines with the cause and with advice follow.
-use exec_output::Fault;
+use exec_faults::Fault;
 use process_ends::System;
 use std::fmt::Display;
 use std::io::{Eprint, IsTerminal};

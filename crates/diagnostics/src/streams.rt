@@ -1,7 +1,7 @@
 //! The errors of standard input and standard output.
 use crate::standard_error::{advise, explain, name};
+use exec_faults::Fault;
 use exec_lines::Patient;
-use exec_output::Fault;
 use process_ends::System;
 use std::cell::Cell;
 use std::io::{self, ErrorKind, Read, Write};

@@ -2,8 +2,9 @@
 use crate::runs::{DRAIN, ended, ended_in, run_over};
 use child_model::Poll;
 use disk_model::MemDisk;
+use exec_faults::Fault;
 use exec_lines::{Output, Patient};
-use exec_output::{Fault, show};
+use status_report::show;
 use std::alloc::Global;
 use std::io::{self, BufReader, ErrorKind, Read, Write};
 use std::str::from_utf8;

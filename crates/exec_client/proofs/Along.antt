@@ -5,7 +5,7 @@ use Rattle.std.proofs.KnownBytes.{Appends-nil, Appends-trans}
 use Rattle.std.specs.Io.KnownBytes.{Appends}
 use Rattle.exec_lines.specs.Fronts.{AppendsFront}
 
--- of all lines some are written, and the rest is left
+-- some of the lines are written, and the others are left
 pub record Along (all rest : List ℕ) (old new : Option (List ℕ)) : Type 0 where
   pub done : List ℕ
   pub parts : all ≡ done ++ rest
@@ -29,7 +29,7 @@ along_all all rest a b none so_far =
     subst (λ (l : List ℕ). Appends a b l)
     (sym (so_far.parts ∙ ap (λ (l : List ℕ). so_far.done ++ l) none ∙ append-nil so_far.done)) so_far.written
 
--- the next line breaks off
+-- the next line is cut short
 pub along_part : (all line rest : List ℕ) (a b c : Option (List ℕ)) → Along all (line ++ rest) a b → AppendsFront b c line
     → AppendsFront a c all
 along_part all line rest a b c so_far part = record {

@@ -28,7 +28,7 @@ use Rattle.exec_ledger.proofs.Keeping.{command_keeps}
 use Rattle.exec_client.specs.Behind.{Behind, TellsOf, claims, nothing, says_else, tells, untold}
 use Rattle.exec_client.specs.Said.{Said, answered, noticed_by}
 
--- nothing sent is backed by any events
+-- no message is backed by any events
 pub none_told : (es : List Event) → Behind [] es
 none_told [] = nothing
 none_told (e ∷ es) = untold e [] es (none_told es)
@@ -49,7 +49,7 @@ behind_more ss es fs b =
 pub behind_after : (ss : List Said) (fs es : List Event) → Behind ss es → Behind ss (fs ++ es)
 behind_after ss fs es b = both_behind [] fs ss es (none_told fs) b
 
--- a message of one event, or one that says nothing of any
+-- a message that claims one event, or none
 one_told : (s : Said) (e : Event) → TellsOf s e → Behind (s ∷ []) (e ∷ [])
 one_told s e t = tells s e [] [] t nothing
 
@@ -72,7 +72,7 @@ reply_behind e (reply.Info info) keeps is = untold e (answered (reply.Info info)
 reply_behind e (reply.History rs) keeps is = untold e (answered (reply.History rs) ∷ []) [] (says_none (answered (reply.History rs)) refl)
 reply_behind e (reply.Turn end) keeps is = untold e (answered (reply.Turn end) ∷ []) [] (says_none (answered (reply.Turn end)) refl)
 
--- a command of a row
+-- a command of a batch
 add_behind : (s : State) (now : ℕ) (c : Command) (x : Result Event Refusal) (r : Reply) (es : List Event) → event_of s now c ≡ x
     → Adds x r es → Behind (answered r ∷ []) es
 add_behind s now c (Err why) r es is (refused, none) =
@@ -84,7 +84,7 @@ add_behind s now c (Ok e) r es is (inr (refused, registers, none)) =
     subst (λ (t : Reply). Behind (answered t ∷ []) es) (sym refused)
     (subst (λ (fs : List Event). Behind (answered (reply.Refused Memory) ∷ []) fs) (sym none) (says_none (answered (reply.Refused Memory)) refl))
 
--- commands in a row
+-- commands in a batch
 pub row_behind : (now : ℕ) (s : State) (cs : List Command) (rs : List Reply) (es : List Event) → RowAnswered now s cs rs es
     → Behind (map answered rs) es
 row_behind now s [] [] es none = subst (λ (fs : List Event). Behind [] fs) (sym none) nothing
@@ -167,7 +167,7 @@ module _ (book : List Entry) where
   turn_behind turn_end.Disk x did told (inr (inr (end, t, is, ns))) =
       moved told _ did.events _ ns (same_events is) (begun_behind x.at t.polled t.begun)
 
-  -- one that begins nothing
+  -- a turn that begins nothing
   pub finish_behind : (end : TurnEnd) (x : Scene) (did : Effects) (told : List Notice) → IsFinish end x did told
       → Behind (map (noticed_by book) told) did.events
   finish_behind turn_end.Done x did told (ps, _, is, ns) = moved told _ did.events _ ns (same_events is) (results_behind x.at ps)

@@ -15,7 +15,7 @@ use Rattle.exec_client.specs.Behind.{Behind, nothing, says_else, tells, untold}
 use Rattle.exec_client.specs.Said.{Said, answered}
 use Rattle.exec_client.specs.Tells.{ClaimsNothing, Says, TellsCalls}
 
--- what no event backs claims nothing
+-- messages that are backed by no event claim nothing
 claims_none : (ss : List Said) (es : List Event) → es ≡ [] → Behind ss es → ClaimsNothing ss
 claims_none _ _ same nothing = tt
 claims_none _ _ same (untold e ss es b) = absurd cc
@@ -36,7 +36,7 @@ module _ {D : Type 0} (look : D → View) where
   one_tells x y e d said does says =
       ([], said, [], y, d, no_effects, tt, does, says, (refl, refl, tt), sym (followed_by_none d), sym (append-nil said))
 
-  -- what claims nothing, and then calls
+  -- messages that claim nothing, and then calls
   aside_tells : (x z : Sight D) (es : List Exchange) (d : Effects) (ss ts : List Said) → ClaimsNothing ss → TellsCalls look x es z d ts
       → TellsCalls look x es z d (ss ++ ts)
   aside_tells x z [] d ss ts none (same, nil, plain) = (same, nil, both_nothing ss ts none plain)
@@ -77,7 +77,7 @@ module _ {D : Type 0} (look : D → View) where
         ∙ ap (λ (us : List Said). aside ++ us) (append_assoc mine later ts),
   )
 
-  -- commands that were taken at one moment
+  -- commands that were carried out at one moment
   says_at : (now : ℕ) (e : Exchange) (y : Sight D) → IsAt now e → Says e y (map answered (replies_of e))
   says_at now (Took (input.Request at (asked.Command c)) r) y is = refl
   says_at now (Took (input.Request at (asked.Question q)) r) y is = absurd is

@@ -1,4 +1,4 @@
--- Examples: what is sent too often, too early or not at all is refused by the definitions.
+-- Examples: the definitions refuse messages that are sent too often, too early or not at all.
 use Rattle.std.proofs.Common.{ℕ, true≢false, List, [], ◌∷◌, ◌++◌, ap, length, length-append, arith}
 use Rattle.ocf_types.specs.Kinds.{Event, Reply, Request}
 use Rattle.ocf_types.specs.declared.reply.ReplyOf.TheVariants.{Done}

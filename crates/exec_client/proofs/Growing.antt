@@ -1,4 +1,4 @@
--- What each call of an executor does, and what may be sent of it then.
+-- What each call of an executor does, and what may then be sent of it.
 use Rattle.std.proofs.Common.{◌≡◌, ◌↔◌, ℕ, Bool, true, false, List, [], ◌∷◌, ◌++◌, map, Result, Ok, Err, refl, sym, ap, subst, ◌∙◌}
 use Rattle.std.proofs.lemmas.List.{append-nil, map-append}
 use Rattle.std.specs.List.{AllByRecursion, flat_map}
@@ -43,7 +43,7 @@ refused_behind : (r : Reply) (why : Refusal) → r ≡ reply.Refused why → Beh
 refused_behind r why is =
     subst (λ (t : Reply). Behind (answered t ∷ []) []) (sym is) (says_none (answered (reply.Refused why)) refl)
 
--- events that are these
+-- events that are equal to these
 events_are : (ss : List Said) (d e : Effects) → d ≡ e → Behind ss e.events → Behind ss d.events
 events_are ss d e same behind = subst (λ (f : Effects). Behind ss f.events) (sym same) behind
 
@@ -111,7 +111,7 @@ module _ {D : Type 0} (look : D → View) where
       let (d, takes, behind) = while_taken x.is_open now request x y r serves closes in
       one_stands x y (Took (input.Request now request) r) d (answered r ∷ []) takes refl behind
 
-  -- commands in a row
+  -- commands in a batch
   row_stands : (now : ℕ) (cs : List Command) (x y : Sight D) (rs : List Reply) (d : Effects) → TakesRow look now cs x y rs d
       → Behind (map answered rs) d.events
   row_stands now cs x y rs d takes = by y.is_open refl
@@ -127,7 +127,7 @@ module _ {D : Type 0} (look : D → View) where
       by true is = told_so true is (row_behind now x.state cs takes.takes.meant takes.takes.events takes.takes.answered)
       by false is = told_so false is (failed_behind takes.takes.meant)
 
-  -- one of the calls that commands are taken by
+  -- one of the calls by which commands are carried out
   taken_behind : (b : Bool) (at : ℕ) (c : Command) (x y : Sight D) (r : Reply) (d : Effects)
       → TakesWhile b look (input.Request at (asked.Command c)) x y r d → Behind (answered r ∷ []) d.events
   taken_behind true at c x y r d takes =
@@ -168,7 +168,7 @@ module _ {D : Type 0} (look : D → View) where
             (calls_told now takes.exchanges x y takes.effects takes.at_once takes.calls);
       }
 
-  -- a turn, one that begins nothing, a tidy, and an emptied book
+  -- a turn, a turn that begins nothing, a tidy, and an emptied book
   pub turn_stands : (now : ℕ) (x y : Sight D) (end : TurnEnd) → x.is_open ≡ true → TakesTurn look now x y end
       → StandsBehind look x y (noticed y)
   turn_stands now x y end is_open takes =
@@ -192,7 +192,7 @@ module _ {D : Type 0} (look : D → View) where
   pub cleared_stands : (x y : Sight D) → y ≡ with_empty_book x → StandsBehind look x y []
   cleared_stands x y cleared = one_stands x y Cleared no_effects [] (cleared, refl) refl nothing
 
-  -- what may be sent now, of an executor that went on by calls
+  -- what may be sent of an executor after calls
   pub may_tell : (heard : Heard D) (x y : Sight D) (what : Told) → AllStand look heard x → StandsBehind look x y (said_in what)
       → MaySay y what → MayTell look heard y what
   may_tell heard x y what stands more says =
@@ -202,17 +202,17 @@ module _ {D : Type 0} (look : D → View) where
   pub all_still_stand : (heard : Heard D) (x y : Sight D) → AllStand look heard x → StandsBehind look x y [] → AllStand look heard y
   all_still_stand heard x y stands more = still_stand heard.opened x y heard.told stands more
 
-  -- a reply to a line, of an executor that went on by calls
+  -- a reply to a line, of an executor after calls
   pub may_reply : (heard : Heard D) (x y : Sight D) (given : LineReply) → AllStand look heard x
       → StandsBehind look x y (Answered given ∷ []) → MayReply y given → MayBeReplied look heard y given
   may_reply heard x y given stands more says = (both_stand heard.opened x y heard.told (Answered given ∷ []) stands more, says)
 
-  -- one that says nothing of what is recorded
+  -- a reply that claims nothing
   pub may_reply_none : (heard : Heard D) (x : Sight D) (given : LineReply) → AllStand look heard x → claims (Answered given) ≡ false
       → MayReply x given → MayBeReplied look heard x given
   may_reply_none heard x given stands none says =
       may_reply heard x x given stands (none_stands x x (Answered given ∷ []) refl (says_none (Answered given) none)) says
 
-  -- all children are given up
+  -- all agent processes are given up
   pub abandoned_stands : (x y : Sight D) → y ≡ abandoned x → StandsBehind look x y []
   abandoned_stands x y given_up = one_stands x y Abandoned no_effects [] (given_up, refl) refl nothing

@@ -1,4 +1,4 @@
--- The lines of what is sent.
+-- The lines of messages.
 use Rattle.std.proofs.Common.{◌≡◌, ℕ, ◌+◌, ◌<◌, ◌≤◌, ◌∙◌, List, [], ◌∷◌, ◌++◌, map, drop, get_or, length, Option, None, Result, OnErr, OnOk, refl, sym, ap, subst}
 use Rattle.std.specs.Io.KnownBytes.{Appends}
 use Rattle.std.specs.List.{flat_map}
@@ -15,7 +15,7 @@ use Rattle.exec_client.specs.Tags.{TagsView, after_notice, after_reply, first_ta
 use Rattle.exec_client.specs.ToldTags.{after_notices, after_replies, notice_tags}
 use Rattle.exec_client.proofs.Along.{Along, along_all, along_more, along_part, drop_next, drop_none}
 
--- bytes that are the same
+-- bytes that are equal
 pub appends_same : (a b : Option (List ℕ)) (l m : List ℕ) → l ≡ m → Appends a b l → Appends a b m
 appends_same a b l m same written = subst (λ (t : List ℕ). Appends a b t) same written
 
@@ -34,7 +34,7 @@ pub report_lines : (form : NoticeForm) (ns : List Notice) → lines_of form [] (
 report_lines form [] = refl
 report_lines form (n ∷ ns) = ap (λ (l : List ℕ). formed_line form None None n ++ l) (report_lines form ns)
 
--- a reply takes no line away
+-- a reply removes no line that waits
 reply_lines : (r : Reply) (v : TagsView) → (after_reply r v).lines ≡ v.lines
 reply_lines (reply.Refused why) v = refl
 reply_lines reply.Done v = refl
@@ -49,12 +49,12 @@ module _ (form : NoticeForm) where
   abbrev pub reply_rest : TagsView → List Reply → List ℕ
   reply_rest v rs = lines_of form v.lines (map answered rs)
 
-  -- of all replies the first ones are sent, and those from this index on are left
+  -- the first replies are sent, and those from this index on are left
   pub record Answers (was now : TagsView) (rs : List Reply) (i : ℕ) (old new : Option (List ℕ)) : Type 0 where
     pub lines : Along (reply_rest was rs) (reply_rest now (drop i rs)) old new
     pub kept : after_replies rs was ≡ after_replies (drop i rs) now
 
-  -- the next one, and what is left then
+  -- the next reply, and what is then left
   next_rest : (v : TagsView) (rs : List Reply) (i : ℕ) (r : Reply) → drop i rs ≡ r ∷ drop (i + 1) rs
       → reply_rest v (drop i rs)
       ≡ line_of form (first_tag v.lines) (answered r) ++ reply_rest (after_reply r (next_line v)) (drop (i + 1) rs)
@@ -98,7 +98,7 @@ module _ (form : NoticeForm) where
       pub lines : Along (notice_rest was ns) (notice_rest now (drop i ns)) old new
       pub kept : after_notices ns was ≡ after_notices (drop i ns) now
 
-    -- the line of the next one
+    -- the line of the next notice
     abbrev pub notice_line : TagsView → Notice → List ℕ
     notice_line v n = line_of form (tag_of_call n.result.call v.calls) (noticed_by book n)
 

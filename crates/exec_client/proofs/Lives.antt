@@ -1,4 +1,4 @@
--- What was sent over a life is recorded.
+-- What was sent over a history of incarnations is recorded.
 use Rattle.std.proofs.Common.{◌≡◌, inl, inr, List, [], ◌∷◌, ◌++◌, refl, sym, subst}
 use Rattle.ocf_types.specs.Kinds.{Event}
 use Rattle.ocf_types.specs.State.{State}
@@ -8,7 +8,7 @@ use Rattle.exec_client.specs.Lives.{ToldOver}
 use Rattle.exec_client.specs.Said.{Said}
 use Rattle.exec_client.proofs.Behinds.{behind_after, behind_more, both_behind}
 
--- by what they are
+-- by the equality of their arguments
 by_lists : (ss ts : List Said) (es fs : List Event) → ss ≡ ts → es ≡ fs → Behind ts fs → Behind ss es
 by_lists ss ts es fs same same2 b =
     subst (λ (ns : List Said). Behind ns es) (sym same) (subst (λ (gs : List Event). Behind ts gs) (sym same2) b)

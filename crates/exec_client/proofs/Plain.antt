@@ -1,4 +1,4 @@
--- The replies to commands say nothing of what the state holds.
+-- Replies to commands report nothing of the state.
 use Rattle.std.proofs.Common.{◌≡◌, inl, inr, ℕ, zero, suc, Bool, true, false, List, [], ◌∷◌, ◌++◌, Result, Ok, Err, sym, subst}
 use Rattle.std.specs.Prelude.{replicate}
 use Rattle.std.specs.List.{AllByRecursion, flat_map}
@@ -47,7 +47,7 @@ module _ {D : Type 0} (z : Sight D) where
   ack_plain (change.Step id (step.Result run end)) = tt
   ack_plain (change.Step id (step.Withdraw call)) = tt
 
-  -- a command's
+  -- the reply to a command
   pub reply_plain : (e : Event) (r : Reply) → IsReplyTo e r → Plain r
   reply_plain e r (inl is) = is_plain r (acknowledged e.change) is (ack_plain e.change)
   reply_plain e r (inr (inl is)) = is_plain r _ is tt
@@ -58,7 +58,7 @@ module _ {D : Type 0} (z : Sight D) where
   obeys_plain look x y r (Err why) (refused, same) = is_plain r _ refused tt
   obeys_plain look x y r (Ok e) records = reply_plain e r records.told
 
-  -- those of a row
+  -- the replies to a batch
   adds_plain : (found : Result Event Refusal) (r : Reply) (es : List Event) → Adds found r es → Plain r
   adds_plain (Err why) r es (refused, none) = is_plain r _ refused tt
   adds_plain (Ok e) r es (inl (told, one)) = is_plain r _ told (ack_plain e.change)

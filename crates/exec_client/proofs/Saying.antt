@@ -1,4 +1,4 @@
--- What may be said.
+-- Which answers may be sent.
 use Rattle.std.proofs.Common.{◌≡◌, ◌⊎◌, inl, inr, true, false, Option, None, Some, refl, sym, ap, subst, ◌∙◌}
 use Rattle.std.specs.Option.{option_map_or}
 use Rattle.ocf_types.specs.Answer.{info_of, reply_to}
@@ -15,7 +15,7 @@ use Rattle.exec_client.specs.Behind.{claims}
 use Rattle.exec_client.specs.MayTell.{MayAnswer}
 use Rattle.exec_client.specs.Said.{answered}
 
--- an answer to a question, or want of memory
+-- an answer to a question, or memory was refused
 is_or_memory : (r given : Reply) → IsReplyOrMemory r given → (given ≡ r) ⊎ (given ≡ reply.Refused Memory)
 is_or_memory (reply.Refused why) given is = inl is
 is_or_memory reply.Done given is = is
@@ -25,13 +25,13 @@ is_or_memory (reply.Info info) given is = is
 is_or_memory (reply.History results) given is = is
 is_or_memory (reply.Turn end) given is = is
 
--- what is said of a resource, or that there is none
+-- an answer about a resource, or that there is none
 said_none : (o : Option Resource) (say : Resource → Reply) → ((r : Resource) → claims (answered (say r)) ≡ false)
     → claims (answered (option_map_or say o (reply.Refused UnknownResource))) ≡ false
 said_none None say none = refl
 said_none (Some r) say none = none r
 
--- an answer says of nothing that it is recorded
+-- an answer claims nothing
 answer_none : (s : State) (q : Question) → claims (answered (reply_to s q)) ≡ false
 answer_none s question.List = refl
 answer_none s (question.Info id) = said_none (resource_at s id) (λ r. reply.Info (info_of id r)) (λ r. refl)

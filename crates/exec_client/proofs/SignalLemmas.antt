@@ -1,4 +1,4 @@
--- A signal that is named of a run is that of a poll of it.
+-- The signal that is named for a run is that of a poll of this run.
 use Rattle.std.proofs.Common.{◌≡◌, ◌⊎◌, inl, inr, ℕ, zero, suc, ◌&&◌, Bool, true, false, List, [], ◌∷◌, Option, Some, None, true≢false, refl, sym, ap, ◌∙◌, arith}
 use Rattle.std.specs.Prelude.{◌==◌, Contains, is_some, option_map, unwrap_or}
 use Rattle.std.specs.List.{find}
@@ -66,7 +66,7 @@ some_there : (o : Option ℕ) → is_some o ≡ true → (n : ℕ) × (o ≡ Som
 some_there None e = absurd (true≢false (sym e))
 some_there (Some n) e = (n, refl)
 
--- a signal is named of a run of which a poll says that a signal ended it
+-- a signal is named for each run of which a poll says that a signal ended it
 pub polled_is_told : (book : List Entry) (run at signal : ℕ) → Contains book (signaled run at signal)
     → (n : ℕ) × (signal_of book run ≡ Some n)
 polled_is_told [] run at signal there = absurd (omega (arith, there.1))

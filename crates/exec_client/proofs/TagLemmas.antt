@@ -1,4 +1,4 @@
--- Tags, as they are kept.
+-- How tags are stored.
 use Rattle.std.proofs.Common.{◌≡◌, ℕ, zero, suc, ◌+◌, ◌-◌, ◌<◌, ◌==◌, Bool, true, false, cond, List, [], ◌∷◌, ◌++◌, drop, get_or, length, map, filter, Some, None, refl, sym, ap, subst, ◌∙◌, arith, length-append}
 use Rattle.std.specs.Prelude.{replicate}
 use Rattle.std.specs.List.{find}
@@ -13,7 +13,7 @@ through_cond : {A B : Type 0} (f : A → B) (b : Bool) (x y : A) → f (cond b x
 through_cond f true x y = refl
 through_cond f false x y = refl
 
--- a filter of images
+-- a filter of a mapped list
 pub filter-map : {A B : Type 0} (f : A → B) (test : B → Bool) (xs : List A) → filter test (map f xs) ≡ map f (filter (λ x. test (f x)) xs)
 filter-map f test [] = refl
 filter-map f test (x ∷ xs) =
@@ -29,7 +29,7 @@ tag_found call (k ∷ ks) =
     ∙ ap (λ o. cond (k.call == call) (Some k.tag) o) (tag_found call ks)
     ∙ sym (through_cond (option_map (λ c. c.1)) (k.call == call) (Some (call_tag k)) (find (λ c. c.0 == call) (map call_tag ks)))
 
--- the newest calls, with one more
+-- the newest calls, after one more
 pub call_added : (calls : List KeptCall) (k : KeptCall)
     → map call_tag (drop (length calls + 1 - call_limit) (calls ++ k ∷ [])) ≡ with_call k.call (Some k.tag) (map call_tag calls)
 call_added calls k =
@@ -41,7 +41,7 @@ call_added calls k =
     ∙ ap (λ cs. drop (length calls + 1 - call_limit) cs) all
     ∙ ap (λ (n : ℕ). drop (n - call_limit) (map call_tag calls ++ call_tag k ∷ [])) (sym long)
 
--- where lines without a tag wait first, the oldest has none
+-- if lines without a tag wait first, the oldest has none
 untagged_front : (n : ℕ) (a b c : List LineTag) → 0 < n → None ≡ first_tag (((replicate n None ++ a) ++ b) ++ c)
 untagged_front zero a b c lt = absurd (omega (arith, lt))
 untagged_front (suc n) a b c lt = refl

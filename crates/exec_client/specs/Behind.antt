@@ -7,20 +7,20 @@ use Rattle.executor.specs.Promise.{IsOfResult}
 use Rattle.exec_commands.specs.declared.reply.LineReply.TheVariants.{Request}
 use Rattle.exec_client.specs.Said.{Said, Answered, Noticed}
 
--- it says that something is recorded: an acknowledgement of a command, or a notice of a result
+-- a message claims that something is recorded: it acknowledges a command, or is the notice of a result
 abbrev pub claims : Said → Bool
 claims (Answered (Request Done)) = true
 claims (Answered (Request (Accepted call key))) = true
 claims (Noticed notice signal) = true
 claims _ = false
 
--- it says that this event is recorded: a command's, which it acknowledges, or a result
+-- a message claims that this event is recorded: the event of the command that it acknowledges, or its result
 abbrev pub TellsOf : Said → Event → Type 0
 TellsOf (Answered (Request reply)) e = KeepsRunning e.change × (reply ≡ acknowledged e.change)
 TellsOf (Noticed notice signal) e = IsOfResult notice e
 TellsOf _ e = ⊥
 
--- Whatever is sent and says that something is recorded says it of one of these events: each of a different one, in their order.
+-- These messages are backed by these events: each message that claims something has an event of its own, in the same order.
 pub data Behind : List Said → List Event → Type 0 where
   nothing : Behind [] []
   untold : (e : Event) (ss : List Said) (es : List Event) → Behind ss es → Behind ss (e ∷ es)

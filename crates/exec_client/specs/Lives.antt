@@ -1,11 +1,11 @@
--- What clients were sent over a whole life.
+-- What clients were sent over a history of incarnations.
 use Rattle.std.specs.Prelude.{◌≡◌, List, [], ◌∷◌, ◌++◌}
 use Rattle.executor.specs.Lives.{InOpening, InService, Sitting}
 use Rattle.exec_client.specs.Behind.{Behind}
 use Rattle.exec_client.specs.Said.{Said}
 
--- this was sent over these incarnations, the last one first: in each of them what is backed by what its calls had recorded
--- when they returned
+-- these messages were sent over these incarnations, the last one first: in each incarnation the messages are backed by what its calls had
+-- recorded when they returned
 abbrev pub ToldOver : {D : Type 0} → List (Sitting D) → List Said → Type 0
 ToldOver [] told = told ≡ []
 ToldOver (InOpening old new now end ∷ older) told = ToldOver older told

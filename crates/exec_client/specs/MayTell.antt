@@ -14,7 +14,7 @@ use Rattle.exec_commands.specs.Replies.{statuses_in}
 use Rattle.exec_commands.specs.declared.reply.LineReply.{LineReply}
 use Rattle.exec_commands.specs.declared.reply.LineReply.TheVariants as line
 use Rattle.exec_commands.specs.declared.service.Counts.{Counts}
-use Rattle.exec_output.specs.StatusLines.{statuses_of}
+use Rattle.resource_status.specs.Statuses.{statuses_of}
 use Rattle.exec_client.specs.Behind.{Behind}
 use Rattle.exec_client.specs.Heard.{Heard}
 use Rattle.exec_client.specs.Said.{Answered, Said, said_in}
@@ -22,8 +22,8 @@ use Rattle.exec_client.specs.Tells.{TellsCalls}
 use Rattle.exec_client.specs.declared.told.Told.{Told}
 use Rattle.exec_client.specs.declared.told.Told.TheVariants as told
 
--- Calls lead from one view of an executor to another; what was sent is just what they answered, none left out; and what they
--- recorded backs it.
+-- Calls lead from one view of an executor to another. The messages are exactly what these calls answered, with nothing left out, and the
+-- events that the calls recorded back them.
 pub record StandsBehind {D : Type 0} (look : D → View) (old new : Sight D) (said : List Said) : Type 0 where
   pub calls : List Exchange
   pub effects : Effects
@@ -31,35 +31,35 @@ pub record StandsBehind {D : Type 0} (look : D → View) (old new : Sight D) (sa
   pub tells : TellsCalls look old calls new effects said
   pub behind : Behind said effects.events
 
--- it is what an open executor answers to some question, from its state
+-- the reply is what an open executor answers to some question, from its state
 abbrev pub IsAnswer : {D : Type 0} → Sight D → Reply → Type 0
 IsAnswer x given = (x.is_open ≡ true) × (question : Question) × (given ≡ reply_to x.state question)
 
--- what a reply has to be that says what the state holds
+-- a reply may be sent: if it reports on the state, it is the answer from that state
 abbrev pub MayAnswer : {D : Type 0} → Sight D → Reply → Type 0
 MayAnswer x (reply.List ids) = IsAnswer x (reply.List ids)
 MayAnswer x (reply.Info info) = IsAnswer x (reply.Info info)
 MayAnswer x (reply.History results) = IsAnswer x (reply.History results)
 MayAnswer x _ = ⊤
 
--- the resources of this executor are so many, and so many results its opening reported as interrupted and as dropped
+-- these are the numbers of the executor's resources, and of the results that its opening reported as interrupted and as dropped
 abbrev pub IsCounted : {D : Type 0} → Sight D → Counts → Type 0
 IsCounted x counts =
     (counts.resources ≡ length x.state.resources) × (counts.interrupted ≡ length x.reported.interrupted)
     × (counts.dropped ≡ length x.reported.dropped)
 
--- the same of the reply to a line: how all resources are is said from the state, too
+-- a reply to a line may be sent: the status of all resources is that of the state, too
 abbrev pub MayReply : {D : Type 0} → Sight D → LineReply → Type 0
 MayReply x (line.Request given) = MayAnswer x given
 MayReply x (line.Status statuses) = (x.is_open ≡ true) × (statuses_in statuses ≡ statuses_of x.state)
 MayReply x (line.Ready counts) = IsCounted x counts
 MayReply x _ = ⊤
 
--- the opening of this executor reported these as interrupted, or as dropped
+-- the opening of this executor reported these notices as interrupted, or as dropped
 abbrev pub IsReported : {D : Type 0} → Sight D → List Notice → Type 0
 IsReported x notices = (notices ≡ x.reported.interrupted) ⊎ (notices ≡ x.reported.dropped)
 
--- answers are from the state at which the executor is settled, a report is that of its opening
+-- a message may be sent by its content: answers are from the settled state, and a report is that of the opening
 abbrev pub MaySay : {D : Type 0} → Sight D → Told → Type 0
 MaySay x (told.Reply given) = MayReply x given.now
 MaySay x (told.News given) = MayReply x given.now
@@ -67,15 +67,15 @@ MaySay x (told.Replies given) = AllByRecursion (MayAnswer x) given.now
 MaySay x (told.Notices turn) = ⊤
 MaySay x (told.Report notices) = IsReported x notices.now
 
--- all that was sent is backed by what the executor recorded since it was opened
+-- all messages that were sent are backed by what the executor recorded since it was opened
 abbrev pub AllStand : {D : Type 0} → (D → View) → Heard D → Sight D → Type 0
 AllStand look heard x = StandsBehind look heard.opened x heard.told
 
--- This may be sent to a client of an executor in this view: all that was sent is recorded, and so is this.
+-- This message may be sent to a client of an executor in this view: all that was sent is recorded, and so is this message.
 pub record MayTell {D : Type 0} (look : D → View) (heard : Heard D) (x : Sight D) (what : Told) : Type 0 where
   pub stands : StandsBehind look heard.opened x (heard.told ++ said_in what)
   pub says : MaySay x what
 
--- the same of a reply to a line
+-- this reply to a line may be sent
 abbrev pub MayBeReplied : {D : Type 0} → (D → View) → Heard D → Sight D → LineReply → Type 0
 MayBeReplied look heard x given = StandsBehind look heard.opened x (heard.told ++ Answered given ∷ []) × MayReply x given

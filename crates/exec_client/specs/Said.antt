@@ -12,7 +12,7 @@ use Rattle.exec_client.specs.Tags.{LineTag, first_tag}
 use Rattle.exec_client.specs.declared.told.Told.{Told}
 use Rattle.exec_client.specs.declared.told.Told.TheVariants as told
 
--- the reply to a line or news of another kind, a notice of a turn with the signal that ended its run, where one did, or a line of what the opening reports
+-- a reply to a line or other news; a notice of a turn, with the signal that ended its run, if one did; or a line of the opening's report
 pub data Said : Type 0 where
   Answered : LineReply → Said
   Noticed : Notice → Option ℕ → Said
@@ -22,11 +22,11 @@ pub data Said : Type 0 where
 abbrev pub answered : Reply → Said
 answered reply = Answered (Request reply)
 
--- a notice of a turn, by the end of which children had answered so: the signal is that of its run
+-- a notice of a turn, with the signal that ended its run according to this book of answers
 abbrev pub noticed_by : List Entry → Notice → Said
 noticed_by book notice = Noticed notice (signal_of book notice.result.run)
 
--- all that is sent at once, in its order
+-- the lines of a message, in order
 abbrev pub said_in : Told → List Said
 said_in (told.Reply reply) = Answered reply.now ∷ []
 said_in (told.News reply) = Answered reply.now ∷ []
@@ -34,13 +34,13 @@ said_in (told.Replies replies) = map answered replies.now
 said_in (told.Notices turn) = map (noticed_by turn.book.now) turn.notices.now
 said_in (told.Report notices) = map Reported notices.now
 
--- the line that says it in a run whose notices have this form, with this tag
+-- the bytes of a line in a session whose notices have this form, with this tag
 abbrev pub line_of : NoticeForm → LineTag → Said → List ℕ
 line_of form tag (Answered reply) = told_reply_line form tag reply
 line_of form tag (Noticed notice signal) = formed_line form tag signal notice
 line_of form tag (Reported notice) = formed_line form tag None notice
 
--- the lines that say these, the first with the first of these tags and so on; where there are fewer tags, the others have none
+-- the bytes of lines, the first with the first of these tags and so on; if there are fewer tags, the other lines have none
 abbrev pub lines_of : NoticeForm → List LineTag → List Said → List ℕ
 lines_of form tags [] = []
 lines_of form tags (s ∷ ss) = line_of form (first_tag tags) s ++ lines_of form (drop 1 tags) ss

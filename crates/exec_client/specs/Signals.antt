@@ -1,4 +1,4 @@
--- With which signal a run ended, by what its children answered.
+-- The signal that ended a run, by the answers of its agent process.
 use Rattle.std.specs.Prelude.{ℕ, ◌==◌, ◌&&◌, Bool, List, Option, Some, None, is_some, option_map}
 use Rattle.std.specs.List.{find}
 use Rattle.std.specs.Option.{option_map_or}
@@ -7,19 +7,19 @@ use Rattle.child_model.specs.declared.answer.Answer.TheVariants as asked
 use Rattle.child_model.specs.declared.answer.Entry.{Entry}
 use Rattle.child_model.specs.declared.answer.Poll.TheVariants as poll
 
--- the number of the signal, as signal(7) numbers them, where the answer is that of a poll which says that one ended the run
+-- the number of the signal, as in signal(7), if the answer is that of a poll which says that a signal ended the run
 abbrev pub signal_in : Answer → Option ℕ
 signal_in (asked.Poll (poll.Signaled signal)) = Some signal
 signal_in _ = None
 
--- it says so of this run
+-- the entry says that a signal ended this run
 abbrev pub tells_signal : ℕ → Entry → Bool
 tells_signal run e = e.run == run && is_some (signal_in e.answer)
 
--- the answer that says so, where one does
+-- the answer that says that a signal ended this run, if there is one
 abbrev pub ending_answer : List Entry → ℕ → Option Answer
 ending_answer book run = option_map (λ e. e.answer) (find (tells_signal run) book)
 
--- the signal that ended a run by these answers, where one did; a run is polled until it has ended, so one answer says it at most
+-- the signal that ended a run by these answers, if one did; a run is polled until it has ended, so at most one answer says so
 abbrev pub signal_of : List Entry → ℕ → Option ℕ
 signal_of book run = option_map_or signal_in (ending_answer book run) None

@@ -1,4 +1,4 @@
--- The tags of lines that were read and not answered, and of the calls that were given to them.
+-- The tags of lines that wait for a reply, and of the calls that lines were given.
 use Rattle.std.specs.Prelude.{ℕ, ◌-◌, ◌==◌, not, List, [], ◌∷◌, ◌++◌, length, drop, filter, if◌then◌else◌, Option, Some, None, option_map}
 use Rattle.std.specs.List.{find}
 use Rattle.ocf_types.specs.Kinds.{Reply}
@@ -7,7 +7,7 @@ use Rattle.ocf_types.specs.declared.reply.ReplyOf.TheVariants as reply
 use Rattle.exec_commands.specs.declared.reply.LineReply.{LineReply}
 use Rattle.exec_commands.specs.declared.reply.LineReply.TheVariants.{Request}
 
--- the tag of a line, where it has one
+-- the tag of a line, if it has one
 abbrev pub LineTag : Type 0
 LineTag = Option (List ℕ)
 
@@ -15,8 +15,8 @@ LineTag = Option (List ℕ)
 abbrev pub CallTag : Type 0
 CallTag = ℕ × List ℕ
 
--- Of each line that waits for its reply its tag, the oldest first; the tag of the line that is answered; and calls with their tags,
--- the oldest first.
+-- The tags of the lines that wait for a reply, oldest first; the tag of the line that is being answered; and calls with their tags, oldest
+-- first.
 pub record TagsView : Type 0 where
   pub lines : List LineTag
   pub given : LineTag
@@ -26,20 +26,20 @@ pub record TagsView : Type 0 where
 abbrev pub no_tags : TagsView
 no_tags = record { lines = []; given = None; calls = [] }
 
--- one line more was read
+-- one more line was read
 abbrev pub with_line : LineTag → TagsView → TagsView
 with_line tag v = record { lines = v.lines ++ tag ∷ []; given = v.given; calls = v.calls }
 
--- the tag of the oldest line: none where no line waits
+-- the tag of the oldest line, or `None` if no line waits
 abbrev pub first_tag : List LineTag → LineTag
 first_tag [] = None
 first_tag (tag ∷ tags) = tag
 
--- the oldest line is answered
+-- the oldest line is being answered
 abbrev pub next_line : TagsView → TagsView
 next_line v = record { lines = drop 1 v.lines; given = first_tag v.lines; calls = v.calls }
 
--- as many calls as are kept at most
+-- the greatest number of calls whose tags are kept
 abbrev pub call_limit : ℕ
 call_limit = 16384
 
@@ -47,12 +47,12 @@ call_limit = 16384
 abbrev pub newest : List CallTag → List CallTag
 newest calls = drop (length calls - call_limit) calls
 
--- these calls and one that was given to a line of this tag; the same where that has none
+-- these calls and one that was given to a line with this tag; the same calls if the line has none
 abbrev pub with_call : ℕ → LineTag → List CallTag → List CallTag
 with_call call None calls = calls
 with_call call (Some tag) calls = newest (calls ++ (call, tag) ∷ [])
 
--- the line that is answered was given this call
+-- the line that is being answered was given this call
 abbrev pub kept : ℕ → TagsView → TagsView
 kept call v = record { lines = v.lines; given = None; calls = with_call call v.given v.calls }
 
@@ -66,14 +66,14 @@ abbrev pub after_line_reply : LineReply → TagsView → TagsView
 after_line_reply (Request reply) v = after_reply reply v
 after_line_reply _ v = v
 
--- the tag of a call, where it is kept
+-- the tag of a call, if one is kept
 abbrev pub tag_of_call : ℕ → List CallTag → LineTag
 tag_of_call call calls = option_map (λ c. c.1) (find (λ c. c.0 == call) calls)
 
--- nothing is kept of this call
+-- this call is forgotten
 abbrev pub forgotten : ℕ → TagsView → TagsView
 forgotten call v = record { lines = v.lines; given = v.given; calls = filter (λ c. not (c.0 == call)) v.calls }
 
--- a notice was sent: that of a one-time action is the last of its call
+-- a notice was sent: the notice of a one-time action is the last of its call
 abbrev pub after_notice : Notice → TagsView → TagsView
 after_notice n v = if n.result.interval == 0 then forgotten n.result.call v else v

@@ -6,12 +6,12 @@ use Rattle.exec_client.specs.Tags.{LineTag, TagsView, after_line_reply, after_no
 use Rattle.exec_client.specs.declared.told.Told.{Told}
 use Rattle.exec_client.specs.declared.told.Told.TheVariants as told
 
--- of each notice that of its call
+-- the tags of notices: each has that of its call
 abbrev pub notice_tags : TagsView → List Notice → List LineTag
 notice_tags v [] = []
 notice_tags v (n ∷ ns) = tag_of_call n.result.call v.calls ∷ notice_tags (after_notice n v) ns
 
--- replies have those of the lines that wait, the oldest first; news and a report have none
+-- the tags of a message: replies have those of the lines that wait, oldest first; news and a report have none
 abbrev pub told_tags : TagsView → Told → List LineTag
 told_tags v (told.Reply reply) = v.lines
 told_tags v (told.Replies replies) = v.lines

@@ -1,28 +1,28 @@
-//! A client, which is sent what an executor did.
+//! A client, to which messages about an executor are sent.
 ghost use Rattle.std.specs.Prelude.{◌≡◌, Bool, IfErr, IsTrue, OnErr, OnOk};
 ghost use Rattle.exec_client.specs.Heard.{Heard, Hears, HearsPart, IsTold};
 ghost use Rattle.exec_client.specs.MayTell.{MayTell};
 ghost use Rattle.exec_client.specs.Said.{said_in};
-ghost use Rattle.exec_output.specs.declared.send.IoFault.TheVariants.{Memory};
+ghost use Rattle.exec_messages.specs.declared.send.IoFault.TheVariants.{Memory};
 
 use crate::told::Told;
 use child_model::Children;
 use disk_model::Disk;
 use exec_commands::{NoticeForm, Tag};
-use exec_output::IoFault;
+use exec_messages::IoFault;
 use executor::Executor;
 use std::alloc::AllocError;
 
-/// A client, which is sent what an executor did since it was opened, and is sent it in no other way.
+/// A client of an executor: whatever the executor did since it was opened is sent by this trait alone.
 pub trait Client<D: Disk + Drop, C: Children + Drop> {
-    /// The executor as it was opened, what was sent of it since, and what of that is written.
+    /// The executor as it was opened, the messages that were sent since, and the bytes that are written of them.
     ghost heard: { Self → Heard D };
 
     /// Whether the allocator refuses memory that a message needs.
     ghost refuses: { Bool };
 
-    /// Sends this, once what it says is recorded; notices in this form. After an error a prefix of its lines may have been
-    /// sent, and a part of the next line.
+    /// Sends a message, once what it reports is recorded; notices have this form. On error a prefix of its lines was sent, and maybe a
+    /// prefix of the next line.
     fn tell(
         &mut self,
         executor: &Executor<D, C>,
@@ -37,13 +37,13 @@ pub trait Client<D: Disk + Drop, C: Children + Drop> {
             (HearsPart form.entry (heard self.old) (heard self.new) (said_in what.now)) }
         ensures memory { IfErr result (λ f. f ≡ Memory → IsTrue Self.refuses) };
 
-    /// A line was read that has this tag, or none. Its reply repeats the tag, and so does each notice of the call that it is given.
-    /// Replies answer the lines in the order in which these were noted; where more come, they answer none. Where memory is refused, the
-    /// line counts as one without a tag.
+    /// Notes a line that was read, with its tag if it has one. Its reply repeats the tag, and so does each notice of the call that the line
+    /// is given. Replies answer the lines in the order in which these were noted; a reply beyond the noted lines answers none. If memory is
+    /// refused, the line counts as one without a tag.
     fn note_tag(&mut self, tag: Option<Tag>) -> Result<(), AllocError>
         ensures heard { heard self.new ≡ heard self.old }
         ensures memory { OnErr result (IsTrue Self.refuses) };
 
-    /// Whether anybody may still read what is sent.
+    /// Whether anyone may still read what is sent.
     fn is_heard(&self) -> bool;
 }

@@ -1,4 +1,4 @@
-//! Calls whose tags are kept.
+//! The calls whose tags are kept.
 ghost use Rattle.std.specs.Prelude.{◌≡◌, ◌==◌, ◌++◌, ◌∷◌, [], ◌+◌, ◌-◌, ◌≤◌, drop, length, min, option_map, vec_capacity, vec_len};
 ghost use Rattle.std.specs.List.{find};
 ghost use Rattle.exec_client.specs.Tags.{call_limit};
@@ -6,7 +6,7 @@ ghost use Rattle.exec_client.specs.Tags.{call_limit};
 use exec_commands::Tag;
 use ocf_types::CallId;
 
-/// The most calls whose tags are kept.
+/// The greatest number of calls whose tags are kept.
 pub(crate) const CALL_LIMIT: usize = 16_384;
 
 /// A call, and the tag of the line that it was given to.
@@ -16,14 +16,14 @@ pub(crate) struct KeptCall {
     pub(crate) tag: Tag,
 }
 
-/// The first of these calls that is this one.
+/// The first entry of this call.
 pub(crate) fn find_call(calls: &[KeptCall], call: CallId) -> Option<&KeptCall>
     ensures { option_map (λ kept. kept.now) result ≡ find (λ kept. kept.call == call) calls.now }
 {
     calls.iter().find(|kept| kept.call == call)
 }
 
-/// Adds a call to those that are kept, in place of the oldest one where there are as many as may be.
+/// Adds a call to those that are kept; at the limit it replaces the oldest one.
 pub(crate) fn add_call(calls: &mut Vec<KeptCall>, added: KeptCall)
     requires room { min call_limit (vec_len calls.old + 1) ≤ vec_capacity calls.old }
     requires limit { vec_len calls.old ≤ call_limit }

@@ -1,4 +1,4 @@
-//! The laws of what clients were sent, each the contract of a function that does nothing else.
+//! The laws of what clients were sent, each the contract of a function with an empty body.
 ghost use Rattle.std.specs.Prelude.{◌≡◌, ℕ, List, Some, Contains};
 ghost use Rattle.ocf_types.specs.Kinds.{Event};
 ghost use Rattle.ocf_types.specs.State.{State, after_all};
@@ -19,8 +19,8 @@ ghost use Rattle.exec_client.specs.Signals.{signal_of};
 use disk_model::Disk;
 use executor::laws::promise;
 
-/// The promise, with what clients were sent: of each history of incarnations there is one list of events of which all holds that
-/// `executor::laws::promise` says, and in which each acknowledgement and each notice that a client was sent in any of them has an
+/// The promise, with what clients were sent. Each history of incarnations has one list of events for which all of
+/// `executor::laws::promise` holds. In this list each acknowledgement and each notice that a client was sent in any incarnation has an
 /// event of its own, in the order in which they were sent.
 pub fn told_stands<D: Disk>()
     ensures stands { (start : State) (life : List (Sitting D)) (is : IsLife D.view start life)

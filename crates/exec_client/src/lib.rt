@@ -1,4 +1,4 @@
-//! What a client of an executor is sent, and when: nothing is acknowledged that is not recorded.
+//! What a client of an executor is sent, and when: nothing is acknowledged before it is recorded.
 #![tactic(auto)]
 
 mod client;

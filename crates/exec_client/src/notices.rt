@@ -2,7 +2,7 @@
 ghost use Rattle.std.specs.Prelude.{◌≡◌, IfErr, IsTrue, OnErr, OnOk, map};
 ghost use Rattle.std.specs.Io.KnownBytes.{Appends};
 ghost use Rattle.exec_lines.specs.Fronts.{AppendsFront};
-ghost use Rattle.exec_output.specs.declared.send.IoFault.TheVariants.{Memory};
+ghost use Rattle.exec_messages.specs.declared.send.IoFault.TheVariants.{Memory};
 ghost use Rattle.exec_client.specs.Said.{Noticed, line_of, lines_of, noticed_by};
 ghost use Rattle.exec_client.specs.Signals.{signal_of};
 ghost use Rattle.exec_client.specs.Tags.{after_notice, tag_of_call};
@@ -14,20 +14,20 @@ use crate::tags::Tags;
 use crate::told::TurnNotices;
 use child_model::Entry;
 use exec_commands::Tagged;
-use exec_output::{IoFault, send_notice};
+use exec_messages::{IoFault, send_notice};
 use growth::Grows;
 use ocf_types::Notice;
 use std::alloc::Global;
 use std::io::Write;
 
-// A notice, and the number of the signal that ended its run, where one did.
+// A notice, and the number of the signal that ended its run, if one did.
 #[derive(Clone, Copy)]
 struct Signaled<'a> {
     notice: &'a Notice,
     signal: Option<u8>,
 }
 
-// A notice, and the signal that ended its run by this book.
+// Adds to a notice the signal that ended its run according to this book.
 fn with_signal<'a>(notice: &'a Notice, book: &[Entry]) -> Signaled<'a>
     ensures notice { result.notice.now ≡ notice.now }
     ensures signal { result.signal ≡ signal_of book.now notice.now.result.run }
@@ -38,7 +38,7 @@ fn with_signal<'a>(notice: &'a Notice, book: &[Entry]) -> Signaled<'a>
     }
 }
 
-// Writes the line of a notice, and flushes it. After an error a prefix of it is written.
+// Writes the line of a notice and flushes it. On error a prefix of the line was written.
 fn send_signaled<W: Write>(
     making: &Making,
     writer: &mut W,
@@ -71,7 +71,7 @@ fn send_signaled<W: Write>(
     Ok(())
 }
 
-/// Writes a turn's notices, a line each, and flushes each line. After an error a prefix of the lines is written.
+/// Writes the notices of a turn, a line each, and flushes each line. On error a prefix of the lines was written.
 pub(crate) fn send_turn<W: Write>(
     making: &Making,
     writer: &mut W,

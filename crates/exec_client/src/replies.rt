@@ -1,28 +1,28 @@
-//! Lines that answer lines, each with the tag of its own.
+//! Replies to lines, each with the tag of the line that it answers.
 ghost use Rattle.std.specs.Prelude.{◌≡◌, IfErr, IsTrue, None, OnErr, OnOk, map};
 ghost use Rattle.std.specs.Io.KnownBytes.{Appends};
 ghost use Rattle.exec_lines.specs.Fronts.{AppendsFront};
-ghost use Rattle.exec_output.specs.declared.send.IoFault.TheVariants.{Memory};
+ghost use Rattle.exec_messages.specs.declared.send.IoFault.TheVariants.{Memory};
 ghost use Rattle.exec_client.specs.Said.{Answered, answered, line_of, lines_of};
 ghost use Rattle.exec_client.specs.Tags.{after_line_reply, after_reply, first_tag, next_line};
 ghost use Rattle.exec_client.specs.ToldTags.{after_replies};
 
 use crate::tags::Tags;
 use exec_commands::{LineReply, NoticeForm, Tagged};
-use exec_output::{IoFault, put_reply, send_reply};
+use exec_messages::{IoFault, put_reply, send_reply};
 use growth::Grows;
 use ocf_types::Reply;
 use std::alloc::Global;
 use std::io::Write;
 
-/// How lines are made.
+/// With which allocator and in which form lines are made.
 #[derive(Clone, Copy)]
 pub(crate) struct Making<'a> {
     pub(crate) alloc: Global,
     pub(crate) form: NoticeForm<'a>,
 }
 
-/// Writes the line of a reply to the oldest line that waits, and flushes it. After an error a prefix of it is written.
+/// Writes the reply to the oldest line that waits and flushes it. On error a prefix of the line was written.
 pub(crate) fn send_answer<W: Write>(
     making: &Making,
     writer: &mut W,
@@ -48,7 +48,7 @@ pub(crate) fn send_answer<W: Write>(
     Ok(())
 }
 
-// Writes the line of a reply to the oldest line that waits, which made a request. After an error a prefix of it is written.
+// Writes the reply to the oldest line that waits, which is a request, without a flush. On error a prefix of the line was written.
 fn put_answer<W: Write>(
     making: &Making,
     writer: &mut W,
@@ -74,7 +74,7 @@ fn put_answer<W: Write>(
     Ok(())
 }
 
-// Writes the lines of replies to the oldest lines that wait, which made requests.
+// Writes the replies to the oldest lines that wait, which are requests, without a flush.
 fn put_answers<W: Write>(
     making: &Making,
     writer: &mut W,
@@ -96,8 +96,8 @@ fn put_answers<W: Write>(
     Ok(())
 }
 
-/// Writes the lines of replies to the oldest lines that wait, which made requests, and flushes them together. After an error a prefix
-/// of the lines is written.
+/// Writes the replies to the oldest lines that wait, which are requests, and flushes them together. On error a prefix of the lines was
+/// written.
 pub(crate) fn send_answers<W: Write>(
     making: &Making,
     writer: &mut W,
@@ -118,7 +118,7 @@ pub(crate) fn send_answers<W: Write>(
     Ok(())
 }
 
-/// Writes the line of news, which answer no line, and flushes it. After an error a prefix of it is written.
+/// Writes the line of news, which answers no line, and flushes it. On error a prefix of the line was written.
 pub(crate) fn send_news<W: Write>(
     making: &Making,
     writer: &mut W,

@@ -4,9 +4,9 @@ ghost use Rattle.std.specs.Borrow.{ftrue};
 
 use std::marker::{Model, PhantomData};
 
-/// A value as it was at some time. Contracts read it as `value`.
+/// A value as it was at some moment. Contracts read it as `value`.
 ///
-/// Nothing of it is kept when the program runs. So `of` has no body to speak of, and is proved by hand.
+/// It takes no memory when the program runs. So `of` does nothing then, and is proved by hand.
 #[derive(Drop)]
 pub struct Seen<T> {
     of: PhantomData<T>,

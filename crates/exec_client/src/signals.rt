@@ -1,10 +1,10 @@
-//! With which signal a run ended.
+//! The signal that ended a run.
 ghost use Rattle.std.specs.Prelude.{◌≡◌};
 ghost use Rattle.exec_client.specs.Signals.{ending_answer, signal_in, signal_of, tells_signal};
 
 use child_model::{Answer, Entry, Poll};
 
-// The number of the signal, where the answer says that one ended the run.
+// The number of the signal, if the answer says that one ended the run.
 fn signal_in(answer: Answer) -> Option<u8>
     ensures value { result ≡ signal_in answer }
 {
@@ -21,7 +21,7 @@ fn tells_signal(entry: &Entry, run: u64) -> bool
     entry.run.get() == run && signal_in(entry.answer).is_some()
 }
 
-// The answer that says that a signal ended this run, where one does.
+// The answer that says that a signal ended this run, if there is one.
 fn ending_answer(book: &[Entry], run: u64) -> Option<Answer>
     ensures value { result ≡ ending_answer book.now run }
 {
@@ -29,7 +29,7 @@ fn ending_answer(book: &[Entry], run: u64) -> Option<Answer>
     Some(entry.answer)
 }
 
-/// The number of the signal that ended a run, as signal(7) numbers them, where these answers of children say that one did.
+/// The number of the signal that ended a run, as in signal(7), if one of these answers of agent processes says so.
 pub fn signal_of(book: &[Entry], run: u64) -> Option<u8>
     ensures value { result ≡ signal_of book.now run }
 {

@@ -1,4 +1,4 @@
-//! The tags of lines that were read and not answered, and of the calls that were given to them.
+//! The tags of lines that wait for a reply, and of the calls that lines were given.
 ghost use Rattle.std.specs.Prelude.{◌≡◌, ◌+◌, ◌-◌, ◌<◌, ◌≤◌, ◌^◌, if◌then◌else◌, is_ok, length, min, None, option_map, IsTrue, OnErr, OnOk, vec_capacity, vec_len};
 ghost use Rattle.exec_client.specs.Tags.{after_line_reply, after_notice, after_reply, call_limit, forgotten, kept, next_line, no_tags, tag_of_call, with_line};
 
@@ -10,14 +10,14 @@ use ocf_types::{CallId, Notice, Reply};
 use std::alloc::{AllocError, Global};
 use std::marker::Model;
 
-/// The tags of lines that were read and not answered, and of the calls that were given to them: of 16,384 calls at most, the
-/// newest. Replies answer lines in the order in which these were read. Memory is taken as a line is read, and at no other time.
+/// The tags of lines that wait for a reply, and of the newest 16,384 calls that lines were given. Replies answer lines in the order in
+/// which these were read. Memory is allocated when a line is read, and at no other time.
 #[derive(Drop)]
 pub struct Tags {
     waiting: Vec<Waiting>,
-    // How many lines without a tag were read after those.
+    // The number of lines without a tag that were read after the waiting ones.
     after: u64,
-    // The tag of the line that is answered.
+    // The tag of the line that is being answered.
     given: Option<Tag>,
     calls: Vec<KeptCall>,
 }
@@ -35,7 +35,7 @@ impl Model for Tags {
         × (min call_limit (vec_len t.calls + vec_len t.waiting + count_of t.given) ≤ vec_capacity t.calls) };
 }
 
-// Reserves memory for the tag of one more line, and for the calls that all lines may be given, with that which is answered.
+// Reserves memory for the tag of one more line, and for the calls that all lines may be given, also the one that is being answered.
 fn reserve(waiting: &mut Vec<Waiting>, calls: &mut Vec<KeptCall>) -> Result<(), AllocError>
     ensures waiting { waiting.new.items ≡ waiting.old.items }
     ensures calls { calls.new.items ≡ calls.old.items }
@@ -53,7 +53,7 @@ fn reserve(waiting: &mut Vec<Waiting>, calls: &mut Vec<KeptCall>) -> Result<(), 
 }
 
 impl Tags {
-    /// No line was read. No memory is taken.
+    /// No line was read yet. Allocates nothing.
     pub fn new(alloc: Global) -> Tags
         ensures { result ≡ no_tags }
     {
@@ -65,7 +65,7 @@ impl Tags {
         }
     }
 
-    /// A line was read, with this tag; where a growth is refused, the line has none.
+    /// A line was read, with this tag or with none. If memory is refused, the line counts as one without a tag.
     pub fn note(&mut self, tag: Option<Tag>) -> Result<(), AllocError>
         ensures noted { length self.old.lines < 2 ^ 64 - 1
             → self.new ≡ with_line (if is_ok result then tag else None) self.old }
@@ -86,14 +86,14 @@ impl Tags {
         Ok(())
     }
 
-    /// The oldest line that waits is answered, or none where none waits.
+    /// The oldest line that waits is now being answered, or no line if none waits.
     pub fn next(&mut self)
         ensures { self.new ≡ next_line self.old }
     {
         self.given = take_first(&mut self.waiting, &mut self.after);
     }
 
-    /// The tag of the line that is answered.
+    /// The tag of the line that is being answered.
     pub fn given(&self) -> Option<&str>
         ensures { option_map (λ tag. tag.now) result ≡ self.now.given }
     {
@@ -103,7 +103,7 @@ impl Tags {
         }
     }
 
-    // The line that is answered was given this call.
+    // The line that is being answered was given this call.
     fn keep(&mut self, call: CallId)
         ensures { self.new ≡ kept call self.old }
     {
@@ -113,7 +113,7 @@ impl Tags {
         add_call(&mut self.calls, KeptCall { call, tag });
     }
 
-    /// The line that is answered has this reply: the tag is kept for the call that it was given.
+    /// The line that is being answered has this reply. Its tag is kept for the call that the reply gives, if it gives one.
     pub fn keep_by(&mut self, reply: &Reply)
         ensures { self.new ≡ after_reply reply.now self.old }
     {
@@ -122,7 +122,7 @@ impl Tags {
         }
     }
 
-    /// The line that is answered has this reply.
+    /// The line that is being answered has this reply.
     pub fn keep_by_line(&mut self, reply: &LineReply)
         ensures { self.new ≡ after_line_reply reply.now self.old }
     {
@@ -131,7 +131,7 @@ impl Tags {
         }
     }
 
-    /// The tag of a call, where it is kept.
+    /// The tag of a call, if one is kept.
     pub fn of_call(&self, call: CallId) -> Option<&str>
         ensures { option_map (λ tag. tag.now) result ≡ tag_of_call call self.now.calls }
     {
@@ -148,7 +148,7 @@ impl Tags {
         self.calls.retain(|kept| kept.call != call);
     }
 
-    /// This notice was sent: a call is forgotten with its last one.
+    /// This notice was sent. A call is forgotten with its last notice.
     pub fn forget_by(&mut self, notice: &Notice)
         ensures { self.new ≡ after_notice notice.now self.old }
     {

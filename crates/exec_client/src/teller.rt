@@ -1,8 +1,8 @@
-//! A client over a writer.
+//! A client that writes messages as lines.
 ghost use Rattle.std.specs.Prelude.{◌≡◌, [], IfErr, IsTrue, OnErr, OnOk};
 ghost use Rattle.std.specs.Io.KnownBytes.{Appends};
 ghost use Rattle.exec_lines.specs.Fronts.{AppendsFront};
-ghost use Rattle.exec_output.specs.declared.send.IoFault.TheVariants.{Memory};
+ghost use Rattle.exec_messages.specs.declared.send.IoFault.TheVariants.{Memory};
 ghost use Rattle.exec_client.specs.Heard.{Heard};
 ghost use Rattle.exec_client.specs.Said.{lines_of, said_in};
 ghost use Rattle.exec_client.specs.ToldTags.{after_told, told_tags};
@@ -18,13 +18,13 @@ use child_model::Children;
 use disk_model::Disk;
 use exec_commands::{NoticeForm, Tag};
 use exec_lines::Output;
-use exec_output::{IoFault, send_notices};
+use exec_messages::{IoFault, send_notices};
 use executor::Executor;
 use growth::Grows;
 use std::alloc::{AllocError, Global};
 use std::io::Write;
 
-/// A client of an executor of this type to which lines are written. Nobody else holds the writer.
+/// A client of an executor of this type, which writes messages as lines. It owns the writer.
 #[derive(Drop)]
 pub struct Teller<E, W> {
     alloc: Global,
@@ -34,7 +34,7 @@ pub struct Teller<E, W> {
     tags: Tags,
 }
 
-// Writes the lines of a message, and flushes them. After an error a prefix of them is written.
+// Writes the lines of a message and flushes them. On error a prefix of the lines was written.
 fn write_told<W: Output>(
     making: &Making,
     writer: &mut W,
@@ -60,7 +60,7 @@ fn write_told<W: Output>(
 }
 
 impl<E, W: Output> Teller<E, W> {
-    /// A client of the executor that was just opened, which was sent nothing yet.
+    /// A client of an executor that was just opened. It was sent nothing yet.
     pub fn new(alloc: Global, writer: W, executor: &E) -> Teller<E, W>
         ensures opened { result.opened.value ≡ executor.now }
         ensures told { result.telling.said ≡ [] }

@@ -10,7 +10,7 @@ use std::marker::Model;
 
 /// What was sent, in order.
 ///
-/// Nothing of it is kept when the program runs. So `new` and `with` have no body to speak of, and are proved by hand.
+/// It takes no memory when the program runs. So `new` and `with` do nothing then, and are proved by hand.
 #[derive(Drop)]
 pub struct Telling {
     pub ghost said: { List Said } by { Prim.hlevel (codes, json_value.the_row.coded) },
@@ -30,14 +30,14 @@ impl Telling {
         Telling {}
     }
 
-    // The same, and then this.
+    // The same messages and then this one.
     fn with(&self, what: &Told) -> Telling
         ensures { result.said ≡ self.now.said ++ said_in what.now }
     {
         Telling {}
     }
 
-    /// This is sent next.
+    /// This message is sent next.
     pub fn note(&mut self, what: &Told)
         ensures { self.new.said ≡ self.old.said ++ said_in what.now }
     {

@@ -1,4 +1,4 @@
-//! A message: what a client is sent at once.
+//! Messages: what a client is sent by one call.
 ghost use Rattle.std.specs.Prelude.{◌≡◌};
 ghost use Rattle.exec_client.specs.Said.{said_in};
 ghost use Rattle.exec_client.specs.Tells.{noticed};
@@ -10,8 +10,8 @@ use exec_commands::LineReply;
 use executor::Executor;
 use ocf_types::{Notice, Reply};
 
-/// The notices of a turn, and what the children had answered by its end: the signal that ended a run comes from there, since the
-/// journal records none.
+/// The notices of a turn, and what the agent processes had answered by its end. The signal that ended a run is found there, since the
+/// journal does not record it.
 #[derive(Clone, Copy)]
 pub struct TurnNotices<'a> {
     pub notices: &'a [Notice],
@@ -19,7 +19,7 @@ pub struct TurnNotices<'a> {
 }
 
 impl<'a> TurnNotices<'a> {
-    /// Those of an executor's last turn.
+    /// The notices of the executor's last turn.
     pub fn of_executor<D: Disk + Drop, C: Children + Drop>(
         executor: &'a Executor<D, C>,
     ) -> TurnNotices<'a>
@@ -32,17 +32,17 @@ impl<'a> TurnNotices<'a> {
     }
 }
 
-/// A message: what a client is sent at once.
+/// A message: what a client is sent by one call.
 #[derive(Clone, Copy)]
 pub enum Told<'a> {
     /// The reply to a line.
     Reply(&'a LineReply),
     /// The replies to commands that arrived together.
     Replies(&'a [Reply]),
-    /// A turn's notices.
+    /// The notices of a turn.
     Notices(TurnNotices<'a>),
-    /// What answers no line: how an own turn ended, or that the run is ready.
+    /// A line that answers no line: how a turn of its own ended, or that the session is ready.
     News(&'a LineReply),
-    /// What the opening reports, or a part of that.
+    /// The report of the opening, or a part of it.
     Report(&'a [Notice]),
 }

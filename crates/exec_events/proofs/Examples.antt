@@ -53,6 +53,6 @@ unfolding digits
 timed_out = refl
 
 interrupted : event_line true (of_web action.Start Interrupted 60000)
-    ≡ codes "<4>web: start interrupted: the executor stopped while it ran; it may be done or not\n"
+    ≡ codes "<4>web: start interrupted: the executor ended while it ran; it may be done or not\n"
 unfolding digits
 interrupted = refl

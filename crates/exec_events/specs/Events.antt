@@ -10,10 +10,10 @@ use Rattle.ocf_types.specs.declared.outcome.RunEnd.TheVariants.{Done, TimedOut, 
 use Rattle.ocf_types.specs.declared.reply.Notice.{Notice}
 use Rattle.exec_client.specs.declared.told.Told.{Told}
 use Rattle.exec_client.specs.declared.told.Told.TheVariants as told
-use Rattle.exec_output.specs.Meanings.{failure_meaning, meaning, tone_of}
-use Rattle.exec_output.specs.Texts.{span_text}
-use Rattle.exec_output.specs.declared.meanings.Tone.{Tone}
-use Rattle.exec_output.specs.declared.meanings.Tone.TheVariants.{Bad}
+use Rattle.resource_status.specs.Meanings.{failure_meaning, meaning, tone_of}
+use Rattle.resource_status.specs.Texts.{span_text}
+use Rattle.resource_status.specs.declared.meanings.Tone.{Tone}
+use Rattle.resource_status.specs.declared.meanings.Tone.TheVariants.{Bad}
 
 -- a failure whatever exit code was expected
 abbrev pub is_bad : Tone → Bool

@@ -10,7 +10,7 @@ use disk_model::Disk;
 use exec_client::{Client, Told};
 use exec_commands::{NoticeForm, Tag};
 use exec_lines::write_flushed;
-use exec_output::IoFault;
+use exec_messages::IoFault;
 use executor::Executor;
 use ocf_types::Notice;
 use std::alloc::{AllocError, Global};

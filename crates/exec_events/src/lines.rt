@@ -1,13 +1,13 @@
 //! The line of a result, for a person.
 ghost use Rattle.std.specs.Prelude.{◌≡◌, ◌-◌, ◌++◌, IfOk, IsTrue, OnErr, OnOk};
-ghost use Rattle.exec_output.specs.Meanings.{tone_of};
+ghost use Rattle.resource_status.specs.Meanings.{tone_of};
 ghost use Rattle.exec_events.specs.Events.{code_text, event_line, event_meaning, event_text, is_bad, is_unknown, mark_of, marked, time_text};
 
-use exec_output::{Tone, add_span, failure_meaning, meaning, tone_of};
 use growth::Grows;
 use log_lines::{add_bytes, add_number};
 use ocf_codes::{is_failure, name, read_code};
 use ocf_types::{Action, Notice, Outcome, RunEnd};
+use resource_status::{Tone, add_span, failure_meaning, meaning, tone_of};
 use std::alloc::{AllocError, Global};
 
 // Adds a text.

@@ -6,8 +6,8 @@ use Rattle.disk_model.specs.View.{View}
 use Rattle.exec_journal.specs.Found.{FoundAs}
 use Rattle.exec_journal.specs.Opening.{OpensAt}
 use Rattle.exec_journal.specs.Place.{Place}
-use Rattle.exec_output.specs.declared.fault.Fault.{Fault}
-use Rattle.exec_output.specs.declared.fault.Fault.TheVariants as fault
+use Rattle.exec_faults.specs.declared.fault.Fault.{Fault}
+use Rattle.exec_faults.specs.declared.fault.Fault.TheVariants as fault
 use Rattle.journal_measure.specs.RanOn.{HasCounts}
 use Rattle.journal_measure.specs.Sizes.{IsSize}
 use Rattle.journal_measure.specs.declared.measuring.Size.{Size}

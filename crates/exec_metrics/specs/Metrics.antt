@@ -5,8 +5,8 @@ use Rattle.std.specs.Io.KnownBytes.{Appends}
 use Rattle.ocf_types.specs.State.{State}
 use Rattle.disk_model.specs.Image.{Image}
 use Rattle.exec_journal.specs.Found.{FoundAs, HasDamage}
-use Rattle.exec_output.specs.declared.fault.Fault.{Fault}
-use Rattle.exec_output.specs.declared.fault.Fault.TheVariants as fault
+use Rattle.exec_faults.specs.declared.fault.Fault.{Fault}
+use Rattle.exec_faults.specs.declared.fault.Fault.TheVariants as fault
 use Rattle.exec_metrics.specs.Families.{header, name}
 use Rattle.exec_metrics.specs.Samples.{samples}
 use Rattle.exec_metrics.specs.declared.family.Family.{Family}

@@ -9,10 +9,10 @@ use Rattle.ocf_types.specs.Resource.{Resource}
 use Rattle.ocf_types.specs.declared.operation.Ended.{Ended}
 use Rattle.ocf_types.specs.declared.operation.Recur.{Recur}
 use Rattle.ocf_codes.specs.OutcomeCodes.{outcome_code}
-use Rattle.exec_output.specs.Conditions.{condition_of, condition_word}
-use Rattle.exec_output.specs.Told.{is_run, last_of}
-use Rattle.exec_output.specs.declared.condition.Condition.{Condition}
-use Rattle.exec_output.specs.declared.condition.Condition.TheVariants.{NeverRun, Started, Promoted, Stopped, Failed, Unknown}
+use Rattle.resource_status.specs.Conditions.{condition_of, condition_word}
+use Rattle.resource_status.specs.Results.{is_run, last_of}
+use Rattle.resource_status.specs.declared.condition.Condition.{Condition}
+use Rattle.resource_status.specs.declared.condition.Condition.TheVariants.{NeverRun, Started, Promoted, Stopped, Failed, Unknown}
 use Rattle.exec_metrics.specs.Families.{name}
 use Rattle.exec_metrics.specs.Labels.{label, next_label}
 use Rattle.exec_metrics.specs.declared.family.Family.{Family}

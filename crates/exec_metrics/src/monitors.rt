@@ -9,11 +9,11 @@ use crate::family::Family;
 use crate::label::add_next_label;
 use crate::results::age;
 use crate::sample::{begin, finish};
-use exec_output::last_run;
 use exec_state::State;
 use growth::Grows;
 use ocf_codes::code_of;
 use ocf_types::{Ended, Moment, Recur, RscId, StateView};
+use resource_status::last_run;
 use std::alloc::{AllocError, Global};
 
 // Adds the label for the interval of a recurring monitor.

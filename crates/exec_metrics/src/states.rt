@@ -5,9 +5,9 @@ ghost use Rattle.exec_metrics.specs.Samples.{bad_samples, calm_samples, is_same,
 use crate::family::Family;
 use crate::label::add_next_label;
 use crate::sample::{begin, bit, finish};
-use exec_output::Condition;
 use growth::Grows;
 use ocf_types::RscId;
+use resource_status::Condition;
 use std::alloc::{AllocError, Global};
 
 fn is_same(is: Condition, condition: Condition) -> bool

@@ -13,11 +13,11 @@ use crate::results::{add_age, add_code, age, last_result};
 use crate::runs::add_runs;
 use crate::sample::{add_plain, bit};
 use crate::states::add_states;
-use exec_output::condition_of;
 use exec_state::State;
 use growth::Grows;
 use journal_measure::{Measured, Size};
 use ocf_types::{Moment, StateView};
+use resource_status::condition_of;
 use std::alloc::{AllocError, Global};
 
 /// The moment at which metrics are taken, and the measure of the journal.

@@ -4,7 +4,7 @@ ghost use Rattle.ocf_types.specs.State.{State as PlainState};
 ghost use Rattle.disk_model.specs.View.{Increased};
 ghost use Rattle.exec_journal.specs.Found.{FoundAs};
 ghost use Rattle.exec_journal.specs.Opening.{Opens};
-ghost use Rattle.exec_output.specs.Faults.{HasCause, IsRunEnd, opening_fault};
+ghost use Rattle.exec_faults.specs.Faults.{HasCause, IsRunEnd, opening_fault};
 ghost use Rattle.exec_metrics.specs.Metrics.{IsWritten, WritesAs, metrics_text};
 ghost use Rattle.journal_measure.specs.RanOn.{HasCounts};
 ghost use Rattle.journal_measure.specs.Sizes.{IsSize};
@@ -12,9 +12,9 @@ ghost use Rattle.run_counts.specs.Counts.{count_at};
 
 use crate::text::{Taken, metrics_text};
 use disk_model::Disk;
+use exec_faults::Fault;
 use exec_journal::{Journal, JournalFault};
 use exec_lines::write_flushed;
-use exec_output::Fault;
 use exec_state::State;
 use growth::Grows;
 use journal_log::LogFault;
@@ -56,7 +56,7 @@ fn write_metrics<W: Write>(
 }
 
 // Opens a journal of this measure and writes its metrics.
-#[tactic(auto, using(exec_output::proofs::TextLemmas::opening_cause))]
+#[tactic(auto, using(exec_faults::proofs::FaultLemmas::opening_cause))]
 fn write_measured<D: Disk + Drop, W: Write>(
     alloc: Global,
     disk: D,

@@ -12,8 +12,8 @@ use Rattle.exec_options.specs.declared.options.JournalPlace.TheVariants.{Memory}
 use Rattle.exec_options.specs.declared.options.Options.{Options}
 use Rattle.exec_options.specs.declared.words.Wanted.{Wanted}
 use Rattle.exec_options.specs.declared.words.Wanted.TheVariants as wanted
-use Rattle.exec_output.specs.Faults.{HasCause}
-use Rattle.exec_output.specs.declared.fault.Fault.{Fault}
+use Rattle.exec_faults.specs.Faults.{HasCause}
+use Rattle.exec_faults.specs.declared.fault.Fault.{Fault}
 use Rattle.exec_session.specs.Answers.{Source}
 use Rattle.exec_program.specs.Asked.{Asked}
 use Rattle.exec_program.specs.Program.{Does, RunsAt}

@@ -6,7 +6,7 @@ use Rattle.executor.specs.Sights.{Sight}
 use Rattle.executor.specs.declared.report.Report.{Report}
 use Rattle.exec_client.specs.Heard.{Heard}
 use Rattle.exec_client.specs.Said.{Said}
-use Rattle.exec_output.specs.declared.fault.Fault.{Fault}
+use Rattle.exec_faults.specs.declared.fault.Fault.{Fault}
 use Rattle.exec_session.specs.Answers.{Source}
 use Rattle.exec_session.specs.Ends.{Ended}
 use Rattle.exec_session.specs.Rules.{Rules}

@@ -13,9 +13,9 @@ use Rattle.exec_options.specs.declared.words.Wanted.TheVariants as wanted
 use Rattle.exec_options.specs.declared.fault.WordsFault.{WordsFault}
 use Rattle.exec_options.specs.declared.fault.WordsFault.TheVariants as words_fault
 use Rattle.exec_options.specs.declared.options.Options.{Options}
-use Rattle.exec_output.specs.Faults.{HasCause, IsRunEnd}
-use Rattle.exec_output.specs.declared.fault.Fault.{Fault}
-use Rattle.exec_output.specs.declared.fault.Fault.TheVariants as fault
+use Rattle.exec_faults.specs.Faults.{HasCause, IsRunEnd}
+use Rattle.exec_faults.specs.declared.fault.Fault.{Fault}
+use Rattle.exec_faults.specs.declared.fault.Fault.TheVariants as fault
 use Rattle.exec_trace.specs.Edges.{EdgeView}
 use Rattle.exec_session.specs.Answers.{Source}
 use Rattle.exec_session.specs.Rules.{Rules}

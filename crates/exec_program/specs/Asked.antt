@@ -7,7 +7,7 @@ use Rattle.child_model.specs.Children.{ChildrenView}
 use Rattle.exec_commands.specs.declared.left.Left.{Left}
 use Rattle.exec_options.specs.declared.once.OnceOptions.{OnceOptions}
 use Rattle.exec_options.specs.declared.options.Options.{Options}
-use Rattle.exec_output.specs.declared.fault.Fault.{Fault}
+use Rattle.exec_faults.specs.declared.fault.Fault.{Fault}
 
 -- What a system was asked for, with its answers: each relation holds of the arguments and the answer of one method. Texts are bytes,
 -- times are milliseconds.

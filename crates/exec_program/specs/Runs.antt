@@ -16,8 +16,8 @@ use Rattle.exec_options.specs.declared.options.JournalPlace.TheVariants.{Folder,
 use Rattle.exec_options.specs.declared.options.Options.{Options}
 use Rattle.exec_options.specs.declared.options.Subcommand.{Subcommand}
 use Rattle.exec_options.specs.declared.options.Subcommand.TheVariants as subcommand
-use Rattle.exec_output.specs.declared.fault.Fault.{Fault}
-use Rattle.exec_output.specs.declared.fault.Fault.TheVariants as fault
+use Rattle.exec_faults.specs.declared.fault.Fault.{Fault}
+use Rattle.exec_faults.specs.declared.fault.Fault.TheVariants as fault
 use Rattle.exec_session.specs.Answers.{Source}
 use Rattle.exec_session.specs.Ends.{Ended}
 use Rattle.exec_session.specs.Rules.{Rules}

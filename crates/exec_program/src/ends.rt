@@ -1,14 +1,14 @@
 //! How a session ends.
 ghost use Rattle.std.specs.Prelude.{◌≡◌, IfErr};
-ghost use Rattle.exec_output.specs.Faults.{HasCause, IsRunEnd};
+ghost use Rattle.exec_faults.specs.Faults.{HasCause, IsRunEnd};
 ghost use Rattle.exec_program.specs.Requests.{Allows, IsOfStreams};
 ghost use Rattle.exec_program.specs.Runs.{EndsBy, served_folder};
 ghost use Rattle.exec_program.specs.Starts.{opening_fault};
 
 use crate::host::Host;
 use crate::options::served_folder;
+use exec_faults::Fault;
 use exec_options::Options;
-use exec_output::Fault;
 use executor::OpenError;
 use file_disk::TellsError;
 use growth::Grows;

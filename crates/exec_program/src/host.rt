@@ -1,6 +1,6 @@
 //! The system that the program runs on.
 ghost use Rattle.std.specs.Prelude.{◌≡◌, ◌≤◌, ◌||◌, true, is_some, option_map, IfErr, IfOk, IsTrue, OnErr, None, Some};
-ghost use Rattle.exec_output.specs.Faults.{IsRunEnd};
+ghost use Rattle.exec_faults.specs.Faults.{IsRunEnd};
 ghost use Rattle.journal_folder.specs.Ends.{IsFolderEnd, IsNotOpened};
 ghost use Rattle.exec_program.specs.Asked.{Asked, fresh_agents};
 ghost use Rattle.exec_program.specs.Requests.{Request, AskSite, AwaitOrphans, LeaveWord, MakeAgents, OpenFiles, OpenLog, OpenReader, OpenWriter, PrintText, RunOnce, ShowJournal, WatchPaths, WriteLine};
@@ -9,9 +9,9 @@ use child_model::Children;
 use clap::Error;
 use disk_model::Disk;
 use exec_commands::Left;
+use exec_faults::Fault;
 use exec_lines::{Input, Output};
 use exec_options::{OnceOptions, Options};
-use exec_output::Fault;
 use exec_session::Metadata;
 use exec_state::State;
 use file_disk::{FileError, TellsError};

@@ -1,7 +1,7 @@
 //! A session over a journal: its executor, its standard streams, and how it ends.
 ghost use Rattle.std.specs.Prelude.{◌≡◌, ℕ, List, Some, IfErr, IfOk, IsTrue, OnErr, option_map};
 ghost use Rattle.exec_options.specs.Words.{folder_of};
-ghost use Rattle.exec_output.specs.Faults.{HasCause, IsRunEnd};
+ghost use Rattle.exec_faults.specs.Faults.{HasCause, IsRunEnd};
 ghost use Rattle.exec_program.specs.Asked.{fresh_agents};
 ghost use Rattle.exec_program.specs.Limits.{book_room};
 ghost use Rattle.exec_program.specs.Requests.{Allows, IsFoundOn, IsOfRun, LeaveWord, MakeAgents};
@@ -17,9 +17,9 @@ use crate::wait::await_interrupted;
 use disk_model::Disk;
 use exec_client::Teller;
 use exec_events::Eventful;
+use exec_faults::Fault;
 use exec_lines::{RunClock, moment_now};
 use exec_options::{JournalPlace, Options};
-use exec_output::Fault;
 use exec_session::{LineRoom, run_lines};
 use exec_trace::Edge;
 use executor::Executor;

@@ -6,8 +6,8 @@ ghost use Rattle.exec_program.specs.Starts.{IsEndOf, IsToldAs, StartEndsFor, wit
 
 use crate::host::Host;
 use crate::run::run_agents;
+use exec_faults::Fault;
 use exec_options::{JournalPlace, Options, Subcommand, Wanted, WordsFault, read_words};
-use exec_output::Fault;
 use file_disk::RamDisk;
 use growth::Grows;
 use std::alloc::Global;

@@ -7,9 +7,9 @@ ghost use Rattle.exec_program.specs.Waits.{IsUnheard, WaitsFor};
 use crate::host::{Host, Wait};
 use disk_model::Disk;
 use exec_commands::Left;
+use exec_faults::Fault;
 use exec_journal::Journal;
 use exec_options::{JournalPlace, Options};
-use exec_output::Fault;
 use ocf_env::Site;
 
 /// Waits for what is left of the actions that a journal finds interrupted, before their interruption is recorded, and gives the processes

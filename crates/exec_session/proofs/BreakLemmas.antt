@@ -4,7 +4,7 @@ use Rattle.ocf_types.specs.declared.reply.TurnEnd.TheVariants.{Disk}
 use Rattle.disk_model.specs.View.{View}
 use Rattle.exec_commands.specs.declared.line.Line.TheVariants as line
 use Rattle.executor.specs.declared.report.Report.{Report}
-use Rattle.exec_output.specs.declared.fault.Fault.{Fault}
+use Rattle.exec_faults.specs.declared.fault.Fault.{Fault}
 use Rattle.exec_session.specs.Answers.{Source}
 use Rattle.exec_session.specs.Breaks.{BreaksOff, EndsOrBreaks, in_fault, in_leave}
 use Rattle.exec_session.specs.Ends.{EndsAs}

@@ -23,7 +23,7 @@ use Rattle.exec_commands.specs.declared.line.Line.TheVariants as line
 use Rattle.exec_commands.specs.declared.reply.LineReply.{LineReply}
 use Rattle.exec_commands.specs.declared.reply.LineReply.TheVariants as answer
 use Rattle.exec_commands.specs.declared.statuses.Statuses.{Statuses}
-use Rattle.exec_output.specs.StatusLines.{statuses_of}
+use Rattle.resource_status.specs.Statuses.{statuses_of}
 use Rattle.exec_client.specs.Said.{Answered}
 use Rattle.exec_trace.specs.declared.event.IoEvent.TheVariants.{Shown}
 use Rattle.exec_session.specs.Drains.{Drains}

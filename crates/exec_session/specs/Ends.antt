@@ -7,8 +7,8 @@ use Rattle.executor.specs.declared.report.Report.{Report}
 use Rattle.exec_client.specs.Heard.{Heard}
 use Rattle.exec_client.specs.MayTell.{StandsBehind}
 use Rattle.exec_trace.specs.Edges.{EdgeView}
-use Rattle.exec_output.specs.declared.fault.Fault.{Fault}
-use Rattle.exec_output.specs.declared.fault.Fault.TheVariants.{Disk, InputOrOutput, ReplyMemory}
+use Rattle.exec_faults.specs.declared.fault.Fault.{Fault}
+use Rattle.exec_faults.specs.declared.fault.Fault.TheVariants.{Disk, InputOrOutput, ReplyMemory}
 use Rattle.exec_session.specs.Answers.{Source}
 use Rattle.exec_session.specs.Breaks.{RunBreaks}
 use Rattle.exec_session.specs.Reports.{TellsReady, TellsReport}

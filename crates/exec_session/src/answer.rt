@@ -34,10 +34,10 @@ use disk_model::Disk;
 use exec_client::{Client, Told};
 use exec_commands::{Direct, DrainEnd, Line, LineReply};
 use exec_lines::Input;
-use exec_output::statuses_of;
 use exec_trace::Failed;
 use executor::Executor;
 use ocf_types::{AgentType, Provider, Refusal, Reply, Request, TidyEnd, TurnEnd};
+use resource_status::statuses_of;
 use std::alloc::Global;
 use std::rt::Clock;
 

@@ -1,7 +1,7 @@
 //! A session over its input: it answers lines one by one, and in `serve` makes turns by itself.
 ghost use Rattle.std.specs.Prelude.{◌≡◌, [], true, IfErr, OnErr, OnOk};
 ghost use Rattle.ocf_types.specs.declared.reply.TurnEnd.TheVariants.{Done};
-ghost use Rattle.exec_output.specs.Faults.{HasCause};
+ghost use Rattle.exec_faults.specs.Faults.{HasCause};
 ghost use Rattle.exec_session.specs.Breaks.{EndsOrBreaks, RunBreaks};
 ghost use Rattle.exec_session.specs.Ends.{ClosesByCalls, Ended, EndsAs, Runs};
 ghost use Rattle.exec_session.specs.Pending.{IsClear};
@@ -22,8 +22,8 @@ use crate::worker::Worker;
 use child_model::Children;
 use disk_model::Disk;
 use exec_client::Client;
+use exec_faults::Fault;
 use exec_lines::Input;
-use exec_output::Fault;
 use exec_trace::{Edge, Failed};
 use executor::{Executor, Report};
 use ocf_types::{NUM_MAX, TurnEnd};

@@ -16,7 +16,7 @@ use disk_model::Disk;
 use exec_client::{Client, Told};
 use exec_commands::{NoticeForm, Tag};
 use exec_lines::{Input, LineBuffer, Next, gather_line, moment_now};
-use exec_output::IoFault;
+use exec_messages::IoFault;
 use executor::Executor;
 use past::Past;
 use std::alloc::AllocError;
@@ -40,7 +40,7 @@ pub struct Edge<'a, R: Input, D: Disk + Drop, C: Children + Drop, T: Client<D, C
 impl<'a, R: Input, D: Disk + Drop, C: Children + Drop, T: Client<D, C>, K: Clock> Model
     for Edge<'a, R, D, C, T, K> {
     ghost use Rattle.std.specs.Prelude.{◌≡◌, IsTrue};
-    ghost use Rattle.exec_output.specs.declared.send.IoFault.TheVariants.{Memory};
+    ghost use Rattle.exec_messages.specs.declared.send.IoFault.TheVariants.{Memory};
     ghost use Rattle.exec_trace.specs.Edges.{EdgeView};
     ghost use Rattle.std.specs.Coded.{codes};
     ghost use Rattle.serde_json.specs.contracts.value.Value as json_value;

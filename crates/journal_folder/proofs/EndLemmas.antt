@@ -1,8 +1,8 @@
 -- The ends of a program that is asked for the journal of a directory.
 use Rattle.std.proofs.Common.{inl, inr, ap, ⊎_elim, ◌⊎◌, Result, Err, subst, sym, ◌≡◌}
-use Rattle.exec_output.specs.Faults.{IsRunEnd}
-use Rattle.exec_output.specs.declared.fault.Fault.{Fault}
-use Rattle.exec_output.specs.declared.fault.Fault.TheVariants as fault
+use Rattle.exec_faults.specs.Faults.{IsRunEnd}
+use Rattle.exec_faults.specs.declared.fault.Fault.{Fault}
+use Rattle.exec_faults.specs.declared.fault.Fault.TheVariants as fault
 use Rattle.journal_folder.specs.Ends.{IsFolderEnd}
 
 -- the ends with a journal that was opened, with one that was not, and with a directory that holds none

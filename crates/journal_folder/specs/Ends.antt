@@ -1,8 +1,8 @@
 -- The ends of a program that is asked for the journal of a directory.
 use Rattle.std.specs.Prelude.{◌≡◌, ◌⊎◌, IfErr, Result, Err}
-use Rattle.exec_output.specs.Faults.{IsRunEnd}
-use Rattle.exec_output.specs.declared.fault.Fault.{Fault}
-use Rattle.exec_output.specs.declared.fault.Fault.TheVariants as fault
+use Rattle.exec_faults.specs.Faults.{IsRunEnd}
+use Rattle.exec_faults.specs.declared.fault.Fault.{Fault}
+use Rattle.exec_faults.specs.declared.fault.Fault.TheVariants as fault
 
 -- why the files of a journal are not opened
 abbrev pub IsNotOpened : {T : Type 0} → Result T Fault → Type 0

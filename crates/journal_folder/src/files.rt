@@ -3,8 +3,8 @@ ghost use Rattle.std.specs.Prelude.{◌≡◌};
 ghost use Rattle.journal_folder.specs.Ends.{IsNotOpened};
 
 use diagnostics::{explain, report, report_cause};
+use exec_faults::Fault;
 use exec_options::{JournalPlace, Options};
-use exec_output::Fault;
 use file_disk::{FileDisk, FileError, OpenFault, Owners, TellsError};
 use process_ends::System;
 use std::io::ErrorKind;

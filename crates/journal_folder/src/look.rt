@@ -2,8 +2,8 @@
 use exec_lines::moment_now;
 use exec_options::{JournalPlace, Options};
 use exec_orphans::{read_holder, uptime};
-use exec_output::Look;
 use ocf_types::Moment;
+use status_report::Look;
 use std::path::Path;
 
 // The moment now by the clock of the executor that last opened the journal in this directory; `None` if that was before the last boot.

@@ -1,11 +1,11 @@
 //! Prints what a journal holds as metrics.
-ghost use Rattle.exec_output.specs.Faults.{IsRunEnd};
+ghost use Rattle.exec_faults.specs.Faults.{IsRunEnd};
 
 use crate::look::moment_of;
 use disk_model::Disk;
+use exec_faults::Fault;
 use exec_metrics::metrics;
 use exec_options::Options;
-use exec_output::Fault;
 use process_ends::System;
 use std::io::Write;
 

@@ -1,8 +1,8 @@
 //! Reasons of failures, as agents wrote them to their logs.
-use exec_output::Reason;
 use exit_reasons::{Tail, last_reason};
 use ocf_types::RscId;
 use process_ends::System;
+use status_report::Reason;
 use std::alloc::{AllocError, Global};
 use std::fs::{self, OpenOptions};
 use std::io::{self, ErrorKind};

@@ -1,6 +1,6 @@
 //! Prints a journal.
 ghost use Rattle.std.specs.Prelude.{◌≡◌};
-ghost use Rattle.exec_output.specs.Faults.{IsRunEnd};
+ghost use Rattle.exec_faults.specs.Faults.{IsRunEnd};
 ghost use Rattle.journal_folder.specs.Ends.{IsFolderEnd, IsNotFound};
 
 use crate::emptied::not_emptied;
@@ -10,11 +10,12 @@ use crate::metrics::metrics_to;
 use crate::status::status_to;
 use diagnostics::{FirstError, tell_shown};
 use disk_model::Disk;
+use exec_faults::Fault;
 use exec_options::{Options, Subcommand};
-use exec_output::{Fault, show};
 use file_disk::{RamDisk, TellsError, read_parts};
 use ocf_types::Part;
 use process_ends::System;
+use status_report::show;
 use std::io::{self, Write};
 
 // How often the files are read before a journal is reported as damaged.

@@ -1,12 +1,13 @@
 //! Prints the status of the resources of a journal.
-ghost use Rattle.exec_output.specs.Faults.{IsRunEnd};
+ghost use Rattle.exec_faults.specs.Faults.{IsRunEnd};
 
 use crate::look::look_of;
 use crate::reasons::{FoundReason, as_reasons, reasons_in};
 use disk_model::Disk;
+use exec_faults::Fault;
 use exec_options::Options;
-use exec_output::{Fault, Look, failed, status, status_json};
 use process_ends::System;
+use status_report::{Look, failed, status, status_json};
 use std::io::Write;
 
 // The reasons in the logs for the failures of the resources that are asked for, if the options name a directory of logs. There

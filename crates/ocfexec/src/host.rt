@@ -13,10 +13,10 @@ use diagnostics::{
     FirstError, Noted, children_ignored, is_journal, tell_ignored, tell_run, tell_shown,
 };
 use exec_commands::Left;
+use exec_faults::Fault;
 use exec_lines::{Patient, moment_now, write_flushed};
 use exec_options::{OnceOptions, Options};
 use exec_orphans::{Orphans, await_orphans, leave_word};
-use exec_output::Fault;
 use exec_program::{Host, Wait};
 use exec_state::State;
 use file_disk::{FileDisk, FileError, JournalPaths, RamDisk};

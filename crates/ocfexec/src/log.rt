@@ -3,7 +3,7 @@ ghost use Rattle.std.specs.Prelude.{◌≡◌, ◌||◌, true, IfErr, is_some};
 
 use child_keeper::{Log, LogDirectory, System};
 use diagnostics::report_cause;
-use exec_output::Fault;
+use exec_faults::Fault;
 use file_disk::OWNER_ONLY;
 use std::fs::{self, OpenOptions};
 use std::io::{self, ErrorKind};

@@ -15,7 +15,7 @@ mod words;
 
 use child_keeper::System;
 use diagnostics::{FirstError, report, report_cause};
-use exec_output::Fault;
+use exec_faults::Fault;
 use exec_program::program;
 use host::SystemHost;
 use std::process::ExitCode;

@@ -1,5 +1,5 @@
 //! The arguments of the command line, and the journal that the environment names.
-use exec_output::Fault;
+use exec_faults::Fault;
 use std::env::{self, VarError};
 use std::io::ErrorKind;
 

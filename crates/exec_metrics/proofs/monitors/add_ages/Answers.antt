@@ -1,6 +1,6 @@
 use Rattle.std.proofs.Common.{◌≡◌, ◌++◌, ap, ap₂, ◌∙◌}
 use Rattle.ocf_types.specs.Places.{at_place, id_at}
-use Rattle.exec_output.proofs.ToldLemmas.{lines_more}
+use Rattle.resource_status.proofs.ResultLemmas.{lines_more}
 use Rattle.exec_metrics.specs.Samples.{age, age_of_monitor, monitor_age}
 use Rattle.exec_metrics.proofs.monitors.add_ages.Goals as goal
 

@@ -1,6 +1,6 @@
 use Rattle.std.proofs.Common.{rules, ◌≡◌, ℕ, List, ap, ap₂, sym, ◌∙◌}
 use Rattle.ocf_types.specs.Places.{at_place, entry_at, id_at}
-use Rattle.exec_output.specs.Conditions.{condition_of}
+use Rattle.resource_status.specs.Conditions.{condition_of}
 use Rattle.exec_metrics.specs.Samples.{samples, state_samples}
 use Rattle.exec_metrics.specs.declared.family.Family.TheVariants as family
 use Rattle.exec_metrics.proofs.TextLemmas.{last_of}

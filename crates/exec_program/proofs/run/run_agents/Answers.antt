@@ -1,7 +1,7 @@
 use Rattle.std.proofs.Common.{rules, ◌∙◌, ℕ, List, Option, Result, Err, inl, inr, ap, refl, subst}
 use Rattle.ocf_env.specs.Places.{SiteView}
 use Rattle.exec_commands.specs.declared.left.Left.{Left}
-use Rattle.exec_output.specs.declared.fault.Fault.{Fault}
+use Rattle.exec_faults.specs.declared.fault.Fault.{Fault}
 use Rattle.exec_session.specs.Rules.{rules_of}
 use Rattle.exec_program.specs.Limits.{book_room}
 use Rattle.exec_program.specs.Requests.{AskSite, LeaveWord, MakeAgents, OpenReader, OpenWriter, WatchPaths}

@@ -1,5 +1,5 @@
 use Rattle.std.proofs.Common.{ap, inl, refl, ◌∙◌}
-use Rattle.exec_output.specs.StatusLines.{statuses_of}
+use Rattle.resource_status.specs.Statuses.{statuses_of}
 use Rattle.exec_session.proofs.answer.status_reply.Goals as goal
 
 pub returns-in-Ok : goal.returns-in-Ok

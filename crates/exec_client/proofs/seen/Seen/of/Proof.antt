@@ -1,4 +1,4 @@
--- `of` makes a value of no bytes, at the value that is seen.
+-- `of` makes a value of no bytes, whose ghost is the value as it is.
 use Rattle.std.proofs.Common.{List, [], ◌∷◌, refl}
 use Rattle.std.proofs.raw_atomic.Walks.{proved}
 use mir.MapTy.{inst_fn}

@@ -1,0 +1,138 @@
+//! Replies and notices, written as lines to a client.
+ghost use Rattle.std.specs.Prelude.{◌≡◌, ◌≢◌, None, OnErr, OnOk, IfOk, IfErr, IsTrue, Err};
+ghost use Rattle.std.specs.Io.KnownBytes.{Appends};
+ghost use Rattle.std.specs.List.{flat_map};
+ghost use Rattle.exec_commands.specs.Replies.{formed_line, told_reply_line, told_request_line};
+ghost use Rattle.exec_commands.specs.Tags.{told_tag};
+ghost use Rattle.exec_lines.specs.Fronts.{AppendsFront};
+ghost use Rattle.exec_messages.specs.declared.send.IoFault.TheVariants.{InputOrOutput, Memory};
+
+use exec_commands::{
+    LineReply, NoticeForm, Tagged, write_notice, write_told_reply, write_told_request,
+};
+use exec_lines::{write_bytes, write_flushed};
+use growth::Grows;
+use ocf_types::{Notice, Reply};
+use std::alloc::{AllocError, Global};
+use std::io::{self, Write};
+
+/// Why a session ends before its input does.
+#[derive(Drop)]
+pub enum IoFault {
+    /// Standard input or output failed, or nobody reads what is written.
+    InputOrOutput,
+    /// Memory for a reply or a notice was refused.
+    Memory,
+}
+
+impl From<io::Error> for IoFault {
+    ghost from_gives = { λ _ stopped. stopped ≡ InputOrOutput };
+
+    fn from(_: io::Error) -> IoFault {
+        IoFault::InputOrOutput
+    }
+}
+
+impl From<AllocError> for IoFault {
+    ghost from_gives = { λ _ stopped. stopped ≡ Memory };
+
+    fn from(_: AllocError) -> IoFault {
+        IoFault::Memory
+    }
+}
+
+// Writes a line and flushes it. If the writer fails, a prefix of the line was written. If memory for the line was refused, nothing was.
+fn send_line<W: Write>(writer: &mut W, line: Result<Vec<u8>, AllocError>) -> Result<(), IoFault>
+    ensures sent { IfOk line
+        (λ bytes. OnOk result
+        (Appends (W.contents writer.old) (W.contents writer.new) bytes.items)) }
+    ensures front { IfOk line
+        (λ bytes. OnErr result
+        (AppendsFront (W.contents writer.old) (W.contents writer.new) bytes.items)) }
+    ensures memory { IfErr line (λ _. result ≡ Err Memory) }
+    ensures only { IfOk line (λ _. IfErr result (λ f. f ≢ Memory)) }
+    ensures unwritten { IfErr line (λ _. W.contents writer.new ≡ W.contents writer.old) }
+{
+    write_flushed(writer, line?.as_slice())?;
+    Ok(())
+}
+
+/// Writes the line of a reply in this form and with this tag, and flushes it. On error a prefix of the line was written.
+pub fn send_reply<W: Write>(
+    alloc: Global,
+    writer: &mut W,
+    tagged: Tagged,
+    reply: &LineReply,
+) -> Result<(), IoFault>
+    ensures sent { OnOk result
+        (Appends (W.contents writer.old) (W.contents writer.new)
+        (told_reply_line tagged.entry.form (told_tag tagged.entry) reply.now)) }
+    ensures front { OnErr result
+        (AppendsFront (W.contents writer.old) (W.contents writer.new)
+        (told_reply_line tagged.entry.form (told_tag tagged.entry) reply.now)) }
+    ensures memory { IfErr result (λ f. f ≡ Memory → IsTrue ⟦<Global as Grows>⟧.refuses) }
+{
+    send_line(writer, write_told_reply(alloc, tagged, reply))
+}
+
+/// Writes the line of a reply to a request in this form and with this tag, without a flush. On error a prefix of the line was written.
+pub fn put_reply<W: Write>(
+    alloc: Global,
+    writer: &mut W,
+    tagged: Tagged,
+    reply: &Reply,
+) -> Result<(), IoFault>
+    ensures sent { OnOk result
+        (Appends (W.contents writer.old) (W.contents writer.new)
+        (told_request_line tagged.entry.form (told_tag tagged.entry) reply.now)) }
+    ensures front { OnErr result
+        (AppendsFront (W.contents writer.old) (W.contents writer.new)
+        (told_request_line tagged.entry.form (told_tag tagged.entry) reply.now)) }
+    ensures memory { IfErr result (λ f. f ≡ Memory → IsTrue ⟦<Global as Grows>⟧.refuses) }
+{
+    let line = write_told_request(alloc, tagged, reply)?;
+    write_bytes(writer, line.as_slice())?;
+    Ok(())
+}
+
+/// Writes the line of a notice in this form and with this tag, and flushes it. The signal is the one that ended the agent process, if one
+/// did. On error a prefix of the line was written.
+pub fn send_notice<W: Write>(
+    alloc: Global,
+    writer: &mut W,
+    tagged: Tagged,
+    notice: &Notice,
+    signal: Option<u8>,
+) -> Result<(), IoFault>
+    ensures sent { OnOk result
+        (Appends (W.contents writer.old) (W.contents writer.new)
+        (formed_line tagged.entry.form (told_tag tagged.entry) signal notice.now)) }
+    ensures front { OnErr result
+        (AppendsFront (W.contents writer.old) (W.contents writer.new)
+        (formed_line tagged.entry.form (told_tag tagged.entry) signal notice.now)) }
+    ensures memory { IfErr result (λ f. f ≡ Memory → IsTrue ⟦<Global as Grows>⟧.refuses) }
+{
+    send_line(writer, write_notice(alloc, tagged, notice, signal))
+}
+
+/// Writes notices in this form, a line each, without tags and signals, and flushes each line. On error a prefix of the lines was written.
+pub fn send_notices<W: Write>(
+    alloc: Global,
+    writer: &mut W,
+    form: NoticeForm,
+    notices: &[Notice],
+) -> Result<(), IoFault>
+    ensures sent { OnOk result
+        (Appends (W.contents writer.old) (W.contents writer.new)
+        (flat_map (formed_line form.entry None None) notices.now)) }
+    ensures front { OnErr result
+        (AppendsFront (W.contents writer.old) (W.contents writer.new)
+        (flat_map (formed_line form.entry None None) notices.now)) }
+    ensures memory { IfErr result (λ f. f ≡ Memory → IsTrue ⟦<Global as Grows>⟧.refuses) }
+{
+    let tagged = Tagged { form, tag: None };
+    for notice in notices {
+        send_notice(alloc, writer, tagged, notice, None)?;
+    }
+    Ok(())
+}

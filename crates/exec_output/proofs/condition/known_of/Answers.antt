@@ -1,8 +1,0 @@
-use Rattle.ocf_types.specs.Places.{at_place}
-use Rattle.exec_output.proofs.ConditionLemmas.{known_more}
-use Rattle.exec_output.proofs.condition.known_of.Goals as goal
-
-pub loop-at-preserved : goal.loop-at-preserved
-loop-at-preserved c =
-    let es = (at_place c.args.state.now.state c.args.place).history.ended in
-    known_more es c.loop-at.at c.ended_at.result c.loop-at.known c.after-known.result c.ended_at.ensures c.loop-at.invariant c.after-known.ensures

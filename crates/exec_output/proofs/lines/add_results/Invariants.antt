@@ -1,9 +1,0 @@
-use Rattle.std.proofs.Common.{◌≡◌, ◌++◌, take}
-use Rattle.std.specs.List.{flat_map}
-use Rattle.ocf_types.specs.Places.{at_place}
-use Rattle.exec_output.specs.Told.{past_line}
-use Rattle.exec_output.proofs.lines.add_results.Given as goal
-
-abbrev pub invariant-loop-at : goal.invariant-loop-at
-invariant-loop-at l =
-    l.text.items ≡ l.fn.text.items ++ flat_map (past_line l.look) (take l.at (at_place l.state.state l.place).history.ended)

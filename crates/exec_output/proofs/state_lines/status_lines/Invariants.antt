@@ -1,8 +1,0 @@
-use Rattle.std.proofs.Common.{◌≡◌, take}
-use Rattle.std.specs.List.{flat_map}
-use Rattle.exec_output.specs.StatusLines.{status_line}
-use Rattle.exec_output.specs.Tables.{asked_entries}
-use Rattle.exec_output.proofs.state_lines.status_lines.Given as goal
-
-abbrev pub invariant-loop-place : goal.invariant-loop-place
-invariant-loop-place l = l.lines.items ≡ flat_map (status_line l.look) (asked_entries l.look (take l.place l.state.state.resources))

@@ -1,6 +1,0 @@
-use Rattle.std.proofs.Common.{take}
-use Rattle.exec_output.specs.Tables.{AreRows, asked_entries}
-use Rattle.exec_output.proofs.table.rows_of.Given as goal
-
-abbrev pub invariant-loop-place : goal.invariant-loop-place
-invariant-loop-place l = AreRows l.look (asked_entries l.look (take l.place l.state.state.resources)) l.rows.items

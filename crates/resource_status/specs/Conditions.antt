@@ -1,0 +1,121 @@
+-- The condition of a resource, by its last results: OCF Resource Agent API 1.1, actions and exit codes.
+use Rattle.std.specs.Prelude.{ℕ, ◌==◌, nat_lt, Bool, true, false, List, length, fold, if◌then◌else◌, Option, Some, None, codes}
+use Rattle.std.specs.Option.{option_map_or}
+use Rattle.std.specs.Str.{bytes_eq}
+use Rattle.ocf_types.specs.Layouts.{kept_in}
+use Rattle.ocf_types.specs.Resource.{History}
+use Rattle.ocf_types.specs.declared.action.Action.{Action}
+use Rattle.ocf_types.specs.declared.action.Action.TheVariants as action
+use Rattle.ocf_types.specs.declared.layout.Layout.TheVariants.{First}
+use Rattle.ocf_types.specs.declared.operation.Ended.{Ended}
+use Rattle.ocf_types.specs.declared.outcome.Outcome.{Outcome}
+use Rattle.ocf_types.specs.declared.outcome.Outcome.TheVariants.{Run, Interrupted, Dropped, Cancelled}
+use Rattle.ocf_types.specs.declared.outcome.RunEnd.TheVariants.{Done, TimedOut, Signaled, Lost, NotStarted}
+use Rattle.ocf_codes.specs.ExitCodes.{code_read}
+use Rattle.ocf_codes.specs.declared.exit_code.Code.{Code}
+use Rattle.ocf_codes.specs.declared.exit_code.Code.TheVariants as code
+use Rattle.resource_status.specs.declared.condition.Condition.{Condition}
+use Rattle.resource_status.specs.declared.condition.Condition.TheVariants.{NeverRun, Started, Promoted, Stopped, Failed, Unknown}
+use Rattle.resource_status.specs.declared.condition.Known.{Known}
+use Rattle.resource_status.specs.declared.meanings.Tone.{Tone}
+use Rattle.resource_status.specs.declared.meanings.Tone.TheVariants.{Good, Notable, Bad}
+
+-- the text of a condition
+abbrev pub condition_word : Condition → List ℕ
+condition_word NeverRun = codes "never run"
+condition_word Started = codes "started"
+condition_word Promoted = codes "promoted"
+condition_word Stopped = codes "stopped"
+condition_word Failed = codes "failed"
+condition_word Unknown = codes "unknown"
+
+-- whether a condition is good, notable or bad
+abbrev pub condition_tone : Condition → Tone
+condition_tone Started = Good
+condition_tone Promoted = Good
+condition_tone Stopped = Notable
+condition_tone NeverRun = Notable
+condition_tone Failed = Bad
+condition_tone Unknown = Bad
+
+-- a condition needs attention
+abbrev pub is_bad : Condition → Bool
+is_bad Failed = true
+is_bad Unknown = true
+is_bad _ = false
+
+-- what a monitor found, by its exit code
+abbrev pub found_by : Code → Condition
+found_by code.Success = Started
+found_by code.Degraded = Started
+found_by code.RunningPromoted = Promoted
+found_by code.DegradedPromoted = Promoted
+found_by code.NotRunning = Stopped
+found_by _ = Failed
+
+-- the condition after an action that succeeded; a reload and a validation show none
+abbrev pub left_by : Action → Option Condition
+left_by action.Start = Some Started
+left_by action.Demote = Some Started
+left_by action.Monitor = Some Started
+left_by action.Promote = Some Promoted
+left_by action.Stop = Some Stopped
+left_by action.ReloadAgent = None
+left_by action.ValidateAll = None
+
+-- the condition that an action shows by its exit code
+abbrev pub told_by_code : Action → Code → Option Condition
+told_by_code action.Monitor c = Some (found_by c)
+told_by_code a code.Success = left_by a
+told_by_code a _ = Some Failed
+
+-- the condition that a result shows: an action that was cut off may be done or not, and one that never began shows none
+abbrev pub told_by : Action → Outcome → Option Condition
+told_by a (Run (Done n)) = told_by_code a (code_read n)
+told_by a (Run TimedOut) = Some Unknown
+told_by a (Run Signaled) = Some Failed
+told_by a (Run Lost) = Some Unknown
+told_by a (Run (NotStarted fault)) = Some Failed
+told_by a Interrupted = Some Unknown
+told_by a Dropped = None
+told_by a Cancelled = None
+
+-- since when a condition holds that a result of this moment shows: since earlier results, where these show the same
+abbrev pub since_in : Option Known → Condition → ℕ → ℕ
+since_in None c at = at
+since_in (Some k) c at = if bytes_eq (condition_word k.condition) (condition_word c) then k.since else at
+
+-- what is known after one more result
+abbrev pub after : Option Known → Ended → Option Known
+after k e = option_map_or (λ c. Some (record { condition = c; since = since_in k c e.at; run = e.run })) (told_by e.action e.outcome) k
+
+-- what is known after all results, oldest first
+abbrev pub known_of : List Ended → Option Known
+known_of es = fold after None es
+
+-- the last failure is of this run
+abbrev pub failed_by : ℕ → Option Ended → Bool
+failed_by run failed = option_map_or (λ e. e.run == run) failed false
+
+-- a condition, where the result that shows it is a failure: a service that is stopped and should run has failed
+abbrev pub worsened : Condition → Condition
+worsened Unknown = Unknown
+worsened _ = Failed
+
+-- a condition, by whether the result that shows it is a failure
+abbrev pub judged : Condition → Bool → Condition
+judged c has_failed = if has_failed then worsened c else c
+
+-- the condition of a resource with n results, none of which shows one: it never ran, unless the history is long enough that one may have
+-- been dropped
+abbrev pub condition_untold : ℕ → Condition
+condition_untold n = if nat_lt n (kept_in First) then NeverRun else Unknown
+
+-- the condition, by what is known, the last failure and the number of results that are kept
+abbrev pub condition_from : Option Known → Option Ended → ℕ → Condition
+condition_from (Some k) failed n = judged k.condition (failed_by k.run failed)
+condition_from None failed n = condition_untold n
+
+-- the condition of a resource
+abbrev pub condition_of : History → Condition
+condition_of h = condition_from (known_of h.ended) h.failed (length h.ended)

@@ -1,0 +1,5 @@
+pub mod Conditions
+pub mod Meanings
+pub mod Results
+pub mod Statuses
+pub mod Texts

@@ -1,0 +1,79 @@
+-- What a result means, in words, and whether it is good, notable or bad.
+use Rattle.std.specs.Prelude.{ℕ, List, codes}
+use Rattle.ocf_types.specs.declared.action.Action.{Action}
+use Rattle.ocf_types.specs.declared.action.Action.TheVariants.{Monitor}
+use Rattle.ocf_types.specs.declared.outcome.Outcome.{Outcome}
+use Rattle.ocf_types.specs.declared.outcome.Outcome.TheVariants.{Run, Interrupted, Dropped, Cancelled}
+use Rattle.ocf_types.specs.declared.outcome.RunEnd.TheVariants.{Done, TimedOut, Signaled, Lost, NotStarted}
+use Rattle.ocf_types.specs.declared.outcome.StartFault.TheVariants as start
+use Rattle.ocf_codes.specs.ExitCodes.{code_read}
+use Rattle.ocf_codes.specs.declared.exit_code.Code.{Code}
+use Rattle.ocf_codes.specs.declared.exit_code.Code.TheVariants as code
+use Rattle.resource_status.specs.declared.meanings.Tone.{Tone}
+use Rattle.resource_status.specs.declared.meanings.Tone.TheVariants.{Good, Notable, Bad}
+
+-- what an agent's own exit code means: OCF Resource Agent API 1.1 and Pacemaker Administration, exit codes
+abbrev pub code_meaning : Action → Code → List ℕ
+code_meaning Monitor code.Success = codes "running"
+code_meaning _ code.Success = codes "ok"
+code_meaning action code.Generic = codes "failed"
+code_meaning action code.Args = codes "failed: its parameters are not valid on this machine"
+code_meaning action code.Unimplemented = codes "failed: the agent has no such action"
+code_meaning action code.Perm = codes "failed: the agent lacks a permission"
+code_meaning action code.Installed = codes "failed: the agent, or what it needs, is not installed"
+code_meaning action code.Configured = codes "failed: its parameters are not valid on any machine"
+code_meaning action code.NotRunning = codes "not running"
+code_meaning action code.RunningPromoted = codes "running, promoted"
+code_meaning action code.FailedPromoted = codes "failed in the promoted role"
+code_meaning action code.Degraded = codes "running, but degraded"
+code_meaning action code.DegradedPromoted = codes "running, promoted, but degraded"
+code_meaning action (code.Other n) = codes "failed with a code of the agent's own"
+
+-- what the result of an action means
+abbrev pub meaning : Action → Outcome → List ℕ
+meaning action (Run (Done n)) = code_meaning action (code_read n)
+meaning action (Run TimedOut) = codes "failed: it ran past its timeout and was killed"
+meaning action (Run Signaled) = codes "failed: a signal ended the agent"
+meaning action (Run Lost) = codes "failed: how the agent ended is not known"
+meaning action (Run (NotStarted start.Missing)) = codes "failed: the agent's file is missing"
+meaning action (Run (NotStarted start.Denied)) = codes "failed: the agent's file may not be run"
+meaning action (Run (NotStarted start.Other)) = codes "failed: the agent could not be started"
+meaning action Interrupted = codes "interrupted: the executor ended while it ran; it may be done or not"
+meaning action Dropped = codes "dropped: the executor ended before it began"
+meaning action Cancelled = codes "cancelled: it was withdrawn before it began"
+
+-- what an unexpected exit code means, in the words of crm_mon(8) where it has some
+abbrev pub unexpected_meaning : Code → List ℕ
+unexpected_meaning code.Success = codes "running"
+unexpected_meaning code.Generic = codes "error"
+unexpected_meaning code.Args = codes "invalid parameter"
+unexpected_meaning code.Unimplemented = codes "unimplemented feature"
+unexpected_meaning code.Perm = codes "insufficient privileges"
+unexpected_meaning code.Installed = codes "not installed"
+unexpected_meaning code.Configured = codes "not configured"
+unexpected_meaning code.NotRunning = codes "not running"
+unexpected_meaning code.RunningPromoted = codes "promoted"
+unexpected_meaning code.FailedPromoted = codes "promoted (failed)"
+unexpected_meaning code.Degraded = codes "degraded"
+unexpected_meaning code.DegradedPromoted = codes "promoted (degraded)"
+unexpected_meaning (code.Other n) = codes "a code of the agent's own"
+
+-- what the failure of an action means
+abbrev pub failure_meaning : Action → Outcome → List ℕ
+failure_meaning action (Run (Done n)) = unexpected_meaning (code_read n)
+failure_meaning action outcome = meaning action outcome
+
+-- whether an exit code is good, notable or bad
+abbrev pub code_tone : Code → Tone
+code_tone code.Success = Good
+code_tone code.RunningPromoted = Good
+code_tone code.NotRunning = Notable
+code_tone code.Degraded = Notable
+code_tone code.DegradedPromoted = Notable
+code_tone _ = Bad
+
+-- whether a result is good, notable or bad
+abbrev pub tone_of : Outcome → Tone
+tone_of (Run (Done n)) = code_tone (code_read n)
+tone_of Cancelled = Notable
+tone_of _ = Bad

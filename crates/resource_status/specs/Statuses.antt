@@ -1,0 +1,52 @@
+-- The status of a resource as a JSON object.
+use Rattle.std.specs.Prelude.{ℕ, List, [], ◌∷◌, length, map, Option, Some, None, codes}
+use Rattle.serde_json.specs.Data.{Data, null, string}
+use Rattle.ocf_types.specs.Actions.{action_of, action_word}
+use Rattle.ocf_types.specs.Outcomes.{outcome_word}
+use Rattle.ocf_types.specs.Resource.{Resource}
+use Rattle.ocf_types.specs.State.{State}
+use Rattle.ocf_types.specs.declared.operation.Ended.{Ended}
+use Rattle.ocf_types.specs.declared.operation.Running.{Running}
+use Rattle.ocf_codes.specs.ExitCodes.{name_read}
+use Rattle.ocf_codes.specs.OutcomeCodes.{outcome_code}
+use Rattle.exec_commands.specs.Objects.{natural_data, object_from}
+use Rattle.resource_status.specs.Conditions.{condition_of, condition_word, known_of}
+use Rattle.resource_status.specs.declared.condition.Known.{Known}
+
+-- the reason that the agent gave, where one is known
+abbrev pub reason_data : Option (List ℕ) → Data
+reason_data None = null
+reason_data (Some text) = string text
+
+-- a failed result, with its reason
+abbrev pub failed_object : Data → Ended → Data
+failed_object reason e = object_from (
+    (codes "action", string (action_word e.action)) ∷ (codes "at", natural_data e.at)
+    ∷ (codes "code", natural_data (outcome_code e.outcome)) ∷ (codes "name", string (name_read (outcome_code e.outcome)))
+    ∷ (codes "outcome", string (outcome_word e.outcome)) ∷ (codes "reason", reason) ∷ [])
+
+-- the last failure, with its reason
+abbrev pub failure_data : Option (List ℕ) → Option Ended → Data
+failure_data reason None = null
+failure_data reason (Some e) = failed_object (reason_data reason) e
+
+-- the action that runs
+abbrev pub doing_data : Option Running → Data
+doing_data None = null
+doing_data (Some x) = object_from ((codes "action", string (action_word (action_of x.task))) ∷ (codes "since", natural_data x.since) ∷ [])
+
+-- since when the condition holds
+abbrev pub since_data : Option Known → Data
+since_data None = null
+since_data (Some k) = natural_data k.since
+
+-- the status of a resource: its condition, what it does now, and its last failure with this reason
+abbrev pub resource_data : Option (List ℕ) → List ℕ × Resource → Data
+resource_data reason e = object_from (
+    (codes "failed", failure_data reason e.1.history.failed) ∷ (codes "id", string e.0)
+    ∷ (codes "queued", natural_data (length e.1.history.queue)) ∷ (codes "running", doing_data e.1.history.running)
+    ∷ (codes "since", since_data (known_of e.1.history.ended)) ∷ (codes "state", string (condition_word (condition_of e.1.history))) ∷ [])
+
+-- the status of all resources, in order of registration, without reasons
+abbrev pub statuses_of : State → List Data
+statuses_of s = map (resource_data None) s.resources

@@ -1,0 +1,225 @@
+//! The condition of a resource, by its last results.
+ghost use Rattle.std.specs.Prelude.{◌≡◌, ◌<◌, length};
+ghost use Rattle.ocf_types.specs.Places.{at_place};
+ghost use Rattle.resource_status.specs.Conditions.{after, condition_from, condition_of, condition_tone, condition_untold, condition_word, failed_by};
+ghost use Rattle.resource_status.specs.Conditions.{found_by, is_bad, judged, known_of, left_by, since_in, told_by, told_by_code, worsened};
+
+use crate::meanings::Tone;
+use exec_state::State;
+use ocf_codes::{Code, read_code};
+use ocf_types::{Action, Ended, Layout, Moment, Outcome, RunEnd, StateView};
+
+/// The condition of a resource.
+#[derive(Clone, Copy, PartialEq, Eq)]
+pub enum Condition {
+    /// No result shows a condition, and none was dropped from the history.
+    NeverRun,
+    /// It runs.
+    Started,
+    /// It runs in the promoted role.
+    Promoted,
+    /// It is cleanly stopped.
+    Stopped,
+    /// The last action that shows a condition has failed.
+    Failed,
+    /// The last action that shows a condition may be done or not, or the history has dropped it.
+    Unknown,
+}
+
+impl Condition {
+    /// Its text, of a word or two.
+    pub fn word(self) -> &'static str
+        ensures { result.now ≡ condition_word self }
+    {
+        match self {
+            Condition::NeverRun => "never run",
+            Condition::Started => "started",
+            Condition::Promoted => "promoted",
+            Condition::Stopped => "stopped",
+            Condition::Failed => "failed",
+            Condition::Unknown => "unknown",
+        }
+    }
+
+    /// Whether it is good, notable or bad.
+    pub fn tone(self) -> Tone
+        ensures { result ≡ condition_tone self }
+    {
+        match self {
+            Condition::Started | Condition::Promoted => Tone::Good,
+            Condition::Stopped | Condition::NeverRun => Tone::Notable,
+            Condition::Failed | Condition::Unknown => Tone::Bad,
+        }
+    }
+
+    /// Whether it needs attention.
+    pub fn is_bad(self) -> bool
+        ensures { result ≡ is_bad self }
+    {
+        matches!(self, Condition::Failed | Condition::Unknown)
+    }
+
+    // The condition, where the result that shows it is a failure.
+    fn worsened(self) -> Condition
+        ensures { result ≡ worsened self }
+    {
+        match self {
+            Condition::Unknown => Condition::Unknown,
+            _ => Condition::Failed,
+        }
+    }
+}
+
+/// What the results of a resource show, read oldest first.
+#[derive(Clone, Copy)]
+pub struct Known {
+    /// The condition by the last result that shows one.
+    pub condition: Condition,
+    /// The end of the first result since which each one that shows a condition shows this one.
+    pub since: Moment,
+    /// The run of the last result that shows a condition.
+    pub run: u64,
+}
+
+// What a monitor found, by its exit code.
+fn found_by(code: Code) -> Condition
+    ensures { result ≡ found_by code }
+{
+    match code {
+        Code::Success | Code::Degraded => Condition::Started,
+        Code::RunningPromoted | Code::DegradedPromoted => Condition::Promoted,
+        Code::NotRunning => Condition::Stopped,
+        _ => Condition::Failed,
+    }
+}
+
+// The condition after an action that succeeded, if it shows one.
+fn left_by(action: Action) -> Option<Condition>
+    ensures { result ≡ left_by action }
+{
+    match action {
+        Action::Start | Action::Demote | Action::Monitor => Some(Condition::Started),
+        Action::Promote => Some(Condition::Promoted),
+        Action::Stop => Some(Condition::Stopped),
+        Action::ReloadAgent | Action::ValidateAll => None,
+    }
+}
+
+// The condition that an action shows by its exit code.
+fn told_by_code(action: Action, code: Code) -> Option<Condition>
+    ensures { result ≡ told_by_code action code }
+{
+    match (action, code) {
+        (Action::Monitor, code) => Some(found_by(code)),
+        (action, Code::Success) => left_by(action),
+        _ => Some(Condition::Failed),
+    }
+}
+
+// The condition that a result shows.
+fn told_by(action: Action, outcome: Outcome) -> Option<Condition>
+    ensures { result ≡ told_by action outcome }
+{
+    match outcome {
+        Outcome::Run(RunEnd::Done(code)) => told_by_code(action, read_code(code)),
+        Outcome::Run(RunEnd::Signaled | RunEnd::NotStarted(_)) => Some(Condition::Failed),
+        Outcome::Run(RunEnd::TimedOut | RunEnd::Lost) | Outcome::Interrupted => {
+            Some(Condition::Unknown)
+        }
+        Outcome::Dropped | Outcome::Cancelled => None,
+    }
+}
+
+// Since when a condition holds that a result of this moment shows.
+fn since_in(known: Option<Known>, condition: Condition, at: Moment) -> Moment
+    ensures { result ≡ since_in known condition at }
+{
+    let Some(known) = known else {
+        return at;
+    };
+    if known.condition.word().as_bytes() == condition.word().as_bytes() {
+        known.since
+    } else {
+        at
+    }
+}
+
+// What is known after one more result.
+fn after(known: Option<Known>, ended: &Ended) -> Option<Known>
+    ensures { result ≡ after known ended.now }
+{
+    match told_by(ended.action, ended.outcome) {
+        Some(condition) => Some(Known {
+            condition,
+            since: since_in(known, condition, ended.at),
+            run: ended.run,
+        }),
+        None => known,
+    }
+}
+
+/// What the results of a resource show, or `None` if none of them shows a condition.
+pub fn known_of(state: &State, place: usize) -> Option<Known>
+    requires { place < length state.now.state.resources }
+    ensures { result ≡ known_of (at_place state.now.state place).history.ended }
+{
+    let mut known = None;
+    for at in 0..state.ended_len(place) {
+        known = after(known, &state.ended_at(place, at));
+    }
+    known
+}
+
+// Whether the last failure is of this run.
+fn failed_by(run: u64, failed: Option<Ended>) -> bool
+    ensures { result ≡ failed_by run failed }
+{
+    match failed {
+        Some(failed) => failed.run == run,
+        None => false,
+    }
+}
+
+// A condition, by whether the result that shows it is a failure.
+fn judged(condition: Condition, has_failed: bool) -> Condition
+    ensures { result ≡ judged condition has_failed }
+{
+    if has_failed {
+        condition.worsened()
+    } else {
+        condition
+    }
+}
+
+// The condition of a resource with n results, none of which shows one.
+fn condition_untold(results: usize) -> Condition
+    ensures { result ≡ condition_untold results }
+{
+    if results < Layout::First.kept() {
+        Condition::NeverRun
+    } else {
+        Condition::Unknown
+    }
+}
+
+// The condition, by what is known, the last failure and the number of results that are kept.
+fn condition_from(known: Option<Known>, failed: Option<Ended>, results: usize) -> Condition
+    ensures { result ≡ condition_from known failed results }
+{
+    match known {
+        Some(known) => judged(known.condition, failed_by(known.run, failed)),
+        None => condition_untold(results),
+    }
+}
+
+/// The condition of a resource.
+pub fn condition_of(state: &State, place: usize) -> Condition
+    requires { place < length state.now.state.resources }
+    ensures { result ≡ condition_of (at_place state.now.state place).history }
+{
+    condition_from(
+        known_of(state, place),
+        state.failed_at(place),
+        state.ended_len(place),
+    )
+}

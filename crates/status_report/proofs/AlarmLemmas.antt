@@ -1,0 +1,47 @@
+-- How a status ends after it showed a state.
+use Rattle.std.proofs.Common.{◌≡◌, ℕ, ◌+◌, ◌<◌, ◌||◌, ◌&&◌, Bool, true, false, take, length, List, Option, Err, ap₂, ◌∙◌}
+use Rattle.std.proofs.lemmas.List.Folds.{list_any_at, list_any_more}
+use Rattle.std.specs.List.{list_any}
+use Rattle.ocf_types.specs.Places.{entry_at, no_entry}
+use Rattle.ocf_types.specs.Resource.{Resource}
+use Rattle.ocf_types.specs.State.{State}
+use Rattle.resource_status.specs.Conditions.{condition_of, is_bad}
+use Rattle.status_report.specs.Tables.{IsTableTold, IsToldAs, is_any_bad, is_asked_for}
+use Rattle.status_report.specs.declared.look.Look.{Look}
+use Rattle.exec_faults.specs.declared.fault.Fault.{Fault}
+use Rattle.exec_faults.specs.declared.fault.Fault.TheVariants as fault
+
+-- a resource is asked for and needs attention
+abbrev pub asks : Look → List ℕ × Resource → Bool
+asks look e = is_asked_for look e.0 && is_bad (condition_of e.1.history)
+
+-- a resource needs attention
+pub one_bad : (look : Look) (s : State) (i : ℕ) → i < length s.resources → asks look (entry_at s i) ≡ true → is_any_bad look s ≡ true
+one_bad look s i lt is = list_any_at (asks look) s.resources i no_entry lt is
+
+-- one more resource does not need attention
+pub none_more : (look : Look) (s : State) (i : ℕ) → i < length s.resources → list_any (asks look) (take i s.resources) ≡ false
+    → asks look (entry_at s i) ≡ false → list_any (asks look) (take (i + 1) s.resources) ≡ false
+none_more look s i lt none is = list_any_more (asks look) s.resources i no_entry lt ∙ ap₂ (λ a b. a || b) none is
+
+-- if no table is written, the status ends with the same fault
+pub untold : (T : Type 0) (look : Look) (s : State) (old new : Option (List ℕ)) (f : Fault)
+    → IsTableTold {T = T} look s old new (Err f) → IsToldAs {T = T} look s old new (Err f)
+untold T look s old new fault.NoResource told = told
+untold T look s old new fault.InputOrOutput told = told
+untold T look s old new fault.ReplyMemory told = told
+untold T look s old new fault.Usage told = told
+untold T look s old new fault.Choice told = told
+untold T look s old new fault.TidyAt told = told
+untold T look s old new fault.Root told = told
+untold T look s old new fault.Orphans told = told
+untold T look s old new fault.NotText told = told
+untold T look s old new fault.Log told = told
+untold T look s old new (fault.Damaged damage) told = told
+untold T look s old new fault.Memory told = told
+untold T look s old new fault.NotOpened told = told
+untold T look s old new fault.NoJournal told = told
+untold T look s old new fault.NotWell told = absurd told
+untold T look s old new fault.Disk told = told
+untold T look s old new fault.Full told = told
+untold T look s old new fault.ChildrenIgnored told = told

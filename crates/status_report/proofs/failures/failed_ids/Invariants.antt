@@ -1,0 +1,7 @@
+use Rattle.std.proofs.Common.{◌≡◌, take}
+use Rattle.std.specs.List.{flat_map}
+use Rattle.status_report.specs.Failed.{failed_id}
+use Rattle.status_report.proofs.failures.failed_ids.Given as goal
+
+abbrev pub invariant-loop-place : goal.invariant-loop-place
+invariant-loop-place l = l.ids.items ≡ flat_map (failed_id l.look) (take l.place l.state.state.resources)

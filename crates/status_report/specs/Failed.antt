@@ -1,0 +1,22 @@
+-- The resources that have a failed action.
+use Rattle.std.specs.Prelude.{◌≡◌, ℕ, ◌&&◌, if◌then◌else◌, List, [], ◌∷◌}
+use Rattle.std.specs.List.{flat_map}
+use Rattle.std.specs.Option.{is_some}
+use Rattle.ocf_types.specs.Resource.{Resource}
+use Rattle.ocf_types.specs.State.{State}
+use Rattle.disk_model.specs.Image.{Image}
+use Rattle.exec_journal.specs.Found.{FoundAs}
+use Rattle.status_report.specs.Tables.{is_asked_for}
+use Rattle.status_report.specs.declared.look.Look.{Look}
+
+-- the id of a resource, if it is asked for and has a failed action
+abbrev pub failed_id : Look → List ℕ × Resource → List (List ℕ)
+failed_id look e = if is_asked_for look e.0 && is_some e.1.history.failed then e.0 ∷ [] else []
+
+-- the ids of these resources, in order of registration
+abbrev pub failed_ids : Look → State → List (List ℕ)
+failed_ids look s = flat_map (failed_id look) s.resources
+
+-- the ids of these resources in the state that is found on these parts
+abbrev pub AreFailed : Image → Look → List (List ℕ) → Type 0
+AreFailed reads look ids = (s : State) × FoundAs s reads × (ids ≡ failed_ids look s)

@@ -1,0 +1,8 @@
+pub mod Colours
+pub mod ConditionTexts
+pub mod Failed
+pub mod Reasons
+pub mod Shown
+pub mod StatusLines
+pub mod Tables
+pub mod Told

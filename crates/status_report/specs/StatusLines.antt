@@ -1,0 +1,74 @@
+-- What a status prints for a program: what `show` prints, and then a line of JSON for each resource.
+use Rattle.std.specs.Prelude.{◌≡◌, ℕ, ⊤, true, false, List, [], ◌∷◌, ◌++◌, Option, Some, None, Result, Ok, Err}
+use Rattle.std.specs.List.{flat_map}
+use Rattle.std.specs.Borrow.{Bor}
+use Rattle.std.specs.Io.KnownBytes.{Appends}
+use Rattle.serde_json.specs.Data.{Data}
+use Rattle.serde_json.specs.Written.{compact_text}
+use Rattle.ocf_types.specs.Resource.{Resource}
+use Rattle.ocf_types.specs.State.{State}
+use Rattle.disk_model.specs.Image.{Image}
+use Rattle.exec_journal.specs.Found.{FoundAs, HasDamage}
+use Rattle.exec_faults.specs.declared.fault.Fault.{Fault}
+use Rattle.exec_faults.specs.declared.fault.Fault.TheVariants as fault
+use Rattle.resource_status.specs.Statuses.{resource_data}
+use Rattle.status_report.specs.Reasons.{reason_of}
+use Rattle.status_report.specs.Shown.{IsRegistered, resource_lines, shown}
+use Rattle.status_report.specs.Tables.{asked_entries, is_alarm}
+use Rattle.status_report.specs.declared.look.Look.{Look}
+
+-- the status of a resource, with the reason that is known for its last failure
+abbrev pub status_data : Look → List ℕ × Resource → Data
+status_data look e = resource_data (reason_of look e.0) e
+
+-- the line of a resource
+abbrev pub status_line : Look → List ℕ × Resource → List ℕ
+status_line look e = compact_text (status_data look e) ++ 10 ∷ []
+
+-- the lines of the resources that are asked for, in order of registration
+abbrev pub status_lines : Look → State → List ℕ
+status_lines look s = flat_map (status_line look) (asked_entries look s.resources)
+
+-- what `show` prints, of all resources or of the single one that is asked for
+abbrev pub front_lines : State → Option (Bor (List ℕ)) → List ℕ
+front_lines s None = shown s
+front_lines s (Some id) = resource_lines s id.now
+
+-- all that a status prints of a state for a program
+abbrev pub told_lines : Look → State → List ℕ
+told_lines look s = front_lines s look.only ++ status_lines look s
+
+-- the single resource that is asked for is registered
+abbrev pub IsThere : State → Option (Bor (List ℕ)) → Type 0
+IsThere s None = ⊤
+IsThere s (Some id) = IsRegistered s id.now
+
+-- the single resource that is asked for is not registered
+abbrev pub IsMissed : State → Option (Bor (List ℕ)) → Type 0
+IsMissed s None = ⊥
+IsMissed s (Some id) = ¬ IsRegistered s id.now
+
+-- what is written of a state before the lines of status, by the result
+abbrev pub IsFrontTold : {T : Type 0} → State → Option (Bor (List ℕ)) → Option (List ℕ) → Option (List ℕ) → Result T Fault → Type 0
+IsFrontTold s only old new (Ok done) = IsThere s only × Appends old new (front_lines s only)
+IsFrontTold s only old new (Err fault.NoResource) = IsMissed s only × (new ≡ old)
+IsFrontTold s only old new (Err fault.ReplyMemory) = ⊤
+IsFrontTold s only old new (Err fault.InputOrOutput) = ⊤
+IsFrontTold s only old new (Err _) = ⊥
+
+-- what is written of a state, by the result
+abbrev pub IsLinesTold : {T : Type 0} → Look → State → Option (List ℕ) → Option (List ℕ) → Result T Fault → Type 0
+IsLinesTold look s old new (Ok done) = IsThere s look.only × Appends old new (told_lines look s) × (is_alarm look s ≡ false)
+IsLinesTold look s old new (Err fault.NotWell) = IsThere s look.only × Appends old new (told_lines look s) × (is_alarm look s ≡ true)
+IsLinesTold look s old new (Err fault.NoResource) = IsMissed s look.only × (new ≡ old)
+IsLinesTold look s old new (Err fault.ReplyMemory) = ⊤
+IsLinesTold look s old new (Err fault.InputOrOutput) = ⊤
+IsLinesTold look s old new (Err _) = ⊥
+
+-- what is written, by the result: what a status prints of the state that is found on these parts, or nothing if the parts are not read;
+-- damage that is reported is the damage that is found
+abbrev pub TellsLinesAs : {T : Type 0} → Image → Look → Option (List ℕ) → Option (List ℕ) → Result T Fault → Type 0
+TellsLinesAs reads look old new (Err (fault.Damaged damage)) = HasDamage reads damage × (new ≡ old)
+TellsLinesAs reads look old new (Err fault.Disk) = new ≡ old
+TellsLinesAs reads look old new (Err fault.Memory) = new ≡ old
+TellsLinesAs reads look old new ended = (s : State) × FoundAs s reads × IsLinesTold look s old new ended

@@ -1,0 +1,66 @@
+//! The resources that have a failed action.
+ghost use Rattle.std.specs.Prelude.{◌≡◌, ◌<◌, ◌++◌, length, IfErr, IfOk, IsTrue, OnErr, OnOk};
+ghost use Rattle.exec_journal.specs.Opening.{Opens};
+ghost use Rattle.ocf_types.specs.Places.{entry_at};
+ghost use Rattle.exec_faults.specs.Faults.{HasCause};
+ghost use Rattle.status_report.specs.Failed.{AreFailed, failed_id, failed_ids};
+
+use crate::look::Look;
+use disk_model::Disk;
+use exec_faults::{Fault, opening_fault};
+use exec_journal::Journal;
+use exec_state::State;
+use growth::{Grows, push};
+use ocf_types::{RscId, StateView};
+use std::alloc::{AllocError, Global};
+
+// Adds the id of a resource if it is asked for and has a failed action.
+fn add_failed_id(
+    ids: &mut Vec<RscId>,
+    look: &Look,
+    state: &State,
+    place: usize,
+) -> Result<(), AllocError>
+    requires { place < length state.now.state.resources }
+    ensures ids { OnOk result (ids.new.items
+        ≡ ids.old.items ++ failed_id look.now (entry_at state.now.state place)) }
+    ensures memory { OnErr result (IsTrue ⟦<Global as Grows>⟧.refuses) }
+{
+    let id = state.id_at(place);
+    if look.asks_for(id) && state.failed_at(place).is_some() {
+        push(ids, id.copied())
+    } else {
+        Ok(())
+    }
+}
+
+// The ids of these resources, in order of registration.
+#[tactic(auto, using(crate::proofs::FailedLemmas::id_more))]
+fn failed_ids(alloc: Global, look: &Look, state: &State) -> Result<Vec<RscId>, AllocError>
+    ensures ids { IfOk result (λ ids. ids.items ≡ failed_ids look.now state.now.state) }
+    ensures memory { OnErr result (IsTrue ⟦<Global as Grows>⟧.refuses) }
+{
+    let mut ids = Vec::new(alloc);
+    for place in 0..state.len() {
+        add_failed_id(&mut ids, look, state, place)?;
+    }
+    Ok(ids)
+}
+
+/// Opens a journal without a boot, and returns its disk and the ids of the resources that are asked for and have a failed action, in order
+/// of registration.
+#[tactic(auto, using(exec_faults::proofs::FaultLemmas::opening_cause))]
+pub fn failed<D: Disk + Drop>(alloc: Global, disk: D, look: &Look) -> (D, Result<Vec<RscId>, Fault>)
+    ensures ids { (D.view result.0).honest
+        → IfOk result.1 (λ ids. AreFailed (D.view disk).reads look.now ids.items) }
+    ensures opens { Opens (D.view disk) (D.view result.0) }
+    ensures memory { IfErr result.1 (HasCause ⟦<Global as Grows>⟧.refuses) }
+{
+    match Journal::open(alloc, disk) {
+        Ok((journal, state)) => match failed_ids(alloc, look, &state) {
+            Ok(ids) => (journal.into_disk(), Ok(ids)),
+            Err(_) => (journal.into_disk(), Err(Fault::ReplyMemory)),
+        },
+        Err((fault, disk)) => (disk, Err(opening_fault(fault))),
+    }
+}

@@ -1,0 +1,21 @@
+//! The report on a journal: `show`, and `status` as a table or as lines of JSON.
+#![tactic(auto)]
+
+mod add;
+mod alarm;
+mod alone;
+mod condition_text;
+mod failures;
+mod lines;
+mod look;
+mod shown;
+mod state_lines;
+mod statuses;
+mod table;
+mod told_lines;
+
+pub use failures::failed;
+pub use look::{Look, Reason};
+pub use shown::show;
+pub use statuses::status;
+pub use told_lines::status_json;

@@ -1,0 +1,333 @@
+//! The lines below a resource's row: its last results, its monitors, its last failure and its history.
+ghost use Rattle.std.specs.Prelude.{◌≡◌, ◌<◌, ◌-◌, ◌++◌, length, replicate, option_map, OnOk, IsTrue, OnErr};
+ghost use Rattle.std.specs.List.{flat_map};
+ghost use Rattle.ocf_types.specs.Places.{at_place, id_at};
+ghost use Rattle.resource_status.specs.Results.{last_of};
+ghost use Rattle.status_report.specs.Colours.{colour_of, painted};
+ghost use Rattle.status_report.specs.Reasons.{reason_of};
+ghost use Rattle.status_report.specs.Told.{action_line, failure_line, history_text, is_asked, lines_text, monitor_line, monitor_text};
+ghost use Rattle.status_report.specs.Told.{known_reason_line, past_line, reason_line, result_text, set_in, told_actions};
+
+use crate::add::{add, add_number};
+use crate::condition_text::add_failed;
+use crate::look::Look;
+use exec_state::State;
+use growth::{Grows, append, vec_of};
+use ocf_types::{Action, Ended, Recur, StateView};
+use resource_status::{Tone, add_ago, add_due, add_exactly, add_span, last_run, meaning, tone_of};
+use std::alloc::{AllocError, Global};
+
+// The columns for the name of a line: those of the longest action, and one more. A space follows them.
+const COLUMNS: usize = 13;
+
+/// Adds spaces up to a column, after a text of n columns.
+pub fn pad(text: &mut Vec<u8>, taken: usize, columns: usize) -> Result<(), AllocError>
+    ensures text { OnOk result (text.new.items ≡ text.old.items ++ replicate (columns - taken) 32) }
+    ensures memory { OnErr result (IsTrue ⟦<Global as Grows>⟧.refuses) }
+{
+    for _ in 0..columns.saturating_sub(taken) {
+        add(text, " ")?;
+    }
+    Ok(())
+}
+
+// Begins the line of an action or of a monitor.
+fn begin(text: &mut Vec<u8>, name: &[u8]) -> Result<(), AllocError>
+    ensures text { OnOk result (text.new.items ≡ text.old.items ++ set_in name.now) }
+    ensures memory { OnErr result (IsTrue ⟦<Global as Grows>⟧.refuses) }
+{
+    add(text, "\n  ")?;
+    append(text, name)?;
+    pad(text, name.len(), COLUMNS)?;
+    add(text, " ")
+}
+
+// The control sequence of a terminal for a colour. ECMA-48, SGR.
+fn colour_of(tone: Tone) -> &'static str
+    ensures { result.now ≡ colour_of tone }
+{
+    match tone {
+        Tone::Good => "\x1b[32m",
+        Tone::Notable => "\x1b[33m",
+        Tone::Bad => "\x1b[31m",
+    }
+}
+
+/// Adds a text in its colour, where colours are wanted.
+pub fn add_painted(
+    text: &mut Vec<u8>,
+    colours: bool,
+    tone: Tone,
+    more: &str,
+) -> Result<(), AllocError>
+    ensures text { OnOk result (text.new.items ≡ text.old.items ++ painted colours tone more.now) }
+    ensures memory { OnErr result (IsTrue ⟦<Global as Grows>⟧.refuses) }
+{
+    if !colours {
+        return add(text, more);
+    }
+    add(text, colour_of(tone))?;
+    add(text, more)?;
+    add(text, "\x1b[0m")
+}
+
+// Adds what a result means, in its colour, and how long ago it was.
+fn add_result(text: &mut Vec<u8>, look: &Look, ended: &Ended) -> Result<(), AllocError>
+    ensures text { OnOk result (text.new.items ≡ text.old.items ++ result_text look.now ended.now) }
+    ensures memory { OnErr result (IsTrue ⟦<Global as Grows>⟧.refuses) }
+{
+    let meant = meaning(ended.action, ended.outcome);
+    add_painted(text, look.colours, tone_of(ended.outcome), meant)?;
+    add(text, ", ")?;
+    add_ago(text, look.moment.get(), ended.at.get())
+}
+
+// Whether a result is one of this action, asked for once.
+fn is_asked(action: Action, ended: &Ended) -> bool
+    ensures { result ≡ is_asked action ended.now }
+{
+    ended.action.word().as_bytes() == action.word().as_bytes() && ended.interval == 0
+}
+
+// The last result of an action that was asked for once.
+fn last_asked(state: &State, place: usize, action: Action) -> Option<Ended>
+    requires { place < length state.now.state.resources }
+    ensures { result ≡ last_of (is_asked action) (at_place state.now.state place).history.ended }
+{
+    let mut last = None;
+    for at in 0..state.ended_len(place) {
+        let ended = state.ended_at(place, at);
+        if is_asked(action, &ended) {
+            last = Some(ended);
+        }
+    }
+    last
+}
+
+// Adds the line of an action, if it has a result.
+fn add_action(
+    text: &mut Vec<u8>,
+    look: &Look,
+    state: &State,
+    place: usize,
+    action: Action,
+) -> Result<(), AllocError>
+    requires { place < length state.now.state.resources }
+    ensures text { OnOk result (text.new.items
+        ≡ text.old.items ++ action_line look.now
+        (at_place state.now.state place).history.ended action) }
+    ensures memory { OnErr result (IsTrue ⟦<Global as Grows>⟧.refuses) }
+{
+    match last_asked(state, place, action) {
+        Some(ended) => {
+            begin(text, action.word().as_bytes())?;
+            add_result(text, look, &ended)
+        }
+        None => Ok(()),
+    }
+}
+
+// Adds the last result of each action that was asked for once.
+fn add_actions(
+    text: &mut Vec<u8>,
+    look: &Look,
+    state: &State,
+    place: usize,
+) -> Result<(), AllocError>
+    requires { place < length state.now.state.resources }
+    ensures text { OnOk result (text.new.items
+        ≡ text.old.items ++ flat_map
+        (action_line look.now (at_place state.now.state place).history.ended) told_actions) }
+    ensures memory { OnErr result (IsTrue ⟦<Global as Grows>⟧.refuses) }
+{
+    add_action(text, look, state, place, Action::Monitor)?;
+    add_action(text, look, state, place, Action::Start)?;
+    add_action(text, look, state, place, Action::Promote)?;
+    add_action(text, look, state, place, Action::Demote)?;
+    add_action(text, look, state, place, Action::Stop)?;
+    add_action(text, look, state, place, Action::ReloadAgent)?;
+    add_action(text, look, state, place, Action::ValidateAll)
+}
+
+// Adds the last result of a recurring monitor, and when it is due again.
+fn add_last(
+    text: &mut Vec<u8>,
+    look: &Look,
+    recur: &Recur,
+    last: Option<Ended>,
+) -> Result<(), AllocError>
+    ensures text { OnOk result (text.new.items
+        ≡ text.old.items ++ monitor_text look.now recur.now last) }
+    ensures memory { OnErr result (IsTrue ⟦<Global as Grows>⟧.refuses) }
+{
+    match last {
+        Some(ended) => {
+            add_result(text, look, &ended)?;
+            add(text, "; ")?;
+            add_due(text, look.moment, ended.at, recur.interval)
+        }
+        None => add(text, "no result yet"),
+    }
+}
+
+// Adds the line of a recurring monitor.
+fn add_monitor(
+    alloc: Global,
+    text: &mut Vec<u8>,
+    look: &Look,
+    state: &State,
+    place: usize,
+    recur: &Recur,
+) -> Result<(), AllocError>
+    requires { place < length state.now.state.resources }
+    ensures text { OnOk result (text.new.items
+        ≡ text.old.items ++ monitor_line look.now
+        (at_place state.now.state place).history.ended recur.now) }
+    ensures memory { OnErr result (IsTrue ⟦<Global as Grows>⟧.refuses) }
+{
+    let mut name = vec_of(alloc, b"every ")?;
+    add_exactly(&mut name, u64::from(recur.interval.get()))?;
+    begin(text, name.as_slice())?;
+    add_last(text, look, recur, last_run(state, place, recur.call))
+}
+
+fn add_monitors(
+    alloc: Global,
+    text: &mut Vec<u8>,
+    look: &Look,
+    state: &State,
+    place: usize,
+) -> Result<(), AllocError>
+    requires { place < length state.now.state.resources }
+    ensures text { OnOk result (text.new.items
+        ≡ text.old.items ++ flat_map
+        (monitor_line look.now (at_place state.now.state place).history.ended)
+        (at_place state.now.state place).recurring) }
+    ensures memory { OnErr result (IsTrue ⟦<Global as Grows>⟧.refuses) }
+{
+    for at in 0..state.recurring_len(place) {
+        let recur = state.recurring_at(place, at);
+        add_monitor(alloc, text, look, state, place, &recur)?;
+    }
+    Ok(())
+}
+
+// Adds the line of a reason.
+fn add_known_reason(text: &mut Vec<u8>, reason: &str) -> Result<(), AllocError>
+    ensures text { OnOk result (text.new.items
+        ≡ text.old.items ++ known_reason_line reason.now) }
+    ensures memory { OnErr result (IsTrue ⟦<Global as Grows>⟧.refuses) }
+{
+    begin(text, b"exit reason")?;
+    add(text, reason)
+}
+
+// Adds the reason that the agent gave, if one is known.
+fn add_reason(text: &mut Vec<u8>, reason: Option<&str>) -> Result<(), AllocError>
+    ensures text { OnOk result (text.new.items
+        ≡ text.old.items ++ reason_line (option_map (λ t. t.now) reason.entry)) }
+    ensures memory { OnErr result (IsTrue ⟦<Global as Grows>⟧.refuses) }
+{
+    match reason {
+        Some(reason) => add_known_reason(text, reason),
+        None => Ok(()),
+    }
+}
+
+// Adds the last failure and its reason, if an action has failed.
+fn add_failure(
+    text: &mut Vec<u8>,
+    look: &Look,
+    reason: Option<&str>,
+    failed: &Option<Ended>,
+) -> Result<(), AllocError>
+    ensures text { OnOk result (text.new.items
+        ≡ text.old.items ++ failure_line look.now
+        (option_map (λ t. t.now) reason.entry) failed.now) }
+    ensures memory { OnErr result (IsTrue ⟦<Global as Grows>⟧.refuses) }
+{
+    let Some(ended) = failed else {
+        return Ok(());
+    };
+    begin(text, b"last failure")?;
+    add(text, ended.action.word())?;
+    add(text, ": ")?;
+    add_failed(text, look, ended)?;
+    add_reason(text, reason)
+}
+
+// Adds a line of the history.
+fn add_past(text: &mut Vec<u8>, look: &Look, ended: &Ended) -> Result<(), AllocError>
+    ensures text { OnOk result (text.new.items ≡ text.old.items ++ past_line look.now ended.now) }
+    ensures memory { OnErr result (IsTrue ⟦<Global as Grows>⟧.refuses) }
+{
+    add(text, "\n  call ")?;
+    add_number(text, ended.call.get())?;
+    add(text, ", ")?;
+    add(text, ended.action.word())?;
+    add(text, " of ")?;
+    add_span(text, ended.at.get().saturating_sub(ended.since.get()))?;
+    add(text, ": ")?;
+    add_result(text, look, ended)
+}
+
+// Adds all results, oldest first.
+fn add_results(
+    text: &mut Vec<u8>,
+    look: &Look,
+    state: &State,
+    place: usize,
+) -> Result<(), AllocError>
+    requires { place < length state.now.state.resources }
+    ensures text { OnOk result (text.new.items
+        ≡ text.old.items ++ flat_map (past_line look.now)
+        (at_place state.now.state place).history.ended) }
+    ensures memory { OnErr result (IsTrue ⟦<Global as Grows>⟧.refuses) }
+{
+    for at in 0..state.ended_len(place) {
+        add_past(text, look, &state.ended_at(place, at))?;
+    }
+    Ok(())
+}
+
+// Adds the history, if a single resource is asked for.
+fn add_history(
+    text: &mut Vec<u8>,
+    look: &Look,
+    state: &State,
+    place: usize,
+) -> Result<(), AllocError>
+    requires { place < length state.now.state.resources }
+    ensures text { OnOk result (text.new.items
+        ≡ text.old.items ++ history_text look.now (at_place state.now.state place).history.ended) }
+    ensures memory { OnErr result (IsTrue ⟦<Global as Grows>⟧.refuses) }
+{
+    match look.only {
+        Some(_) => {
+            add(text, "\n  history, oldest first:")?;
+            add_results(text, look, state, place)
+        }
+        None => Ok(()),
+    }
+}
+
+/// Adds the lines below the row of a resource, each after a newline.
+pub fn add_lines(
+    alloc: Global,
+    text: &mut Vec<u8>,
+    look: &Look,
+    state: &State,
+    place: usize,
+) -> Result<(), AllocError>
+    requires { place < length state.now.state.resources }
+    ensures text { OnOk result (text.new.items
+        ≡ text.old.items ++ lines_text look.now
+        (reason_of look.now (id_at state.now.state place)) (at_place state.now.state place)) }
+    ensures memory { OnErr result (IsTrue ⟦<Global as Grows>⟧.refuses) }
+{
+    add_actions(text, look, state, place)?;
+    add_monitors(alloc, text, look, state, place)?;
+    let reason = look.reason_of(state.id_at(place));
+    add_failure(text, look, reason, &state.failed_at(place))?;
+    add_history(text, look, state, place)
+}
