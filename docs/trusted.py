@@ -1,8 +1,8 @@
 #!/usr/bin/env python3
-"""The places of the program that are trusted and not proved: each has a comment `// TRUSTED:` that says what is trusted of it. They stand
-in docs/TRUSTED.txt by files, with the count of lines of each.
+"""The trusted places of the program, which are not proved: each has a comment `// TRUSTED:` that says what is trusted. docs/TRUSTED.txt
+lists them by files, with the number of lines of each file.
 Use: trusted.py            writes docs/TRUSTED.txt
-     trusted.py --check    fails where that file is not what would be written"""
+     trusted.py --check    fails if that file is not what would be written"""
 import os
 import re
 import sys
@@ -14,7 +14,7 @@ PLACE = re.compile(r"^\s*// TRUSTED: (.*)$")
 
 
 def sources():
-    """The files of the crates, by name, but for those that rt made."""
+    """The files of the crates, by name, except those that rt generates."""
     for folder, folders, names in sorted(os.walk(os.path.join(TOP, "crates"))):
         folders[:] = [name for name in folders if name != "out"]
         for name in sorted(names):
@@ -23,7 +23,7 @@ def sources():
 
 
 def places():
-    """Of each file that has such a place: its name, its count of lines, and the words of the places."""
+    """For each file with such a place: its name, its number of lines, and the texts of the places."""
     for name in sources():
         with open(os.path.join(TOP, name), encoding="utf-8") as file:
             lines = file.read().splitlines()
@@ -33,7 +33,7 @@ def places():
 
 
 def text():
-    """The list: each file with its count of lines, below it its places; and the sum of all."""
+    """The list: each file with its number of lines, and below it its places; and the totals."""
     listed, lines, count = [], 0, 0
     for name, length, found in places():
         listed.append(f"{name}: {length} lines\n")

@@ -235,7 +235,7 @@ class Executor:
         self._sent += 1
 
     def _await(self, found, seconds):
-        """The first result of `found` that is not empty."""
+        """The first value of `found` other than None. Raises Late after this many seconds."""
         until = None if seconds is None else time.monotonic() + seconds
         while (what := found()) is None:
             left = None if until is None else max(0, until - time.monotonic())

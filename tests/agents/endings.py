@@ -223,7 +223,7 @@ class Endings(helper.Check):
 
     @unittest.skipUnless(shutil.which("cc"), "install a C compiler")
     def test_stuck(self):
-        """agents that do not end delay a reply by a fifth of a second, and hold up their own resources alone, but for a stop"""
+        """agents that do not end delay a reply by a fifth of a second, and block only their own resources, except for a stop"""
         self.agent("Stuck", "case $1 in start) sleep 600 ;; esac\n")
         shim = helper.shim("stuck.c", self.here)
         run = self.opened(env={**os.environ, "LD_PRELOAD": shim})

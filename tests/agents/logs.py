@@ -66,7 +66,7 @@ class Logs(WithLogs):
             helper.register(name, "Says", does=does), helper.action(name, "start", timeout=timeout), {"op": "drain"}))
 
     def test_begin_and_end(self):
-        """an agent's words stand between the lines of its begin and of its end"""
+        """an agent's output is between the lines of its begin and of its end"""
         self.ends_with(self.does("exit 6"), code=6)
         self.assertEqual(without_moments(self.read()),
                          "MOMENT call 1 begins as run 1: start, timeout 20000 ms\nstart of web\nstart fails: no such device\n"
@@ -227,7 +227,7 @@ class Logs(WithLogs):
         self.names(done, "web.log: No space left on device")
 
     def test_one_for_all(self):
-        """with --log the same lines have the id in front"""
+        """with --log the same lines begin with the id"""
         log = self.place("log")
         self.ends_with(self.does("exit 0", "--log", log), code=0)
         with open(log, encoding="utf-8") as file:

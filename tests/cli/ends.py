@@ -64,7 +64,7 @@ class Ends(helper.Check):
         self.gone("run", {"op": "drain", "limit": 300}, until=b'{"end":"limit"}\n')
 
     def test_orphans(self):
-        """a reader that goes away while an opening waits for what is left: nothing is recorded, and what is left goes on"""
+        """a reader that goes away while an opening waits for orphans: nothing is recorded, and the orphans live on"""
         self.agent("Sleeper", 'echo $$ > "$OCF_RESKEY_pid"\nsleep 60\n')
         folder, pid_file = self.journal(), self.place("pid")
         words = ["run", "--journal", folder, "--root", self.here, "--orphans"]
@@ -211,11 +211,11 @@ class Ends(helper.Check):
             self.assertEqual(file.read().splitlines()[:2], ["ocfexec: disk", f"{folder}/part-a: {why}"])
 
     def test_removed(self):
-        """a journal that is removed under a run that serves and rests ends it within a second"""
+        """a journal that is removed while serve is idle ends it within a second"""
         self.lost(shutil.rmtree, "No such file or directory (os error 2)")
 
     def test_replaced(self):
-        """a directory that is replaced under a run that serves and rests ends it within a second"""
+        """a directory that is replaced while serve is idle ends it within a second"""
         def replace(folder):
             os.rename(folder, self.place("away"))
             shutil.copytree(self.place("away"), folder)

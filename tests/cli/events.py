@@ -50,7 +50,7 @@ class Events(helper.Check):
                 self.assertEqual(self.events(self.commands(code)), [wanted])
 
     def test_priorities(self):
-        """with its priority where standard error is the system's journal"""
+        """with its priority if standard error is the system's journal"""
         for code, wanted, priority in STARTS:
             with self.subTest(code):
                 self.assertEqual(self.events(self.commands(code), run=helper.explained), [f"<{priority}>{wanted}"])

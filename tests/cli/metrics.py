@@ -76,7 +76,7 @@ def parsed(text):
     return families
 
 
-# The exit codes with which a monitor has found what was expected: that, or the same but degraded.
+# The exit codes with which a monitor has found the expected state, degraded or not.
 EXPECTED = {0: (0, 190), 7: (7,), 8: (8, 191)}
 
 

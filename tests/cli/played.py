@@ -39,7 +39,7 @@ class Run:
         return [text for first, text in self.lines if first == word]
 
     def asked(self):
-        """The requests, in their order, without what was written."""
+        """The requests, in their order, without the output."""
         return [" ".join(line).rstrip() for line in self.lines if line[0] not in (">", "!")]
 
 
@@ -124,7 +124,7 @@ class Rows(Played):
             self.memory([OK, ACCEPTED, none, IDLE], REG, action("r1", "start"), DRAIN, more=[f"start {why}"])
 
     def test_limits(self):
-        """the thirty-third action, the ninth monitor, and what is too long or too large"""
+        """the thirty-third action, the ninth monitor, and values that are too long or too large"""
         starts = [f'{{"call":{call},"key":"r1_stop_0","ok":true}}' for call in range(1, 33)]
         self.memory([OK, *starts, refusal("queue-full", 8)], REG, *[action("r1", "stop")] * 33)
         monitors = [{"op": "recur", "id": "r1", "interval": interval} for interval in range(1, 10)]
@@ -298,7 +298,7 @@ class Fails(Played):
         self.fails("7 input or output", before + unheard, "directory /j", "fail orphans", *self.TOLD, run)
 
     def test_device(self):
-        """each device call fails in turn: the run ends with 5, reports the fault, and what it acknowledged is found again"""
+        """each device call fails in turn: the run ends with 5, reports the fault, and everything acknowledged is found again"""
         whole = [OK, ACCEPTED, STARTED, IDLE, ONE_LISTED]
         for calls in range(200):
             plan = ["directory /j", f"device {calls}", "poll exited 0", *self.TOLD, "ocfexec run --journal /j"]

@@ -155,7 +155,7 @@ class Ready(Service):
         self.is_ready(run, journal=folder, resources=3)
 
     def test_waits(self):
-        """it is not ready while its opening waits for what is left of an interrupted action"""
+        """it is not ready while its opening waits for orphans of an interrupted action"""
         folder = self.journal()
         run = self.serves("--journal", folder, start_new_session=True)
         self.asked(run, register("a", "Ends", code="sleep"), action("a", "start", timeout=60_000))
@@ -388,7 +388,7 @@ class Tags(Service):
         self.assertEqual(run.ends(), 0)
 
     def test_limits(self):
-        """a refusal of what is full or spent has the tag of its line, and so has that of a failed device, but not the last line"""
+        """a refusal for a full queue or a spent number has its line's tag, as has that of a failed device, but not the last line"""
         run = self.serves()
         names = [f"r{place}" for place in range(258)]
         found = self.asked(run, *[tagged(register(name, "Ends"), name) for name in names])

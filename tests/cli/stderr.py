@@ -198,7 +198,7 @@ class StandardError(helper.Check):
                               env={**os.environ, **named}).returncode
 
     def test_program(self):
-        """a program reads one line of a fault, whatever the environment names that is not its standard error"""
+        """a fault is one line, unless the environment names standard error as the stream to the system's journal"""
         other = helper.journal_stream(self.reader)["JOURNAL_STREAM"]
         own = helper.journal_stream(self.writer)["JOURNAL_STREAM"]
         device, inode = own.split(":")

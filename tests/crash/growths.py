@@ -418,7 +418,7 @@ class Growths(helper.Check):
                           {"ok": True, "resources": ["r1"]}])
 
     def test_opening(self):
-        """an opening of what was queued"""
+        """an opening of queued actions"""
         before = self.prepared(helper.register("r1", "Dummy", a="b"), helper.action("r1", "start"), helper.action("r1", "stop"))
         self.sweep(self.words("run"), [Step(LIST), Step(LIST)], before=before)
 

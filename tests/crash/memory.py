@@ -85,7 +85,7 @@ class Memory(helper.Check):
         self.assertTrue(any(status == 7 or refused for status, refused in seen), "a run that found no memory")
 
     def test_stands(self):
-        """what was sent with too little memory is found with enough"""
+        """records made with too little memory are found with enough"""
         for part in (3, 5, 7):
             folder = self.journal(f"journal{part}")
             status, out, err = limited(self.floor + (self.enough - self.floor) * part // 8, ["run", "--journal", folder], ASKED)

@@ -133,15 +133,15 @@ class Orphans(helper.Check):
             self.assertEqual(words.read().split("\0")[1:3], [self.place("resource.d/test/Slow"), "start"], "the old start's pid")
 
     def test_named_at_once(self):
-        """what is left is named at once and lives on, if it is neither waited for nor ended"""
+        """an orphan is named at once and lives on, if it is neither waited for nor ended"""
         self.named(0)
 
     def test_named_late(self):
-        """what is left past the limit is named and lives on, if it is not ended"""
+        """an orphan past the limit is named and lives on, if it is not ended"""
         self.named(700)
 
     def test_lives(self):
-        """in serve the notice has the number of what lives on"""
+        """in serve the notice has the number of the orphan"""
         self.left()
         second = self.opened("--leave-orphans", "--orphans", "0", way="serve")
         _, first = second.awaits(lambda value: True)
@@ -150,7 +150,7 @@ class Orphans(helper.Check):
         self.assertIn(f"pid {first['lives']} of the interrupted start of r1", self.said())
 
     def test_ended_at_the_limit(self):
-        """what is left past the limit is ended, with what it waits for"""
+        """orphans past the limit are ended, with the processes that they wait for"""
         since = self.left(seconds=30)
         second = self.opened("--orphans", "700")
         self.reported(second)
@@ -162,7 +162,7 @@ class Orphans(helper.Check):
         self.assertFalse(os.path.exists(self.log), "the old start never came up")
 
     def test_ended_at_its_timeout(self):
-        """what is left is ended when its own timeout comes, and a start stays down after the stop"""
+        """an orphan is ended at its own timeout, and a start stays down after the stop"""
         since = self.left(timeout=1200, seconds=30)
         second = self.opened()
         self.reported(second)

@@ -84,7 +84,7 @@ class Language(helper.Check):
                 self.ends_at(b"event " + words + b"\n", b"", 1)
 
     def test_names(self):
-        """no two scenarios have one name, and none is named by a number alone"""
+        """no two scenarios have the same name, and no name is only a number"""
         lines = [line for name in scenario_files.subjects() for line in scenario_files.read(name, "scenario").decode().split("\n")]
         names = [line.removeprefix("scenario ") for line in lines if line.startswith("scenario ")]
         twice = sorted({name for name in names if names.count(name) > 1})

@@ -151,7 +151,7 @@ class Format(helper.Check):
         self.assertEqual([row["outcome"] for row in resource["ended"]], [(DROPPED, 0)])
 
     def test_shown(self):
-        """a state with all that one may have, written by hand and shown"""
+        """a state with every possible value, written by hand and shown"""
         text = journal_format.head(epoch=7, snapshot=journal_format.state(FULL))
         journal = self.spelled("journal", journal_format.head() + CLOSED, text + CLOSED)
         self.assertEqual(journal_format.read_state(text[journal_format.HEAD:]), FULL)

@@ -133,7 +133,7 @@ class Journals(helper.Check):
         self.assertEqual((info["queued"], info["running"]["call"], info["failed"], history["results"]), ([3], 1, None, [result]))
 
     def test_reported(self):
-        """what its opening reports, once"""
+        """the report of its opening, sent once"""
         folder = self.spelled("journal", busy(), b"")
         self.assertEqual(helper.run(*self.words(folder), told=LIST).stdout, REPORT)
         self.assertEqual(helper.run(*self.words(folder)).stdout, b"", "opened again")

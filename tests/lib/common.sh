@@ -73,7 +73,7 @@ feed() {
     rm "$here/in"
 }
 
-# Whether more than this many seconds were waited. Use: is_past SECONDS
+# Whether a wait of this many seconds exceeds $patience, scaled up on a busy machine. Use: is_past SECONDS
 is_past() {
     [ "$1" -ge "$patience" ] && [ "$1" -ge $((patience * $(slowness))) ]
 }
@@ -95,12 +95,12 @@ eventually() {
     done
 }
 
-# Whether this many lines of a file contain this. Use: has_lines COUNT PATTERN FILE
+# Whether at least this many lines of a file contain this. Use: has_lines COUNT PATTERN FILE
 has_lines() {
     [ "$(grep -c -e "$2" "$3")" -ge "$1" ]
 }
 
-# Waits until this many lines of a file contain this. Use: awaits COUNT PATTERN FILE
+# Waits until at least this many lines of a file contain this. Use: awaits COUNT PATTERN FILE
 awaits() {
     eventually "$1 lines of $2" "$3" has_lines "$@"
 }

@@ -23,7 +23,7 @@ class Drains(helper.Check):
         self.agent("Sleeper", "exec sleep 10\n")
 
     def test_waits(self):
-        """what ten seconds of waiting take of the processor"""
+        """the processor time of ten seconds of waiting"""
         run = self.heard("run", "--memory", "--root", self.here)
         run.tell(helper.register("r1", "Sleeper"), helper.action("r1", "start", timeout=20000), {"op": "drain"})
         _, end = run.awaits(lambda value: "end" in value)

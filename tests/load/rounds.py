@@ -59,7 +59,7 @@ class Rounds(helper.Check):
         self.assertEqual(run.ends(), 0)
 
     def test_alone(self):
-        """commands are answered at once where nothing follows them"""
+        """a command is answered at once if nothing follows it"""
         for word in ("run", "serve"):
             run = self.heard(word, "--memory")
             for names in (["a"], ["b", "c", "d"]):
@@ -70,7 +70,7 @@ class Rounds(helper.Check):
             self.assertEqual(run.ends(), 0)
 
     def test_moment(self):
-        """what an opening finds queued is dropped at the moment of the opening"""
+        """an opening drops queued actions at its own moment"""
         folder = self.journal()
         done = helper.run("run", "--journal", folder, told=helper.lines(helper.register("r1", "None"), helper.action("r1", "start")))
         self.assertEqual(helper.replies(done.stdout)[1]["call"], 1)

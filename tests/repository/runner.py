@@ -139,7 +139,7 @@ class Runner(helper.Check):
         self.assertIn("no compiler", said)
 
     def test_skipped(self):
-        """what is skipped is named with its reason, a script or one of its checks"""
+        """each skipped script or check is named with its reason"""
         self.script("system/all", 'echo "all.sh: skipped: no moon here"; exit 77\n')
         self.script("system/part", GOOD + 'echo "skipped    0.00 s  part: the sun: it is not there"\n')
         status, said = self.ran()
@@ -148,7 +148,7 @@ class Runner(helper.Check):
         self.assertEqual(sorted(found), ["    tests/system/all.sh: no moon here", "    tests/system/part.sh: the sun: it is not there"])
 
     def test_chosen(self):
-        """names of scripts and of directories choose, and --fast leaves out what is marked slow"""
+        """names of scripts and of directories choose, and --fast leaves out the ones marked slow"""
         for name in ("cli/one", "cli/two", "load/three"):
             self.script(name, GOOD, mark="# check: slow\n" if name == "cli/two" else "")
         for words, count in (([], 3), (["cli"], 2), (["one", "load"], 2), (["two.sh"], 1), (["tests/cli/two.sh"], 1), (["--fast"], 2)):
@@ -162,7 +162,7 @@ class Runner(helper.Check):
         self.assertIn("quick", self.refused("one"))
 
     def test_longest(self):
-        """what took longest when it last ran begins first, and what ran with --fast is counted apart"""
+        """the script that took longest in the last run begins first, and times with --fast are kept apart"""
         self.environment["JOBS"] = "1"
         for name, took in (("one", 0.1), ("two", 0.6), ("three", 0.3)):
             self.script(f"cli/{name}", f"echo {name} >> {self.place('log')}; sleep {took}\n" + GOOD)
@@ -185,7 +185,7 @@ class Runner(helper.Check):
         self.assertEqual(seen, {"one": 2, "two": 2, "alone": 1})
 
     def test_ended(self):
-        """a runner that is ended ends what it runs, and starts nothing more"""
+        """a runner that is ended ends its scripts, and starts no more"""
         for name in ("one", "two", "three"):
             self.script(f"cli/{name}", f"echo $$ > {self.place(name)}; sleep 60\n")
         run = subprocess.Popen(self.words, stdout=subprocess.DEVNULL, env=self.environment)

@@ -293,7 +293,7 @@ class Stamps(helper.Check):
         self.assertEqual(sorted(self.lines()), EVERY[1:])
 
     def test_not_written(self):
-        """if its file cannot be written it says so, tries what it has to, and fails nothing"""
+        """if its file cannot be written it says so, tries the same edits, and fails nothing"""
         os.mkdir(self.place("top/mutants/tried.new"))
         for _ in range(2):
             self.assertIn("cannot be written", self.tries(EVERY, 4, 0))

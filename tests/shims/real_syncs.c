@@ -1,9 +1,9 @@
 /* Notes what a program does with its files, for tests/journal/real_syncs.py: loaded before the C library (LD_PRELOAD), it appends a line to
    the file $LOG for each call that opens, reads, writes, syncs or cuts a file, writes to standard output, or starts a program. A line has
-   the call, the path of the file (`out` for standard output), the offset, the size that was asked for, the answer (an error as its
-   negative number), how many bytes were written, and in hex those that were to be. The log has what was really done; two layers may
-   come between that and the program:
-   - $FAULT, a word and a number N: what becomes of the N-th of the writes by pwrite and of the syncs. `kill` kills the program in it, and
+   the call, the path of the file (`out` for standard output), the offset, the requested size, the answer (an error as its negative
+   number), the number of bytes written, and in hex the bytes to be written. The log has the calls that are really made. Two layers may
+   come between them and the program:
+   - $FAULT, a word and a number N: the fate of the N-th of the writes by pwrite and of the syncs. `kill` kills the program in it, and
      `eio` fails it, a write in its middle and a sync before it is made. `short` makes half of a write. `eintr` interrupts the call
      before anything is made.
    - $SHIM, a lie about syncs: see `lie`.
@@ -122,7 +122,7 @@ static ssize_t device_write(int file, const void *bytes, size_t size, off_t at) 
 
 /* The calls of the program. */
 
-/* A sync of the other part, where the file is a part. */
+/* A sync of the other part, if the file is a part. */
 static int sync_other(const char *call, int file) {
     char path[PATH_MAX];
     size_t last = strlen(strcpy(path, path_of(file))) - 1;
