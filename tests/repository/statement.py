@@ -22,7 +22,7 @@ CHANGES = [
     ("executor/src/laws.rt", "        → (zs : List Event) × FoundAs (after_all start zs) c\n        × Runs",
      "        → (zs : List Event) × FoundAs start c\n        × Runs"),
     ("executor/specs/Runs.antt", "  pub ran : x.ran ≡ interrupted s (moment s x.now)\n", "  pub ran : x.ran ≡ []\n"),
-    ("executor/specs/Lives.antt", "-- what its crash may have left", "-- what is left"),
+    ("executor/specs/Lives.antt", "-- the images that its crash may have left", "-- what is left"),
     ("executor/specs/Lives.antt", "  pub acknowledged : p ≡ x.done.events ++ later\n", ""),
     ("ocf_types/specs/Limits.antt", "longest_result = 84", "longest_result = 85"),
     ("ocf_types/src/reply.rt", "    EpochSpent,\n", ""),

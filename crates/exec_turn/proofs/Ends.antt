@@ -39,13 +39,17 @@ book_full kind look k x from does leaves = record {
   cause = λ bad. let none : ⊥ = cc in absurd none;
 }
 
-module _ {D : Type 0} (look : D → View) (at : ℕ) (k0 k1 : D) (s0 s1 : State) (d0 d1 : Due) (p0 p1 : Place) (a0 a1 : Bool) (from c1 : ChildrenView)
-    (n1 : List Notice) where
+-- the entries of two steps
+both_entries : (was first second : List Entry) {mid now : List Entry} → mid ≡ was ++ first → now ≡ mid ++ second → now ≡ was ++ (first ++ second)
+both_entries was first second one two = two ∙ ap (λ (l : List Entry). l ++ second) one ∙ append_assoc was first second
+
+module _ {D : Type 0} {look : D → View} {at : ℕ} {k0 k1 : D} {s0 s1 : State} {d0 d1 : Due} {p0 p1 : Place} {a0 a1 : Bool} {from c1 : ChildrenView}
+    {n1 : List Notice} where
   -- the batch of results failed
-  results_failed : (kind : TurnKind) (f : DiskFault) (p : PollsRow look k0 k1 (scene s0 d0 p0 at a0) (scene s1 d1 p1 at a1) from c1 n1 (Err f))
+  results_failed : (kind : TurnKind) {f : DiskFault} (p : PollsRow look k0 k1 (scene s0 d0 p0 at a0) (scene s1 d1 p1 at a1) from c1 n1 (Err f))
       → kind turn_end.Disk (scene s0 d0 p0 at a0) (record { entries = polls at p.answers; events = []; pending = results at p.answers }) n1
       → TurnsAs kind look k0 k1 (scene s0 d0 p0 at a0) s1 d1 from c1 n1 turn_end.Disk
-  results_failed kind f p does = record {
+  results_failed kind p does = record {
     effects = record { entries = polls at p.answers; events = []; pending = results at p.answers };
     book = p.book;
     log = p.log;
@@ -57,10 +61,18 @@ module _ {D : Type 0} (look : D → View) (at : ℕ) (k0 k1 : D) (s0 s1 : State)
     cause = λ _. p.cause;
   }
 
+  pub no_results : {f : DiskFault} → PollsRow look k0 k1 (scene s0 d0 p0 at a0) (scene s1 d1 p1 at a1) from c1 n1 (Err f)
+      → Turns look k0 k1 (scene s0 d0 p0 at a0) s1 d1 from c1 n1 turn_end.Disk
+  no_results p = results_failed IsTurn p (inl (p.answers, p.each, refl, p.told_is))
+
+  pub finish_failed : {f : DiskFault} → PollsRow look k0 k1 (scene s0 d0 p0 at a0) (scene s1 d1 p1 at a1) from c1 n1 (Err f)
+      → Finishes look k0 k1 (scene s0 d0 p0 at a0) s1 d1 from c1 n1 turn_end.Disk
+  finish_failed p = results_failed IsFinish p (p.answers, p.each, refl, p.told_is)
+
   -- the batch of results was recorded, and nothing begins
-  results_alone : (u : Unit) → PollsRow look k0 k1 (scene s0 d0 p0 at a0) (scene s1 d1 p1 at a1) from c1 n1 (Ok u)
+  pub finish_done : {u : Unit} → PollsRow look k0 k1 (scene s0 d0 p0 at a0) (scene s1 d1 p1 at a1) from c1 n1 (Ok u)
       → Finishes look k0 k1 (scene s0 d0 p0 at a0) s1 d1 from c1 n1 turn_end.Done
-  results_alone u p = record {
+  finish_done p = record {
     effects = record { entries = polls at p.answers; events = results at p.answers; pending = [] };
     book = p.book;
     log = p.log;
@@ -72,19 +84,19 @@ module _ {D : Type 0} (look : D → View) (at : ℕ) (k0 k1 : D) (s0 s1 : State)
     cause = λ bad. let none : ⊥ = cc in absurd none;
   }
 
-  module _ (u : Unit) (p : PollsRow look k0 k1 (scene s0 d0 p0 at a0) (scene s1 d1 p1 at a1) from c1 n1 (Ok u)) (k2 : D) (s2 : State) (d2 : Due) (p2 : Place) (a2 : Bool)
-      (begun : List Active) where
+  module _ {u : Unit} (p : PollsRow look k0 k1 (scene s0 d0 p0 at a0) (scene s1 d1 p1 at a1) from c1 n1 (Ok u)) where
     due1 : d1 ≡ due_after_all s0 d0 (results at p.answers)
     due1 = ap (λ (x : Scene). x.due) p.moves
 
-    picks : (end : TurnEnd) → PickedAt end (scene s1 d1 p1 at a1) begun
+    picks : (begun : List Active) (end : TurnEnd) → PickedAt end (scene s1 d1 p1 at a1) begun
         → PickedAt end (behind (scene s0 d0 p0 at a0) (results at p.answers)) begun
-    picks end picked = subst (λ (x : Scene). PickedAt end x begun) p.moves picked
+    picks begun end picked = subst (λ (x : Scene). PickedAt end x begun) p.moves picked
 
     -- the batch of begins failed
-    begins_failed : (f : DiskFault) → BeginsRow look k1 k2 (scene s1 d1 p1 at a1) (scene s2 d2 p2 at a2) begun (Err f)
+    pub no_begins : {k2 : D} {s2 : State} {d2 : Due} {p2 : Place} {a2 : Bool} {begun : List Active} {f : DiskFault}
+        → BeginsRow look k1 k2 (scene s1 d1 p1 at a1) (scene s2 d2 p2 at a2) begun (Err f)
         → Turns look k0 k2 (scene s0 d0 p0 at a0) s2 d2 from c1 n1 turn_end.Disk
-    begins_failed f b =
+    no_begins {k2 = k2} {s2 = s2} {begun = begun} b =
         let row = b.recorded in
         let both = joined look k0 k1 k2 s0 s1 s2 (record { entries = polls at p.answers; events = results at p.answers; pending = [] })
         (record { entries = []; events = []; pending = begins at begun }) refl p.crash row.crash in
@@ -93,7 +105,7 @@ module _ {D : Type 0} (look : D → View) (at : ℕ) (k0 k1 : D) (s0 s1 : State)
           book = p.book;
           log = p.log;
           site = p.site;
-          does = inr (inl (p.answers, b.end, begun, p.each, picks b.end b.picked, refl, p.told_is));
+          does = inr (inl (p.answers, b.end, begun, p.each, picks begun b.end b.picked, refl, p.told_is));
           crash =
               subst (λ (did : Effects). Leaves look k0 k2 s0 s2 did) (λ i. record {
                 entries = append-nil (polls at p.answers) i;
@@ -105,8 +117,9 @@ module _ {D : Type 0} (look : D → View) (at : ℕ) (k0 k1 : D) (s0 s1 : State)
           cause = λ _. let increased = row.cause in let older = p.crash.roomy.passed.failures in omega (arith, increased, older);
         }
 
-    module _ (end : TurnEnd) (b : BeginsRow look k1 k2 (scene s1 d1 p1 at a1) (scene s2 d2 p2 at a2) begun (Ok end))
-        (lawful : (look k2).honest → Lawful (look k2)) (k3 : D) (s3 : State) (d3 : Due) (p3 : Place) (a3 : Bool) (c2 : ChildrenView) (n3 : List Notice) where
+    module _ {k2 : D} {s2 : State} {d2 : Due} {p2 : Place} {a2 : Bool} {begun : List Active} {end : TurnEnd}
+        (b : BeginsRow look k1 k2 (scene s1 d1 p1 at a1) (scene s2 d2 p2 at a2) begun (Ok end))
+        (lawful : (look k2).honest → Lawful (look k2)) where
       abbrev before : List Event
       before = results at p.answers ++ begins at begun
 
@@ -126,20 +139,9 @@ module _ {D : Type 0} (look : D → View) (at : ℕ) (k0 k1 : D) (s0 s1 : State)
       picked : PickedAt end (scene s1 d1 p1 at a1) begun
       picked = subst (λ (e : TurnEnd). PickedAt e (scene s1 d1 p1 at a1) begun) (sym b.ended) b.picked
 
-      module _ (answers : List Started) (each : map (λ a. a.what) answers ≡ begun)
-          (book2 : c2.book ≡ c1.book ++ starts (look k2).clock answers) where
+      module _ (answers : List Started) (each : map (λ a. a.what) answers ≡ begun) where
         abbrev entries : List Entry
         entries = polls at p.answers ++ starts (look k2).clock answers
-
-        book_all : c2.book ≡ from.book ++ entries
-        book_all =
-            book2 ∙ ap (λ (l : List Entry). l ++ starts (look k2).clock answers) p.book
-            ∙ append_assoc from.book (polls at p.answers) (starts (look k2).clock answers)
-
-        log_all : c2.log ≡ c1.log ++ starts (look k2).clock answers → c2.log ≡ from.log ++ entries
-        log_all log2 =
-            log2 ∙ ap (λ (l : List Entry). l ++ starts (look k2).clock answers) p.log
-            ∙ append_assoc from.log (polls at p.answers) (starts (look k2).clock answers)
 
         begun_leaves : Leaves look k0 k2 s0 s2 (record { entries = entries; events = before; pending = [] })
         begun_leaves =
@@ -147,9 +149,9 @@ module _ {D : Type 0} (look : D → View) (at : ℕ) (k0 k1 : D) (s0 s1 : State)
             (record { entries = starts (look k2).clock answers; events = begins at begun; pending = [] }) refl p.crash
             (then_started look k1 k2 s1 s2 at (look k2).clock begun answers lawful refl each b.recorded.crash)
 
-        ended : (es pending : List Event) → Leaves look k2 k3 s2 s3 (record { entries = []; events = es; pending = pending })
+        ended : (k3 : D) (s3 : State) (es pending : List Event) → Leaves look k2 k3 s2 s3 (record { entries = []; events = es; pending = pending })
             → Leaves look k0 k3 s0 s3 (record { entries = entries; events = before ++ es; pending = pending })
-        ended es pending last =
+        ended k3 s3 es pending last =
             subst (λ (l : List Entry). Leaves look k0 k3 s0 s3 (record { entries = l; events = before ++ es; pending = pending }))
             (append-nil entries)
             (joined look k0 k2 k3 s0 s2 s3 (record { entries = entries; events = before; pending = [] })
@@ -162,23 +164,24 @@ module _ {D : Type 0} (look : D → View) (at : ℕ) (k0 k1 : D) (s0 s1 : State)
           started = answers;
           clock = (look k2).clock;
           each_polled = p.each;
-          picked = picks end picked;
+          picked = picks begun end picked;
           each_started = each;
         }
 
       -- the batch of refused starts failed
-      refusals_failed : (f : DiskFault) → StartsRow look k2 k3 (scene s2 d2 p2 at a2) (scene s3 d3 p3 at a3) begun c1 c2 n1 n3 (Err f)
+      pub no_refusals : {k3 : D} {s3 : State} {d3 : Due} {p3 : Place} {a3 : Bool} {c2 : ChildrenView} {n3 : List Notice} {f : DiskFault}
+          → StartsRow look k2 k3 (scene s2 d2 p2 at a2) (scene s3 d3 p3 at a3) begun c1 c2 n1 n3 (Err f)
           → Turns look k0 k3 (scene s0 d0 p0 at a0) s3 d3 from c2 n3 turn_end.Disk
-      refusals_failed f x = let row = x.recorded in record {
-        effects = record { entries = entries x.answers x.each x.book; events = before; pending = refusals at x.answers };
-        book = book_all x.answers x.each x.book;
-        log = log_all x.answers x.each x.book x.log;
+      no_refusals {k3 = k3} {s3 = s3} x = let row = x.recorded in record {
+        effects = record { entries = entries x.answers x.each; events = before; pending = refusals at x.answers };
+        book = both_entries from.book (polls at p.answers) (starts (look k2).clock x.answers) p.book x.book;
+        log = both_entries from.log (polls at p.answers) (starts (look k2).clock x.answers) p.log x.log;
         site = x.site ∙ p.site;
-        does = inr (inr (end, all_told x.answers x.each x.book, refl, x.told_is ∙ p.told_is));
+        does = inr (inr (end, all_told x.answers x.each, refl, x.told_is ∙ p.told_is));
         crash =
             subst (λ (l : List Event). Leaves look k0 k3 s0 s3
-            (record { entries = entries x.answers x.each x.book; events = l; pending = refusals at x.answers })) (append-nil before)
-            (ended x.answers x.each x.book [] (refusals at x.answers) row.crash);
+            (record { entries = entries x.answers x.each; events = l; pending = refusals at x.answers })) (append-nil before)
+            (ended x.answers x.each k3 s3 [] (refusals at x.answers) row.crash);
         due_is = row.moves.1 ∙ due2;
         whole = λ not. absurd (not refl);
         cause = λ _.
@@ -208,9 +211,10 @@ module _ {D : Type 0} (look : D → View) (at : ℕ) (k0 k1 : D) (s0 s1 : State)
       not_disk turn_end.Disk h is = absurd h.0.0
 
       -- all batches were recorded
-      all_recorded : (z : Unit) → StartsRow look k2 k3 (scene s2 d2 p2 at a2) (scene s3 d3 p3 at a3) begun c1 c2 n1 n3 (Ok z)
+      pub whole_turn : {k3 : D} {s3 : State} {d3 : Due} {p3 : Place} {a3 : Bool} {c2 : ChildrenView} {n3 : List Notice} {z : Unit}
+          → StartsRow look k2 k3 (scene s2 d2 p2 at a2) (scene s3 d3 p3 at a3) begun c1 c2 n1 n3 (Ok z)
           → Turns look k0 k3 (scene s0 d0 p0 at a0) s3 d3 from c2 n3 end
-      all_recorded z x =
+      whole_turn {k3 = k3} {s3 = s3} {d3 = d3} {n3 = n3} x =
           let row = x.recorded in
           let due3 : d3 ≡ due_after_all s0 d0 (before ++ refusals at x.answers) = ap (λ (y : Scene). y.due) row.moves
           ∙ ap (λ (s : State). due_after_all s d2 (refusals at x.answers))
@@ -218,66 +222,23 @@ module _ {D : Type 0} (look : D → View) (at : ℕ) (k0 k1 : D) (s0 s1 : State)
           ∙ sym (after_all-append s0 (results at p.answers) (begins at begun)))
           ∙ ap (λ (d : Due). due_after_all (after_all s0 before) d (refusals at x.answers)) due2
           ∙ sym (due_after_all-append s0 d0 before (refusals at x.answers)) in
-          let did : Effects = record { entries = entries x.answers x.each x.book; events = before ++ refusals at x.answers; pending = [] } in
+          let did : Effects = record { entries = entries x.answers x.each; events = before ++ refusals at x.answers; pending = [] } in
           record {
             effects = did;
-            book = book_all x.answers x.each x.book;
-            log = log_all x.answers x.each x.book x.log;
+            book = both_entries from.book (polls at p.answers) (starts (look k2).clock x.answers) p.book x.book;
+            log = both_entries from.log (polls at p.answers) (starts (look k2).clock x.answers) p.log x.log;
             site = x.site ∙ p.site;
             does = is_whole end (scene s0 d0 p0 at a0) did n3 picked (
-              all_told x.answers x.each x.book,
+              all_told x.answers x.each,
               refl,
               x.told_is
                   ∙ ap (λ (l : List Notice). l ++ refusal_notices at x.answers) p.told_is,
             );
-            crash = ended x.answers x.each x.book (refusals at x.answers) [] row.crash;
+            crash = ended x.answers x.each k3 s3 (refusals at x.answers) [] row.crash;
             due_is = due3;
             whole = λ _. refl;
             cause = λ is. absurd (not_disk end picked is);
           }
-
--- The same, from the contracts of the steps.
-pub no_results : {D : Type 0} {look : D → View} {at : ℕ} {k0 k1 : D} {s0 s1 : State} {d0 d1 : Due} {p0 p1 : Place} {a0 a1 : Bool} {from c1 : ChildrenView}
-    {n1 : List Notice} {f : DiskFault} → PollsRow look k0 k1 (scene s0 d0 p0 at a0) (scene s1 d1 p1 at a1) from c1 n1 (Err f)
-    → Turns look k0 k1 (scene s0 d0 p0 at a0) s1 d1 from c1 n1 turn_end.Disk
-no_results polled =
-    results_failed _ _ _ _ _ _ _ _ _ _ _ _ _ _ _ IsTurn _ polled (inl (polled.answers, polled.each, refl, polled.told_is))
-
-pub finish_failed : {D : Type 0} {look : D → View} {at : ℕ} {k0 k1 : D} {s0 s1 : State} {d0 d1 : Due} {p0 p1 : Place} {a0 a1 : Bool} {from c1 : ChildrenView}
-    {n1 : List Notice} {f : DiskFault} → PollsRow look k0 k1 (scene s0 d0 p0 at a0) (scene s1 d1 p1 at a1) from c1 n1 (Err f)
-    → Finishes look k0 k1 (scene s0 d0 p0 at a0) s1 d1 from c1 n1 turn_end.Disk
-finish_failed polled =
-    results_failed _ _ _ _ _ _ _ _ _ _ _ _ _ _ _ IsFinish _ polled (polled.answers, polled.each, refl, polled.told_is)
-
-pub finish_done : {D : Type 0} {look : D → View} {at : ℕ} {k0 k1 : D} {s0 s1 : State} {d0 d1 : Due} {p0 p1 : Place} {a0 a1 : Bool} {from c1 : ChildrenView}
-    {n1 : List Notice} {u : Unit} → PollsRow look k0 k1 (scene s0 d0 p0 at a0) (scene s1 d1 p1 at a1) from c1 n1 (Ok u)
-    → Finishes look k0 k1 (scene s0 d0 p0 at a0) s1 d1 from c1 n1 turn_end.Done
-finish_done polled = results_alone _ _ _ _ _ _ _ _ _ _ _ _ _ _ _ _ polled
-
-pub no_begins : {D : Type 0} {look : D → View} {at : ℕ} {k0 k1 k2 : D} {s0 s1 s2 : State} {d0 d1 d2 : Due} {p0 p1 p2 : Place} {a0 a1 a2 : Bool} {from c1 : ChildrenView}
-    {n1 : List Notice} {begun : List Active} {f : DiskFault} {u : Unit}
-    → PollsRow look k0 k1 (scene s0 d0 p0 at a0) (scene s1 d1 p1 at a1) from c1 n1 (Ok u)
-    → BeginsRow look k1 k2 (scene s1 d1 p1 at a1) (scene s2 d2 p2 at a2) begun (Err f)
-    → Turns look k0 k2 (scene s0 d0 p0 at a0) s2 d2 from c1 n1 turn_end.Disk
-no_begins polled begins = begins_failed _ _ _ _ _ _ _ _ _ _ _ _ _ _ _ _ polled _ _ _ _ _ _ _ begins
-
-pub no_refusals : {D : Type 0} {look : D → View} {at : ℕ} {k0 k1 k2 k3 : D} {s0 s1 s2 s3 : State} {d0 d1 d2 d3 : Due} {p0 p1 p2 p3 : Place} {a0 a1 a2 a3 : Bool}
-    {from c1 c2 : ChildrenView} {n1 n3 : List Notice} {begun : List Active} {end : TurnEnd} {f : DiskFault} {u : Unit}
-    → ((look k2).honest → Lawful (look k2)) → PollsRow look k0 k1 (scene s0 d0 p0 at a0) (scene s1 d1 p1 at a1) from c1 n1 (Ok u)
-    → BeginsRow look k1 k2 (scene s1 d1 p1 at a1) (scene s2 d2 p2 at a2) begun (Ok end)
-    → StartsRow look k2 k3 (scene s2 d2 p2 at a2) (scene s3 d3 p3 at a3) begun c1 c2 n1 n3 (Err f)
-    → Turns look k0 k3 (scene s0 d0 p0 at a0) s3 d3 from c2 n3 turn_end.Disk
-no_refusals lawful polled begins starts =
-    refusals_failed _ _ _ _ _ _ _ _ _ _ _ _ _ _ _ _ polled _ _ _ _ _ _ _ begins lawful _ _ _ _ _ _ _ _ starts
-
-pub whole_turn : {D : Type 0} {look : D → View} {at : ℕ} {k0 k1 k2 k3 : D} {s0 s1 s2 s3 : State} {d0 d1 d2 d3 : Due} {p0 p1 p2 p3 : Place} {a0 a1 a2 a3 : Bool}
-    {from c1 c2 : ChildrenView} {n1 n3 : List Notice} {begun : List Active} {end : TurnEnd} {u z : Unit}
-    → ((look k2).honest → Lawful (look k2)) → PollsRow look k0 k1 (scene s0 d0 p0 at a0) (scene s1 d1 p1 at a1) from c1 n1 (Ok u)
-    → BeginsRow look k1 k2 (scene s1 d1 p1 at a1) (scene s2 d2 p2 at a2) begun (Ok end)
-    → StartsRow look k2 k3 (scene s2 d2 p2 at a2) (scene s3 d3 p3 at a3) begun c1 c2 n1 n3 (Ok z)
-    → Turns look k0 k3 (scene s0 d0 p0 at a0) s3 d3 from c2 n3 end
-whole_turn lawful polled begins starts =
-    all_recorded _ _ _ _ _ _ _ _ _ _ _ _ _ _ _ _ polled _ _ _ _ _ _ _ begins lawful _ _ _ _ _ _ _ _ starts
 
 -- the same with other notices
 pub polled_told : {D : Type 0} {look : D → View} {k l : D} {x y : Scene} {from to : ChildrenView} {n m : List Notice} {r : Result Unit DiskFault}

@@ -1,14 +1,10 @@
-pub mod PollSteps
-pub mod Polling
-pub mod Results
-pub mod Pieces
-pub mod Ending
-pub mod Starting
 pub mod Choosing
+pub mod Results
+pub mod Polling
+pub mod Starting
 pub mod PickSteps
 pub mod Begun
 pub mod Picking
-pub mod Living
 pub mod Turning
 pub mod Beginning
 pub mod Ends

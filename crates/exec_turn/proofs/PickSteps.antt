@@ -1,16 +1,18 @@
 -- The starts of what has begun, and the batch of begins so far.
-use Rattle.std.proofs.Common.{◌≡◌, ◌⊎◌, inl, inr, ℕ, ◌+◌, ◌<◌, ◌≤◌, List, [], ◌∷◌, ◌++◌, length, take, Some, refl, sym, ap, subst, ◌∙◌, arith}
+use Rattle.std.proofs.Common.{◌≡◌, ◌⊎◌, inl, inr, ℕ, ◌+◌, ◌<◌, ◌≤◌, List, [], ◌∷◌, ◌++◌, length, take, Some, None, refl, sym, ap, subst, ◌∙◌, arith}
 use Rattle.std.specs.List.{AllByRecursion}
 use Rattle.std.proofs.lemmas.Bool.{cases_lt}
-use Rattle.std.proofs.lemmas.List.{length-append, map-append}
+use Rattle.std.proofs.lemmas.List.{append-nil, length-append, map-append}
 use Rattle.ocf_types.specs.Due.{Due}
 use Rattle.ocf_types.specs.Kinds.{Event, Registration}
+use Rattle.ocf_types.specs.Limits.{num_max}
 use Rattle.ocf_types.specs.Params.{ParamList}
 use Rattle.ocf_types.specs.Places.{entry_at, id_at}
 use Rattle.ocf_types.specs.Resource.{Resource}
 use Rattle.ocf_types.specs.Spelling.{spelled_event}
 use Rattle.ocf_types.specs.State.{State}
 use Rattle.ocf_types.specs.declared.operation.Running.{Running}
+use Rattle.ocf_types.specs.declared.reply.TurnEnd.TheVariants as turn_end
 use Rattle.ocf_env.specs.Places.{Call, SiteView}
 use Rattle.exec_journal.specs.Front.{spelled_row}
 use Rattle.exec_journal.specs.Rows.{IsTooLong, kept_free}
@@ -19,9 +21,9 @@ use Rattle.ocf_env.specs.Instances.{registration_of}
 use Rattle.ocf_env.specs.Invocations.{IsInvocation}
 use Rattle.exec_turn.specs.Launches.{IsOfOne, IsStart, all_starting, what_starts}
 use Rattle.exec_state.specs.Store.{Chooses}
-use Rattle.exec_turn.specs.Picks.{ArePicks, Cut, MayBegin, begin_of, begins}
+use Rattle.exec_turn.specs.Picks.{ArePicks, Cut, MayBegin, Picked, begin_of, begins}
 use Rattle.exec_turn.specs.declared.picks.StartOf.{StartOf}
-use Rattle.exec_turn.proofs.Choosing.{picks_cut}
+use Rattle.exec_turn.proofs.Choosing.{picks_cut, picks_more}
 
 -- an invocation of these texts is one of the resource whose texts they are
 pub invoked : (site : SiteView) (id : List ℕ) (r : Resource) (running : Running) (call : Call) (own provider agent : List ℕ) (params : ParamList)
@@ -94,19 +96,54 @@ above n m h = by (cases_lt m n)
     by (inl lt) = lt
     by (inr le) = absurd (h le)
 
--- the picks are cut before the one at an index
-pub cut_at : (s : State) (due : Due) (at next place : ℕ) (bs : List Active) (x : Running) (Why : List Active → Type 0)
-    → place < length s.resources
-    → ArePicks due at s.next_run (take place s.resources) bs → next ≡ s.next_run + length bs
-    → Chooses due at next (entry_at s place) (Some x)
-    → Why (bs ++ record { id = id_at s place; running = x } ∷ []) → Cut s due at bs Why
-cut_at s due at next place bs x Why lt before is now why =
-    let cut = picks_cut due at s.next_run next s.resources place bs x lt before is now in record {
-      next = record { id = id_at s place; running = x };
-      later = cut.0;
-      picks = cut.1;
-      why = why;
-    }
+-- The picks of the resources before an index, under run numbers up to the next one.
+pub record SoFar (s : State) (due : Due) (tail at place next : ℕ) (bs : List Active) : Type 0 where
+  pub picked : ArePicks due at s.next_run (take place s.resources) bs
+  pub next_is : next ≡ s.next_run + length bs
+  pub may : MayBegin s tail at bs
+
+module _ {s : State} {due : Due} {tail at place next : ℕ} {bs : List Active} (p : SoFar s due tail at place next bs)
+    (within : place < length s.resources) where
+  -- the resource at the index picks nothing
+  pub nothing_here : Chooses due at next (entry_at s place) None → SoFar s due tail at (place + 1) next bs
+  nothing_here now = record {
+    picked = subst (λ (l : List Active). ArePicks due at s.next_run (take (place + 1) s.resources) l) (append-nil bs)
+        (picks_more due at s.next_run next s.resources place bs None within p.picked p.next_is now);
+    next_is = p.next_is;
+    may = p.may;
+  }
+
+  -- it picks an action, for which there is no run number, no space in the journal or no memory, or which begins
+  module _ {x : Running} (now : Chooses due at next (entry_at s place) (Some x)) where
+    abbrev here : Active
+    here = record { id = id_at s place; running = x }
+
+    cut_here : (Why : List Active → Type 0) → Why (bs ++ here ∷ []) → Cut s due at bs Why
+    cut_here Why why =
+        let cut = picks_cut due at s.next_run next s.resources place bs x within p.picked p.next_is now in
+        record { next = here; later = cut.0; picks = cut.1; why = why }
+
+    pub spent_here : num_max < next + 1 → Picked turn_end.RunsSpent s due tail at bs
+    spent_here spent = (cut_here (λ more. num_max < s.next_run + length more) (omega (arith, p.next_is, longer bs here, spent)), p.may)
+
+    module _ (drawn : next + 1 ≤ num_max) {size : ℕ} (size_is : length (spelled_row (begins at (bs ++ here ∷ []))) ≡ size) where
+      pub full_here : 8388608 < tail + 5 + size + 1 + 32768 → Picked turn_end.Full s due tail at bs
+      full_here over = (
+        cut_here (λ more. (s.next_run + length more ≤ num_max) × IsTooLong tail (begins at more))
+            (too_long s tail at next size bs here p.next_is drawn size_is over),
+        p.may,
+      )
+
+      pub no_memory_here : tail + 5 + size + 1 + 32768 ≤ 8388608 → Picked turn_end.Memory s due tail at bs
+      no_memory_here fit = (cut_here (MayBegin s tail at) (may_more s tail at next size bs here p.next_is drawn size_is fit), p.may)
+
+      pub begun_here : {later : ℕ} → tail + 5 + size + 1 + 32768 ≤ 8388608 → later ≡ next + 1
+          → SoFar s due tail at (place + 1) later (bs ++ here ∷ [])
+      begun_here fit later_is = record {
+        picked = picks_more due at s.next_run next s.resources place bs (Some x) within p.picked p.next_is now;
+        next_is = omega (arith, p.next_is, longer bs here, later_is);
+        may = may_more s tail at next size bs here p.next_is drawn size_is fit;
+      }
 
 -- the batch with one more begin
 pub row_more : (at : ℕ) (bs : List Active) (a : Active) (row longer_row : List Event) (e : Event) → longer_row ≡ row ++ e ∷ []

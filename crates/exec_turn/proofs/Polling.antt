@@ -1,349 +1,305 @@
--- The entries of polls in the book, and the state after their results.
-use Rattle.std.proofs.Common.{◌≡◌, ⊎_elim, inl, ℕ, ◌+◌, ◌*◌, ◌≤◌, nat_eq, Bool, true, false, cond, if◌then◌else◌, not, List, [], ◌∷◌, ◌++◌, map, length, Option, Some, None, option_to_list, Result, Contains, IsSomeAnd, append_assoc, length-append, refl, sym, ◌∙◌, ap, subst, arith, append-nil}
-use Rattle.std.specs.List.{AllByRecursion, IsDistinct}
-use Rattle.std.specs.Map.{keys_of}
-use Rattle.std.specs.Str.{bytes_eq}
-use Rattle.std.proofs.lemmas.Cmp.{nat_eq_equiv}
-use Rattle.std.proofs.lemmas.List.{length-map, map-append}
-use Rattle.std.proofs.lemmas.List.Elements.{All-from_recursion, Contains-append_cases}
+-- Polls: the entries in the book, the live runs, and the state after the results.
+use Rattle.std.proofs.Common.{◌≡◌, ℕ, ◌+◌, ◌*◌, ◌<◌, ◌≤◌, nat_eq, Bool, true, false, if◌then◌else◌, List, [], ◌∷◌, ◌++◌, map, length, Option, Some, None, option_to_list, Result, Contains, refl, sym, ◌∙◌, ap, subst, arith, append-nil, take, drop, append_assoc}
+use Rattle.std.specs.List.{AllByRecursion, IsDistinct, flat_map}
+use Rattle.std.proofs.lemmas.Grind.{flat_map-append}
+use Rattle.std.proofs.lemmas.List.{drop_more, length-map, map-append, take_more}
+use Rattle.std.proofs.lemmas.Map.Keys.{IsDistinct-head, IsDistinct-tail}
 use Rattle.ocf_types.specs.Laws.{each_append}
-use Rattle.ocf_types.specs.Applies.{Applies, StepApplies}
 use Rattle.ocf_types.specs.Kinds.{Event}
-use Rattle.ocf_types.specs.Lawful.{IsId, IsRunEnd}
-use Rattle.ocf_types.specs.LawfulState.{IsLawfulState}
-use Rattle.ocf_types.specs.Limits.{longest_result}
-use Rattle.ocf_types.specs.Numbers.{IsMoment}
-use Rattle.ocf_types.specs.Resource.{Resource}
-use Rattle.ocf_types.specs.Spelling.{spelled_event}
-use Rattle.ocf_types.specs.State.{IsRegistration, State, after, after_all, resource_at}
-use Rattle.ocf_types.specs.declared.event.Change.TheVariants as change
-use Rattle.ocf_types.specs.declared.event.Step.TheVariants as step
+use Rattle.ocf_types.specs.Places.{entry_at, no_entry}
+use Rattle.ocf_types.specs.State.{State, after, after_all}
 use Rattle.ocf_types.specs.declared.operation.Running.{Running}
 use Rattle.ocf_types.specs.declared.outcome.RunEnd.{RunEnd}
 use Rattle.ocf_types.specs.declared.outcome.RunEnd.TheVariants as run_end
-use Rattle.child_model.specs.Children.{Asked, ChildrenView, IsOfStart, after_kill, after_poll, kill_answer, poll_answer, without_run}
-use Rattle.child_model.specs.Laws.{asked_polls}
-use Rattle.child_model.specs.declared.answer.Entry.{Entry}
+use Rattle.ocf_types.specs.declared.reply.Notice.{Notice}
+use Rattle.child_model.specs.Children.{ChildrenView, after_kill, after_poll, without_run, Asked, IsOfStart, kill_answer, poll_answer}
 use Rattle.child_model.specs.declared.answer.KillFault.{KillFault}
 use Rattle.child_model.specs.declared.answer.Poll.{Poll}
 use Rattle.child_model.specs.declared.answer.Poll.TheVariants as poll
-use Rattle.exec_journal.specs.Front.{AllApply, spelled_row}
-use Rattle.exec_journal.specs.Rows.{are_results}
-use Rattle.exec_ledger.specs.Actives.{Active, active, runs_of}
-use Rattle.exec_turn.specs.Actives.{result_of}
+use Rattle.exec_ledger.specs.Actives.{Active, active_in, active_of, runs_of, active}
+use Rattle.exec_turn.specs.Actives.{notice_of, result_of}
+use Rattle.exec_turn.specs.Polls.{IsPoll, Polled, Polls, after_polls, ending, is_late, ends_of, polled_on, result_notices, results, entries_of, polls, said}
+use Rattle.std.specs.Map.{keys_of}
+use Rattle.std.specs.Str.{bytes_eq}
+use Rattle.std.proofs.lemmas.List.Elements.{All-from_recursion}
+use Rattle.ocf_types.specs.Lawful.{IsRunEnd}
+use Rattle.ocf_types.specs.LawfulState.{IsLawfulState}
+use Rattle.ocf_types.specs.Numbers.{IsMoment}
+use Rattle.child_model.specs.Laws.{asked_polls, fewer, kept}
+use Rattle.child_model.specs.declared.answer.Entry.{Entry}
 use Rattle.exec_turn.specs.AgentsLive.{AgentsLive}
-use Rattle.exec_turn.specs.Polls.{IsPoll, Polled, after_polls, ending, entries_of, is_late, polled_on, polls, results, said}
+use Rattle.exec_turn.specs.Starts.{AllRun}
 use Rattle.exec_ledger.specs.Rows.{MayRecord}
-use Rattle.exec_turn.proofs.Results.{IsActive, RunsIn, distinct_other, each_active, each_middle, each_other, each_runs, length-all_in, middle_apart, others_run, same_keys}
-use Rattle.exec_turn.proofs.PollSteps.{Live, all_live_after, contains_one, live_after, polled_live, room_after, whos}
+use Rattle.exec_turn.proofs.Results.{AtMostOne, ResultsFit, agents_result, all_run, each_ended, each_second, ended_may_record, few_active, never_itself, run_on, same_keys, distinct_second}
 
--- the entries of one poll
-polled_book : (at : ℕ) (x : Running) (answer : Poll) (kill : Result Unit KillFault) (v : ChildrenView)
-    → (polled_on at x answer kill v).book ≡ v.book ++ entries_of at x answer kill
-polled_book at x poll.Running kill v = by (is_late at x)
-  where
-    by : (b : Bool) → (if b then after_kill (after_poll v x.run poll.Running) x.run kill else after_poll v x.run poll.Running).book
-        ≡ v.book ++ said x.run (poll_answer poll.Running) ∷ (if b then said x.run (kill_answer kill) ∷ [] else [])
-    by true = append_assoc v.book (said x.run (poll_answer poll.Running) ∷ []) (said x.run (kill_answer kill) ∷ [])
-    by false = refl
-polled_book at x (poll.Exited code) kill v = refl
-polled_book at x (poll.Signaled signal) kill v = refl
-polled_book at x poll.Fault kill v = refl
+abbrev pub whos : List Polled → List Active
+whos ps = map (λ p. p.who) ps
 
-polled_last : (at : ℕ) (x : Running) (answer : Poll) (kill : Result Unit KillFault) (v : ChildrenView)
-    → (polled_on at x answer kill v).last_run ≡ v.last_run
-polled_last at x poll.Running kill v = by (is_late at x)
-  where
-    by : (b : Bool) → (if b then after_kill (after_poll v x.run poll.Running) x.run kill else after_poll v x.run poll.Running).last_run
-        ≡ v.last_run
-    by true = refl
-    by false = refl
-polled_last at x (poll.Exited code) kill v = refl
-polled_last at x (poll.Signaled signal) kill v = refl
-polled_last at x poll.Fault kill v = refl
-
--- the book gets their entries, nothing is spawned, and each poll makes two entries at most
-pub polls_book : (at : ℕ) (v : ChildrenView) (ps : List Polled)
-    → ((after_polls at v ps).book ≡ v.book ++ polls at ps) × ((after_polls at v ps).last_run ≡ v.last_run)
-    × (v.room ≤ (after_polls at v ps).room + 2 * length ps)
-polls_book at v [] = (sym (append-nil v.book), refl, omega arith)
-polls_book at v (p ∷ ps) =
-    let x = p.who.running in
-    let entries = entries_of at x p.poll p.kill in
-    let rest = polls_book at (polled_on at x p.poll p.kill v) ps in (
-      rest.0 ∙ ap (λ (l : List Entry). l ++ polls at ps) (polled_book at x p.poll p.kill v) ∙ append_assoc v.book entries (polls at ps),
-      rest.1 ∙ polled_last at x p.poll p.kill v,
-      room_after at (p ∷ ps) v,
-    )
-
--- and so does the log
-polled_log : (at : ℕ) (x : Running) (answer : Poll) (kill : Result Unit KillFault) (v : ChildrenView)
-    → (polled_on at x answer kill v).log ≡ v.log ++ entries_of at x answer kill
-polled_log at x poll.Running kill v = by (is_late at x)
-  where
-    by : (b : Bool) → (if b then after_kill (after_poll v x.run poll.Running) x.run kill else after_poll v x.run poll.Running).log
-        ≡ v.log ++ said x.run (poll_answer poll.Running) ∷ (if b then said x.run (kill_answer kill) ∷ [] else [])
-    by true = append_assoc v.log (said x.run (poll_answer poll.Running) ∷ []) (said x.run (kill_answer kill) ∷ [])
-    by false = refl
-polled_log at x (poll.Exited code) kill v = refl
-polled_log at x (poll.Signaled signal) kill v = refl
-polled_log at x poll.Fault kill v = refl
-
-pub polls_log : (at : ℕ) (v : ChildrenView) (ps : List Polled) → (after_polls at v ps).log ≡ v.log ++ polls at ps
-polls_log at v [] = sym (append-nil v.log)
-polls_log at v (p ∷ ps) =
-    let x = p.who.running in
-    polls_log at (polled_on at x p.poll p.kill v) ps
-    ∙ ap (λ (l : List Entry). l ++ polls at ps) (polled_log at x p.poll p.kill v)
-    ∙ append_assoc v.log (entries_of at x p.poll p.kill) (polls at ps)
-
--- the site that the children insist on stays
-polled_site : (at : ℕ) (x : Running) (answer : Poll) (kill : Result Unit KillFault) (v : ChildrenView)
-    → (polled_on at x answer kill v).site ≡ v.site
-polled_site at x poll.Running kill v = by (is_late at x)
-  where
-    by : (b : Bool) → (if b then after_kill (after_poll v x.run poll.Running) x.run kill else after_poll v x.run poll.Running).site ≡ v.site
-    by true = refl
-    by false = refl
-polled_site at x (poll.Exited code) kill v = refl
-polled_site at x (poll.Signaled signal) kill v = refl
-polled_site at x poll.Fault kill v = refl
-
-pub polls_site : (at : ℕ) (v : ChildrenView) (ps : List Polled) → (after_polls at v ps).site ≡ v.site
-polls_site at v [] = refl
-polls_site at v (p ∷ ps) =
-    polls_site at (polled_on at p.who.running p.poll p.kill v) ps ∙ polled_site at p.who.running p.poll p.kill v
+-- the live runs after a poll, by how the run ended, if it did
+abbrev pub live_after : Option RunEnd → ℕ → List ℕ → List ℕ
+live_after None run live = live
+live_after (Some end) run live = without_run run live
 
 -- no poll and no kill is a start
-poll_unasked : (answer : Poll) → IsOfStart (poll_answer answer) → ⊥
-poll_unasked answer h = h
-
-kill_unasked : (kill : Result Unit KillFault) → IsOfStart (kill_answer kill) → ⊥
-kill_unasked kill h = h
-
 abbrev IsUnasked : Entry → Type 0
 IsUnasked e = IsOfStart e.answer → ⊥
 
-entries_unasked : (at : ℕ) (x : Running) (answer : Poll) (kill : Result Unit KillFault)
-    → AllByRecursion IsUnasked (entries_of at x answer kill)
-entries_unasked at x poll.Running kill = (poll_unasked poll.Running, by (is_late at x))
+-- The children after one poll, by its entries and by how the run ended, if it did.
+record PolledAs (x : Running) (answer : Poll) (entries : List Entry) (end : Option RunEnd) (v w : ChildrenView) : Type 0 where
+  book : w.book ≡ v.book ++ entries
+  log : w.log ≡ v.log ++ entries
+  last : w.last_run ≡ v.last_run
+  site : w.site ≡ v.site
+  live : w.live ≡ live_after end x.run v.live
+  room : v.room ≤ w.room + 2
+  unasked : AllByRecursion IsUnasked entries
+  ends : IsPoll answer → AllByRecursion IsRunEnd (option_to_list end)
+
+polled_once : (x : Running) (answer : Poll) (end : Option RunEnd) (v : ChildrenView)
+    → (after_poll v x.run answer).live ≡ live_after end x.run v.live → (IsPoll answer → AllByRecursion IsRunEnd (option_to_list end))
+    → PolledAs x answer (said x.run (poll_answer answer) ∷ []) end v (after_poll v x.run answer)
+polled_once x answer end v live ends = record {
+  book = refl;
+  log = refl;
+  last = refl;
+  site = refl;
+  live = live;
+  room = omega arith;
+  unasked = ((λ h. h), tt);
+  ends = ends;
+}
+
+polled_as : (at : ℕ) (x : Running) (answer : Poll) (kill : Result Unit KillFault) (v : ChildrenView)
+    → PolledAs x answer (entries_of at x answer kill) (ending at x answer) v (polled_on at x answer kill v)
+polled_as at x poll.Running kill v = by (is_late at x)
   where
-    by : (b : Bool) → AllByRecursion IsUnasked (if b then said x.run (kill_answer kill) ∷ [] else [])
-    by true = (kill_unasked kill, tt)
-    by false = tt
-entries_unasked at x (poll.Exited code) kill = (poll_unasked (poll.Exited code), tt)
-entries_unasked at x (poll.Signaled signal) kill = (poll_unasked (poll.Signaled signal), tt)
-entries_unasked at x poll.Fault kill = (poll_unasked poll.Fault, tt)
+    first : Entry
+    first = said x.run (poll_answer poll.Running)
+
+    last : Entry
+    last = said x.run (kill_answer kill)
+
+    by : (b : Bool) → PolledAs x poll.Running (first ∷ (if b then last ∷ [] else [])) (if b then Some run_end.TimedOut else None) v
+        (if b then after_kill (after_poll v x.run poll.Running) x.run kill else after_poll v x.run poll.Running)
+    by true = record {
+      book = append_assoc v.book (first ∷ []) (last ∷ []);
+      log = append_assoc v.log (first ∷ []) (last ∷ []);
+      last = refl;
+      site = refl;
+      live = refl;
+      room = omega arith;
+      unasked = ((λ h. h), ((λ h. h), tt));
+      ends = λ byte. (tt, tt);
+    }
+    by false = polled_once x poll.Running None v refl (λ byte. tt)
+polled_as at x (poll.Exited code) kill v = polled_once x (poll.Exited code) (Some (run_end.Done code)) v refl (λ byte. (byte, tt))
+polled_as at x (poll.Signaled signal) kill v = polled_once x (poll.Signaled signal) (Some run_end.Signaled) v refl (λ byte. (tt, tt))
+polled_as at x poll.Fault kill v = polled_once x poll.Fault (Some run_end.Lost) v refl (λ byte. (tt, tt))
+
+-- book and log get the entries of polls, nothing is spawned, and each poll makes two entries at most
+pub polls_as : (at : ℕ) (v : ChildrenView) (ps : List Polled)
+    → ((after_polls at v ps).book ≡ v.book ++ polls at ps) × ((after_polls at v ps).log ≡ v.log ++ polls at ps)
+    × ((after_polls at v ps).last_run ≡ v.last_run) × ((after_polls at v ps).site ≡ v.site)
+    × (v.room ≤ (after_polls at v ps).room + 2 * length ps)
+polls_as at v [] = (sym (append-nil v.book), sym (append-nil v.log), refl, refl, omega arith)
+polls_as at v (p ∷ ps) =
+    let x = p.who.running in
+    let entries = entries_of at x p.poll p.kill in
+    let one = polled_as at x p.poll p.kill v in
+    let rest = polls_as at (polled_on at x p.poll p.kill v) ps in (
+      rest.0 ∙ ap (λ (l : List Entry). l ++ polls at ps) one.book ∙ append_assoc v.book entries (polls at ps),
+      rest.1 ∙ ap (λ (l : List Entry). l ++ polls at ps) one.log ∙ append_assoc v.log entries (polls at ps),
+      rest.2 ∙ one.last,
+      rest.3 ∙ one.site,
+      omega (arith, one.room, rest.4),
+    )
+
+-- no poll is a start
+nobody : ChildrenView
+nobody = record { book = []; log = []; room = 0; last_run = 0; live = []; site = None }
 
 polls_unasked : (at : ℕ) (ps : List Polled) → AllByRecursion IsUnasked (polls at ps)
 polls_unasked at [] = tt
 polls_unasked at (p ∷ ps) =
-    each_append IsUnasked (entries_of at p.who.running p.poll p.kill) (polls at ps) (entries_unasked at p.who.running p.poll p.kill)
-    (polls_unasked at ps)
+    each_append IsUnasked (entries_of at p.who.running p.poll p.kill) (polls at ps)
+    (polled_as at p.who.running p.poll p.kill nobody).unasked (polls_unasked at ps)
 
--- no poll is a start
 pub polls_ask_nothing : (at : ℕ) (ps : List Polled) (run clock : ℕ) → Asked (polls at ps) run clock → ⊥
 polls_ask_nothing at ps run clock h =
     asked_polls (polls at ps) run clock (All-from_recursion IsUnasked (polls at ps) (polls_unasked at ps)) h
 
--- how a run ended has an encoding
-ending_lawful : (at : ℕ) (x : Running) (answer : Poll) (end : RunEnd) → ending at x answer ≡ Some end → IsPoll answer → IsRunEnd end
-ending_lawful at x poll.Running end is byte = by (is_late at x) is
-  where
-    by : (b : Bool) → (if b then Some run_end.TimedOut else None) ≡ Some end → IsRunEnd end
-    by true is = let same : run_end.TimedOut ≡ end = cc in subst IsRunEnd same tt
-    by false is = absurd cc
-ending_lawful at x (poll.Exited code) end is byte = let same : run_end.Done code ≡ end = cc in subst IsRunEnd same byte
-ending_lawful at x (poll.Signaled signal) end is byte = let same : run_end.Signaled ≡ end = cc in subst IsRunEnd same tt
-ending_lawful at x poll.Fault end is byte = let same : run_end.Lost ≡ end = cc in subst IsRunEnd same tt
+-- the children where an action that runs is late, and was killed
+pub polled_late : (at : ℕ) (x : Running) (kill : Result Unit KillFault) (v v1 v2 : ChildrenView) → is_late at x ≡ true
+    → v1 ≡ after_poll v x.run poll.Running → v2 ≡ after_kill v1 x.run kill
+    → (v2 ≡ polled_on at x poll.Running kill v) × (Some run_end.TimedOut ≡ ending at x poll.Running)
+polled_late at x kill v v1 v2 late one two = (rw late (two ∙ ap (λ w. after_kill w x.run kill) one), rw late refl)
 
--- the results of one poll, by how the run ended, if it did
-abbrev results_of : ℕ → Active → Option RunEnd → List Event
-results_of at a end = map (result_of at a) (option_to_list end)
+-- one poll, and none
+pub polled_one : (at : ℕ) (id : List ℕ) (x : Running) (o : Option Running) (answer : Poll) (kill : Result Unit KillFault)
+    (old new : ChildrenView) (end : Option RunEnd)
+    → o ≡ Some x → IsPoll answer → new ≡ polled_on at x answer kill old → end ≡ ending at x answer
+    → Polls at (active_of id o) old new (map (result_of at (record { id = id; running = x })) (option_to_list end))
+    (map (notice_of at (record { id = id; running = x })) (option_to_list end))
+polled_one at id x o answer kill old new end is byte children ended =
+    let who : Active = record { id = id; running = x } in record {
+      answers = record { who = who; poll = answer; kill = kill } ∷ [];
+      each = ap (active_of id) (sym is);
+      bytes = (byte, tt);
+      children = children;
+      row_is = ap (λ e. map (result_of at who) (option_to_list e)) ended ∙ sym (append-nil _);
+      told_is = ap (λ e. map (notice_of at who) (option_to_list e)) ended ∙ sym (append-nil _);
+    }
 
--- a result is encoded in this many bytes at most: the law `lengths` of ocf_types
-abbrev pub AreShort : Type 0
-AreShort =
-    (at run : ℕ) (id : List ℕ) (end : RunEnd) → IsId id
-    → length (spelled_event (record { at = at; change = change.Step id (step.Result run end) })) ≤ longest_result
-
--- the conditions under which the result of a poll applies
-abbrev CanEnd : Polled → Type 0
-CanEnd p = IsActive p.who × IsPoll p.poll
-
-result_applies : AreShort → (at : ℕ) (s : State) (a : Active) (end : RunEnd) → IsActive a → IsRunEnd end → s.clock ≤ at → IsMoment at
-    → RunsIn s.resources a → Applies s (result_of at a end)
-result_applies short at s a end active end_is later moment runs = record {
-  spelled = record {
-    lawful = record { at = moment; change = (active.0, (active.1, end_is)) };
-    short = omega (arith, short at a.running.run a.id end active.0);
-  };
-  later = later;
-  change = by (resource_at s a.id) runs;
+pub polled_none : (at : ℕ) (id : List ℕ) (o : Option Running) (v : ChildrenView) → o ≡ None → Polls at (active_of id o) v v [] []
+polled_none at id o v is = record {
+  answers = [];
+  each = ap (active_of id) (sym is);
+  bytes = tt;
+  children = refl;
+  row_is = refl;
+  told_is = refl;
 }
+
+after_polls-append : (at : ℕ) (v : ChildrenView) (ps qs : List Polled)
+    → after_polls at v (ps ++ qs) ≡ after_polls at (after_polls at v ps) qs
+after_polls-append at v [] qs = refl
+after_polls-append at v (p ∷ ps) qs = after_polls-append at (polled_on at p.who.running p.poll p.kill v) ps qs
+
+-- polls of some actions, and then of others
+pub polls_more : (at : ℕ) (xs ys : List Active) (v v1 v2 : ChildrenView) (row more : List Event) (told later : List Notice)
+    → Polls at xs v v1 row told → Polls at ys v1 v2 more later → Polls at (xs ++ ys) v v2 (row ++ more) (told ++ later)
+polls_more at xs ys v v1 v2 row more told later f g = record {
+  answers = f.answers ++ g.answers;
+  each = map-append _ f.answers g.answers ∙ ap (λ (l : List Active). l ++ whos g.answers) f.each ∙ ap (λ (l : List Active). xs ++ l) g.each;
+  bytes = each_append _ f.answers g.answers f.bytes g.bytes;
+  children =
+      g.children ∙ ap (λ (w : ChildrenView). after_polls at w g.answers) f.children ∙ sym (after_polls-append at v f.answers g.answers);
+  row_is =
+      ap (λ (l : List Event). l ++ more) f.row_is ∙ ap (λ (l : List Event). results at f.answers ++ l) g.row_is
+      ∙ sym (flat_map-append _ f.answers g.answers);
+  told_is =
+      ap (λ (l : List Notice). l ++ later) f.told_is ∙ ap (λ (l : List Notice). result_notices at f.answers ++ l) g.told_is
+      ∙ sym (flat_map-append _ f.answers g.answers);
+}
+
+-- another run lives on after a poll
+lives_after : (end : Option RunEnd) (run r : ℕ) (live : List ℕ) → nat_eq run r ≡ false → Contains live r
+    → Contains (live_after end run live) r
+lives_after None run r live apart has = has
+lives_after (Some end) run r live apart has = kept run r live (λ same. never_itself run r apart (sym same)) has
+
+-- these live
+abbrev pub Live : List ℕ → List ℕ → Type 0
+Live live runs = AllByRecursion (λ run. Contains live run) runs
+
+all_live_after : (end : Option RunEnd) (run : ℕ) (live runs : List ℕ) → AllByRecursion (λ r. nat_eq run r ≡ false) runs → Live live runs
+    → Live (live_after end run live) runs
+all_live_after end run live [] apart has = tt
+all_live_after end run live (r ∷ rs) apart has = (lives_after end run r live apart.0 has.0, all_live_after end run live rs apart.1 has.1)
+
+-- after polls the other runs live on
+live_on : (at : ℕ) (ps : List Polled) (v : ChildrenView) (runs : List ℕ) → IsDistinct nat_eq (runs_of (whos ps) ++ runs) → Live v.live runs
+    → Live (after_polls at v ps).live runs
+live_on at [] v runs distinct has = has
+live_on at (p ∷ ps) v runs distinct has =
+    let apart = each_second _ (runs_of (whos ps)) runs (IsDistinct-head nat_eq p.who.running.run (runs_of (whos ps) ++ runs) distinct) in
+    let end = ending at p.who.running p.poll in
+    live_on at ps (polled_on at p.who.running p.poll p.kill v) runs
+    (IsDistinct-tail nat_eq p.who.running.run (runs_of (whos ps) ++ runs) distinct)
+    (subst (λ (live : List ℕ). Live live runs) (sym (polled_as at p.who.running p.poll p.kill v).live)
+    (all_live_after end p.who.running.run v.live runs apart has))
+
+pub others_live : (at : ℕ) (all rest : List Active) (old new : ChildrenView) (row : List Event) (told : List Notice)
+    → Polls at all old new row told
+    → IsDistinct nat_eq (runs_of (all ++ rest)) → Live old.live (runs_of (all ++ rest)) → Live new.live (runs_of rest)
+others_live at all rest old new row told h distinct has =
+    let both : runs_of (all ++ rest) ≡ runs_of all ++ runs_of rest = map-append _ all rest in
+    let distinct_polled : IsDistinct nat_eq (runs_of (whos h.answers) ++ runs_of rest) =
+    subst (λ (l : List Active). IsDistinct nat_eq (runs_of l ++ runs_of rest)) (sym h.each) (subst (IsDistinct nat_eq) both distinct) in
+    let live = each_second _ (runs_of all) (runs_of rest) (subst (Live old.live) both has) in
+    subst (λ (w : ChildrenView). Live w.live (runs_of rest)) (sym h.children) (live_on at h.answers old (runs_of rest) distinct_polled live)
+
+-- the other runs differ
+pub others_distinct : (all rest : List Active) → IsDistinct nat_eq (runs_of (all ++ rest)) → IsDistinct nat_eq (runs_of rest)
+others_distinct all rest distinct =
+    let both : runs_of (all ++ rest) ≡ runs_of all ++ runs_of rest = map-append _ all rest in
+    distinct_second nat_eq (runs_of all) (runs_of rest) (subst (IsDistinct nat_eq) both distinct)
+
+-- the running actions of the resources up to an index, and from an index on
+pub active_more : (s : State) (place : ℕ) → place < length s.resources
+    → flat_map active_in (take (place + 1) s.resources) ≡ flat_map active_in (take place s.resources) ++ active_in (entry_at s place)
+active_more s place within =
+    ap (flat_map active_in) (take_more s.resources place no_entry within)
+    ∙ flat_map-append active_in (take place s.resources) (entry_at s place ∷ [])
+    ∙ ap (λ (l : List Active). flat_map active_in (take place s.resources) ++ l) (append-nil (active_in (entry_at s place)))
+
+pub active_rest : (s : State) (place : ℕ) → place < length s.resources
+    → flat_map active_in (drop place s.resources) ≡ active_in (entry_at s place) ++ flat_map active_in (drop (place + 1) s.resources)
+active_rest s place within = ap (flat_map active_in) (drop_more s.resources place no_entry within)
+
+-- the book's capacity after polls
+pub room_behind : (at : ℕ) (all : List Active) (old new : ChildrenView) (row : List Event) (told : List Notice)
+    → Polls at all old new row told → old.room ≤ new.room + 2 * length all
+room_behind at all old new row told h =
+    let many : length h.answers ≡ length all = sym (length-map h.answers _) ∙ ap (λ (l : List Active). length l) h.each in
+    let room : new.room ≡ (after_polls at old h.answers).room = ap (λ (w : ChildrenView). w.room) h.children in
+    omega (arith, many, room, (polls_as at old h.answers).4)
+
+-- a poll makes at most one result, which has an encoding
+one_ending : (at : ℕ) (p : Polled) → AtMostOne (ends_of at p)
+one_ending at p = by (ending at p.who.running p.poll)
   where
-    runs_as : (o : Option Running) → o ≡ Some a.running → IsSomeAnd o (λ x. x.run ≡ a.running.run)
-    runs_as None is = absurd cc
-    runs_as (Some x) is = let same : x ≡ a.running = cc in ap (λ (y : Running). y.run) same
+    by : (o : Option RunEnd) → AtMostOne (option_to_list o)
+    by None = tt
+    by (Some end) = tt
 
-    by : (o : Option Resource) → IsSomeAnd o (λ r. r.history.running ≡ Some a.running)
-        → IsSomeAnd o (StepApplies s.next_call s.next_run (step.Result a.running.run end))
-    by None h = h
-    by (Some r) h = runs_as r.history.running h
+endings : (at : ℕ) (ps : List Polled) → AllByRecursion (λ p. IsPoll p.poll) ps → AllByRecursion (λ p. AllByRecursion IsRunEnd (ends_of at p)) ps
+endings at [] bytes = tt
+endings at (p ∷ ps) bytes = ((polled_as at p.who.running p.poll p.kill nobody).ends bytes.0, endings at ps bytes.1)
 
--- the results apply one after the other, where all other running actions were polled before and run on
-results_apply : AreShort → (at : ℕ) (s : State) (kept : List Active) (ps : List Polled) → active s ≡ kept ++ whos ps
-    → IsDistinct bytes_eq (keys_of s.resources) → s.clock ≤ at → IsMoment at
-    → AllByRecursion CanEnd ps → AllApply s (results at ps)
-results_apply short at s kept [] is distinct later moment can = tt
-results_apply short at s kept (p ∷ ps) is distinct later moment can =
-    by (ending at p.who.running p.poll) refl
-    (results_apply short at s (kept ++ p.who ∷ []) ps (is ∙ sym (append_assoc kept (p.who ∷ []) (whos ps))) distinct later moment can.1)
-    (λ end. results_apply short at (after s (result_of at p.who end)) kept ps (others_run at s kept p.who (whos ps) end distinct is)
-    (same_keys at s p.who end distinct) (omega arith) moment can.1)
-  where
-    runs : RunsIn s.resources p.who
-    runs =
-        each_middle (RunsIn s.resources) kept p.who (whos ps)
-        (subst (AllByRecursion (RunsIn s.resources)) is (each_runs s.resources distinct))
-
-    by : (end : Option RunEnd) → ending at p.who.running p.poll ≡ end → AllApply s (results at ps)
-        → ((e : RunEnd) → AllApply (after s (result_of at p.who e)) (results at ps))
-        → AllApply s (results_of at p.who end ++ results at ps)
-    by None none same more = same
-    by (Some end) ended same more =
-        (result_applies short at s p.who end can.0.0 (ending_lawful at p.who.running p.poll end ended can.0.1) later moment runs, more end)
-
--- they are short, are results, and register nothing
-results_fit : AreShort → (at : ℕ) (ps : List Polled) → AllByRecursion CanEnd ps → length (spelled_row (results at ps)) ≤ 84 * length ps
-results_fit short at [] can = omega arith
-results_fit short at (p ∷ ps) can = by (ending at p.who.running p.poll) (results_fit short at ps can.1)
-  where
-    by : (end : Option RunEnd) → length (spelled_row (results at ps)) ≤ 84 * length ps
-        → length (spelled_row (results_of at p.who end ++ results at ps)) ≤ 84 * length (p ∷ ps)
-    by None rest = omega (arith, rest)
-    by (Some end) rest =
-        let e = result_of at p.who end in
-        omega (
-          arith,
-          rest,
-          short at p.who.running.run p.who.id end can.0.0.0,
-          length-append (spelled_event e) (spelled_row (results at ps)),
-        )
-
-results_are : (at : ℕ) (ps : List Polled) → are_results (results at ps) ≡ true
-results_are at [] = refl
-results_are at (p ∷ ps) = by (ending at p.who.running p.poll) (results_are at ps)
-  where
-    by : (end : Option RunEnd) → are_results (results at ps) ≡ true → are_results (results_of at p.who end ++ results at ps) ≡ true
-    by None rest = rest
-    by (Some end) rest = rest
-
-results_plain : (at : ℕ) (ps : List Polled) → AllByRecursion (λ e. IsRegistration e.change → ⊥) (results at ps)
-results_plain at [] = tt
-results_plain at (p ∷ ps) = by (ending at p.who.running p.poll) (results_plain at ps)
-  where
-    by : (end : Option RunEnd) → AllByRecursion (λ e. IsRegistration e.change → ⊥) (results at ps)
-        → AllByRecursion (λ e. IsRegistration e.change → ⊥) (results_of at p.who end ++ results at ps)
-    by None rest = rest
-    by (Some end) rest = (λ h. h, rest)
-
-can_end : (ps : List Polled) → AllByRecursion IsActive (whos ps) → AllByRecursion (λ p. IsPoll p.poll) ps → AllByRecursion CanEnd ps
-can_end [] active bytes = tt
-can_end (p ∷ ps) active bytes = ((active.0, bytes.0), can_end ps active.1 bytes.1)
-
--- no more actions run than there are resources
-pub few_active : (s : State) → length (active s) ≤ length s.resources
-few_active s = length-all_in s.resources
+pub each_result : (P : Event → Type 0) (at : ℕ) → ((a : Active) (e : RunEnd) → P (result_of at a e)) → (ps : List Polled)
+    → AllByRecursion P (results at ps)
+each_result P at h ps = each_ended (λ p. p.who) (ends_of at) (one_ending at) P at (λ p e. h p.who e) ps
 
 -- the batch of results of all running actions of a lawful state may be recorded, wherever the tail is
-pub results_may_record : AreShort → (at : ℕ) (s : State) (ps : List Polled) (tail : ℕ) → IsLawfulState s → s.clock ≤ at → IsMoment at
-    → whos ps ≡ active s → AllByRecursion (λ p. IsPoll p.poll) ps
-    → MayRecord s tail (results at ps)
-results_may_record short at s ps tail lawful later moment each bytes =
-    let can = can_end ps (subst (AllByRecursion IsActive) (sym each) (each_active s lawful)) bytes in
+pub results_may_record : ResultsFit → (at : ℕ) (s : State) (ps : List Polled) (tail : ℕ) → IsLawfulState s → s.clock ≤ at → IsMoment at
+    → whos ps ≡ active s → IsDistinct nat_eq (runs_of (active s)) → AllByRecursion (λ p. IsPoll p.poll) ps → MayRecord s tail (results at ps)
+results_may_record fit at s ps tail lawful later moment each apart bytes =
     let many : length ps ≡ length (active s) = sym (length-map ps _) ∙ ap (λ (l : List Active). length l) each in
-    let most = lawful.at_most_256 in
-    record {
-      apply = results_apply short at s [] ps (sym each) lawful.ids later moment can;
-      fits = omega (arith, many, most, few_active s, results_fit short at ps can);
-      plain = results_plain at ps;
-      room = inl (results_are at ps);
-    }
+    ended_may_record (λ p. p.who) (ends_of at) (one_ending at) fit s tail at ps lawful later moment
+    (omega (arith, many, lawful.at_most_256, few_active s.resources)) (subst (AllRun s) (sym each) (all_run s lawful))
+    (subst (λ (l : List Active). IsDistinct nat_eq (runs_of l)) (sym each) apart) (endings at ps bytes)
 
--- live runs without one
-shorter_without : (run : ℕ) (live : List ℕ) → length (without_run run live) ≤ length live
-shorter_without run [] = omega arith
-shorter_without run (y ∷ ys) = by (nat_eq y run) (shorter_without run ys)
+agents_behind : (at : ℕ) (s : State) (ps : List Polled) (v : ChildrenView) → IsDistinct bytes_eq (keys_of s.resources) → AllRun s (whos ps)
+    → IsDistinct nat_eq (runs_of (whos ps)) → AgentsLive s v.live → AgentsLive (after_all s (results at ps)) (after_polls at v ps).live
+agents_behind at s [] v distinct run apart agents = agents
+agents_behind at s (p ∷ ps) v distinct run apart agents =
+    let rest = IsDistinct-tail nat_eq n (runs_of (whos ps)) apart in
+    by (ending at p.who.running p.poll) (polled_as at p.who.running p.poll p.kill v).live
+    (agents_behind at s ps w distinct run.1 rest)
+    (λ e. agents_behind at (after s (result_of at p.who e)) ps w (same_keys s at p.who e distinct)
+    (run_on s at p.who e (whos ps) run.0 (IsDistinct-head nat_eq n (runs_of (whos ps)) apart) run.1) rest)
   where
-    by : (b : Bool) → length (without_run run ys) ≤ length ys
-        → length (cond (not b) (y ∷ without_run run ys) (without_run run ys)) ≤ length (y ∷ ys)
-    by true rest = omega arith
-    by false rest = omega arith
+    n : ℕ
+    n = p.who.running.run
 
-fewer_without : (run : ℕ) (live : List ℕ) → Contains live run → length (without_run run live) + 1 ≤ length live
-fewer_without run [] has = let within = has.1 in absurd (omega arith)
-fewer_without run (y ∷ ys) has = ⊎_elim
-    (λ here.
-    let same : nat_eq y run ≡ true = rw (contains_one y run here) (nat_eq_equiv.refl run) in
-    rw same (let rest = shorter_without run ys in omega (arith, rest)))
-    (λ there. by (nat_eq y run) (fewer_without run ys there))
-    (Contains-append_cases (y ∷ []) ys run has)
-  where
-    by : (b : Bool) → length (without_run run ys) + 1 ≤ length ys
-        → length (cond (not b) (y ∷ without_run run ys) (without_run run ys)) + 1 ≤ length (y ∷ ys)
-    by true rest = omega arith
-    by false rest = omega arith
-
--- one result
-agents_live_after_result : (at : ℕ) (s : State) (kept : List Active) (a : Active) (rest : List Active) (end : RunEnd) (live : List ℕ)
-    → IsDistinct bytes_eq (keys_of s.resources) → active s ≡ kept ++ a ∷ rest
-    → AgentsLive s live → AgentsLive (after s (result_of at a end)) (without_run a.running.run live)
-agents_live_after_result at s kept a rest end live distinct is agents_live =
-    let run = a.running.run in
-    let others : active (after s (result_of at a end)) ≡ kept ++ rest = others_run at s kept a rest end distinct is in
-    let runs : runs_of (active s) ≡ runs_of kept ++ run ∷ runs_of rest = ap runs_of is ∙ map-append _ kept (a ∷ rest) in
-    let later : runs_of (active (after s (result_of at a end))) ≡ runs_of kept ++ runs_of rest = ap runs_of others
-    ∙ map-append _ kept rest in
-    let apart = subst (IsDistinct nat_eq) runs agents_live.distinct in
-    let lives = subst (Live live) runs agents_live.each_lives in
-    let fewer = fewer_without run live (each_middle (λ r. Contains live r) (runs_of kept) run (runs_of rest) lives) in
-    let many : length (active s) ≡ length (kept ++ a ∷ rest) = ap (λ (l : List Active). length l) is in
-    let many_later : length (active (after s (result_of at a end))) ≡ length (kept ++ rest) = ap (λ (l : List Active). length l) others in
-    let few = agents_live.few in
-    record {
-      each_lives = subst (Live (without_run run live)) (sym later)
-          (all_live_after (Some end) run live (runs_of kept ++ runs_of rest)
-          (middle_apart nat_eq nat_eq_equiv (runs_of kept) run (runs_of rest) apart)
-          (each_other (λ r. Contains live r) (runs_of kept) run (runs_of rest) lives));
-      distinct = subst (IsDistinct nat_eq) (sym later) (distinct_other nat_eq nat_eq_equiv (runs_of kept) run (runs_of rest) apart);
-      few = omega (arith, fewer, few, many, many_later, length-append kept (a ∷ rest), length-append kept rest);
-    }
-
-agents_live_behind : (at : ℕ) (s : State) (kept : List Active) (ps : List Polled) (v : ChildrenView) → IsDistinct bytes_eq (keys_of s.resources)
-    → active s ≡ kept ++ whos ps
-    → AgentsLive s v.live → AgentsLive (after_all s (results at ps)) (after_polls at v ps).live
-agents_live_behind at s kept [] v distinct is agents_live = agents_live
-agents_live_behind at s kept (p ∷ ps) v distinct is agents_live =
-    by (ending at p.who.running p.poll) (polled_live at p.who.running p.poll p.kill v)
-    (agents_live_behind at s (kept ++ p.who ∷ []) ps w distinct (is ∙ sym (append_assoc kept (p.who ∷ []) (whos ps))))
-    (λ end. agents_live_behind at (after s (result_of at p.who end)) kept ps w (same_keys at s p.who end distinct)
-    (others_run at s kept p.who (whos ps) end distinct is))
-  where
     w : ChildrenView
     w = polled_on at p.who.running p.poll p.kill v
 
-    by : (end : Option RunEnd) → w.live ≡ live_after end p.who.running.run v.live
+    by : (end : Option RunEnd) → w.live ≡ live_after end n v.live
         → (AgentsLive s w.live → AgentsLive (after_all s (results at ps)) (after_polls at w ps).live)
         → ((e : RunEnd) → AgentsLive (after s (result_of at p.who e)) w.live
         → AgentsLive (after_all (after s (result_of at p.who e)) (results at ps)) (after_polls at w ps).live)
-        → AgentsLive (after_all s (results_of at p.who end ++ results at ps)) (after_polls at w ps).live
-    by None live same more = same (subst (AgentsLive s) (sym live) agents_live)
-    by (Some end) live same more =
-        more end (subst (AgentsLive (after s (result_of at p.who end))) (sym live)
-        (agents_live_after_result at s kept p.who (whos ps) end v.live distinct is agents_live))
+        → AgentsLive (after_all s (map (result_of at p.who) (option_to_list end) ++ results at ps)) (after_polls at w ps).live
+    by None live same more = same (subst (AgentsLive s) (sym live) agents)
+    by (Some e) live same more =
+        more e (subst (AgentsLive (after s (result_of at p.who e))) (sym live)
+        (agents_result s at p.who e v.live (without_run n v.live) distinct run.0
+        (λ m apart has. kept n m v.live (λ same. never_itself n m apart (sym same)) has) (λ has. fewer n v.live has) agents))
 
 -- after the batch of results each running action has its agent process alive
 pub agents_live_after_polls : (at : ℕ) (s : State) (v : ChildrenView) (ps : List Polled) → IsLawfulState s → whos ps ≡ active s → AgentsLive s v.live
     → AgentsLive (after_all s (results at ps)) (after_polls at v ps).live
-agents_live_after_polls at s v ps lawful each agents_live = agents_live_behind at s [] ps v lawful.ids (sym each) agents_live
+agents_live_after_polls at s v ps lawful each agents =
+    agents_behind at s ps v lawful.ids (subst (AllRun s) (sym each) (all_run s lawful))
+    (subst (λ (l : List Active). IsDistinct nat_eq (runs_of l)) (sym each) agents.distinct) agents

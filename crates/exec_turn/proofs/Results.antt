@@ -1,40 +1,42 @@
--- The running actions of a state, and those after a result.
-use Rattle.std.proofs.Common.{◌≡◌, ℕ, ◌≤◌, Bool, true, false, cond, not, List, [], ◌∷◌, ◌++◌, map, filter, length, Option, Some, None, IsSomeAnd, IsTrue, refl, sym, ◌∙◌, ap, subst, arith}
-use Rattle.std.specs.Cmp.{IsEquivalence}
-use Rattle.std.specs.List.{AllByRecursion, IsDistinct}
+-- Results of running actions: they may be recorded, and after each of them one action less runs.
+use Rattle.std.proofs.Common.{◌≡◌, ℕ, ◌≤◌, Bool, true, false, cond, List, [], ◌∷◌, ◌++◌, map, length, Option, Some, None, IsSomeAnd, IsTrue, refl, sym, ◌∙◌, ap, subst, arith, inl, ◌+◌, ◌*◌, ◌<◌, nat_eq, append_assoc, length-append}
+use Rattle.std.specs.List.{AllByRecursion, IsDistinct, flat_map, Contains}
 use Rattle.std.specs.Map.{keys_of, lookup}
 use Rattle.std.specs.Str.{bytes_eq}
-use Rattle.std.proofs.lemmas.Cmp.{nat_list_eq_equiv}
-use Rattle.std.proofs.lemmas.List.Elements.{filter-append}
-use Rattle.std.proofs.lemmas.Map.Keys.{IsDistinct-cons, IsDistinct-head, IsDistinct-tail}
-use Rattle.ocf_types.specs.Lawful.{IsId}
-use Rattle.ocf_types.specs.Laws.{each_append}
+use Rattle.std.proofs.lemmas.Map.Keys.{IsDistinct-head, IsDistinct-tail, IsDistinct-IsPermutation}
+use Rattle.ocf_types.specs.Lawful.{IsId, IsRunEnd}
 use Rattle.ocf_types.specs.LawfulState.{IsLawfulResource, IsLawfulRunning, IsLawfulState}
-use Rattle.ocf_types.specs.Names.{is_rsc_id}
-use Rattle.ocf_types.specs.Numbers.{IsDrawn}
+use Rattle.ocf_types.specs.Numbers.{IsDrawn, IsMoment}
 use Rattle.ocf_types.specs.Resource.{Resource}
-use Rattle.ocf_types.specs.State.{Registry, State, after, at_id, stepped}
+use Rattle.ocf_types.specs.State.{Registry, State, after, at_id, stepped, resource_at, IsRegistration}
 use Rattle.ocf_types.specs.declared.event.Step.TheVariants as step
 use Rattle.ocf_types.specs.declared.operation.Running.{Running}
 use Rattle.ocf_types.specs.declared.outcome.RunEnd.{RunEnd}
-use Rattle.exec_ledger.specs.Actives.{Active, active, active_in, active_of, all_in}
+use Rattle.exec_ledger.specs.Actives.{Active, active, active_in, active_of, all_in, runs_of}
 use Rattle.exec_turn.specs.Actives.{result_of}
-
-abbrev pub ids_of : List Active → List (List ℕ)
-ids_of all = map (λ a. a.id) all
-
--- a fact of the later ones, and of one more where a resource runs an action
-by_running : (P : List Active → Type 0) (id : List ℕ) (o : Option Running) (rest : List Active) → P rest
-    → ((x : Running) → o ≡ Some x → P (record { id = id; running = x } ∷ rest)) → P (active_of id o ++ rest)
-by_running P id None rest none some = none
-by_running P id (Some x) rest none some = some x refl
-
--- no more actions run than there are resources
-pub length-all_in : (rs : Registry) → length (all_in rs) ≤ length rs
-length-all_in [] = omega arith
-length-all_in (e ∷ rs) =
-    let rest = length-all_in rs in
-    by_running (λ l. length l ≤ length (e ∷ rs)) e.0 e.1.history.running (all_in rs) (omega arith) (λ x is. omega arith)
+use Rattle.std.specs.Option.{option_and_then}
+use Rattle.std.proofs.lemmas.List.{map-append, length-map}
+use Rattle.std.proofs.lemmas.List.Concat.{flat_map-append}
+use Rattle.std.proofs.lemmas.Slice.Eq.{bytes_eq-Decides}
+use Rattle.exec_turn.specs.Starts.{RunsUnder, AllRun}
+use Rattle.std.proofs.lemmas.Bool.Decides.{nat_tests, Decides-eqb}
+use Rattle.std.proofs.lemmas.List.Elements.{All-from_recursion, recursion_from_All}
+use Rattle.ocf_types.specs.Applies.{Applies, StepApplies}
+use Rattle.ocf_types.specs.Kinds.{Event, Step}
+use Rattle.ocf_types.specs.Limits.{longest_result, resources_limit}
+use Rattle.ocf_types.specs.Spelling.{spelled_event}
+use Rattle.ocf_types.specs.declared.event.Change.TheVariants as change
+use Rattle.exec_journal.specs.Front.{AllApply, spelled_row}
+use Rattle.exec_journal.specs.Rows.{are_results}
+use Rattle.exec_turn.specs.AgentsLive.{AgentsLive}
+use Rattle.exec_ledger.specs.Rows.{MayRecord}
+use Rattle.std.proofs.lemmas.Cmp.{nat_eq_equiv}
+use Rattle.exec_turn.proofs.Choosing.{own_found}
+use Rattle.std.proofs.lemmas.List.Sorted.{All-permutation, IsPermutation-append_comm, IsPermutation-append_left, IsPermutation-sym, length_permutation}
+use Rattle.std.specs.Prelude.{IsPermutation, ⊤}
+use Rattle.std.proofs.lemmas.Bool.{false_from_ne_true}
+use Rattle.ocf_types.specs.RegistryLaws.{keys-at_id, lookup-at_id_other}
+use Rattle.ocf_types.specs.Laws.{each_weaken}
 
 module _ {A : Type 0} (P : A → Type 0) where
   -- a fact of two lists together holds of each
@@ -46,144 +48,342 @@ module _ {A : Type 0} (P : A → Type 0) where
   each_second [] ys h = h
   each_second (x ∷ xs) ys h = each_second xs ys h.1
 
-  -- a fact of all holds of the one in the middle, and of the others
-  pub each_middle : (xs : List A) (y : A) (ys : List A) → AllByRecursion P (xs ++ y ∷ ys) → P y
-  each_middle xs y ys h = (each_second xs (y ∷ ys) h).0
+  -- a fact of every element
+  pub each_of_all : ((x : A) → P x) → (xs : List A) → AllByRecursion P xs
+  each_of_all h [] = tt
+  each_of_all h (x ∷ xs) = (h x, each_of_all h xs)
 
-  pub each_other : (xs : List A) (y : A) (ys : List A) → AllByRecursion P (xs ++ y ∷ ys) → AllByRecursion P (xs ++ ys)
-  each_other xs y ys h = each_append P xs ys (each_first xs (y ∷ ys) h) (each_second xs (y ∷ ys) h).1
+  -- a fact of each in another order
+  pub each_permuted : (xs ys : List A) → IsPermutation xs ys → AllByRecursion P xs → AllByRecursion P ys
+  each_permuted xs ys same h = recursion_from_All P ys (All-permutation P xs ys same (All-from_recursion P xs h))
 
-module _ {K : Type 0} (eq : K → K → Bool) (laws : IsEquivalence eq) where
-  -- the one in the middle is none of the others
-  pub middle_apart : (xs : List K) (y : K) (ys : List K) → IsDistinct eq (xs ++ y ∷ ys) → AllByRecursion (λ k. eq y k ≡ false) (xs ++ ys)
-  middle_apart [] y ys d = IsDistinct-head eq y ys d
-  middle_apart (x ∷ xs) y ys d =
-      let apart = each_middle (λ k. eq x k ≡ false) xs y ys (IsDistinct-head eq x (xs ++ y ∷ ys) d) in
-      (laws.symm y x ∙ apart, middle_apart xs y ys (IsDistinct-tail eq x (xs ++ y ∷ ys) d))
+  -- two facts of each
+  pub pair_each : (Q : A → Type 0) (xs : List A) → AllByRecursion P xs → AllByRecursion Q xs → AllByRecursion (λ x. P x × Q x) xs
+  pair_each Q [] h k = tt
+  pair_each Q (x ∷ xs) h k = ((h.0, k.0), pair_each Q xs h.1 k.1)
 
-  -- the others are distinct
-  pub distinct_other : (xs : List K) (y : K) (ys : List K) → IsDistinct eq (xs ++ y ∷ ys) → IsDistinct eq (xs ++ ys)
-  distinct_other [] y ys d = IsDistinct-tail eq y ys d
-  distinct_other (x ∷ xs) y ys d =
-      IsDistinct-cons eq x (xs ++ ys) (each_other (λ k. eq x k ≡ false) xs y ys (IsDistinct-head eq x (xs ++ y ∷ ys) d))
-      (distinct_other xs y ys (IsDistinct-tail eq x (xs ++ y ∷ ys) d))
+pub distinct_second : {K : Type 0} (eq : K → K → Bool) (xs ys : List K) → IsDistinct eq (xs ++ ys) → IsDistinct eq ys
+distinct_second eq [] ys d = d
+distinct_second eq (x ∷ xs) ys d = distinct_second eq xs ys (IsDistinct-tail eq x (xs ++ ys) d)
 
-  pub distinct_second : (xs ys : List K) → IsDistinct eq (xs ++ ys) → IsDistinct eq ys
-  distinct_second [] ys d = d
-  distinct_second (x ∷ xs) ys d = distinct_second xs ys (IsDistinct-tail eq x (xs ++ ys) d)
+-- numbers that differ
+pub never_itself : (a b : ℕ) → nat_eq a b ≡ false → a ≡ b → ⊥
+never_itself a b differ same = grind (arith, nat_tests)
 
--- the ids of running actions are distinct, as those of the resources
-ids_apart : (id : List ℕ) (rs : Registry) → AllByRecursion (λ k. bytes_eq id k ≡ false) (keys_of rs)
-    → AllByRecursion (λ k. bytes_eq id k ≡ false) (ids_of (all_in rs))
-ids_apart id [] h = tt
-ids_apart id (e ∷ rs) h =
-    let rest = ids_apart id rs h.1 in
-    by_running (λ l. AllByRecursion (λ k. bytes_eq id k ≡ false) (ids_of l)) e.0 e.1.history.running (all_in rs) rest (λ x is. (h.0, rest))
+pub differs : (n k : ℕ) → (n ≡ k → ⊥) → nat_eq n k ≡ false
+differs n k h = false_from_ne_true _ (λ e. h ((Decides-eqb n k).0 e))
 
-pub ids_distinct : (rs : Registry) → IsDistinct bytes_eq (keys_of rs) → IsDistinct bytes_eq (ids_of (all_in rs))
-ids_distinct [] d = d
-ids_distinct (e ∷ rs) d =
-    let rest = ids_distinct rs (IsDistinct-tail bytes_eq e.0 (keys_of rs) d) in
-    let apart = ids_apart e.0 rs (IsDistinct-head bytes_eq e.0 (keys_of rs) d) in
-    by_running (λ l. IsDistinct bytes_eq (ids_of l)) e.0 e.1.history.running (all_in rs) rest
-    (λ x is. IsDistinct-cons bytes_eq e.0 (ids_of (all_in rs)) apart rest)
-
--- the running actions but that of an id
-abbrev without_id : List ℕ → List Active → List Active
-without_id id all = filter (λ a. not (bytes_eq id a.id)) all
-
-module _ (at : ℕ) (id : List ℕ) (run : ℕ) (end : RunEnd) where
-  abbrev ended_in : Registry → Registry
-  ended_in rs = at_id id (stepped at (step.Result run end)) rs
-
-  filtered : (b : Bool) (key : List ℕ) (o : Option Running) → bytes_eq id key ≡ b
-      → without_id id (active_of key o) ≡ cond b [] (active_of key o)
-  filtered true key None is = refl
-  filtered true key (Some x) is = rw is refl
-  filtered false key None is = refl
-  filtered false key (Some x) is = rw is refl
-
-  one_gone : (e : List ℕ × Resource)
-      → active_in (e.0, cond (bytes_eq id e.0) (stepped at (step.Result run end) e.1) e.1) ≡ without_id id (active_in e)
-  one_gone e = by (bytes_eq id e.0) refl
-    where
-      by : (b : Bool) → bytes_eq id e.0 ≡ b
-          → active_in (e.0, cond b (stepped at (step.Result run end) e.1) e.1) ≡ without_id id (active_in e)
-      by true is = sym (filtered true e.0 e.1.history.running is)
-      by false is = sym (filtered false e.0 e.1.history.running is)
-
-  -- after a result the action of its id runs no more
-  gone : (rs : Registry) → all_in (ended_in rs) ≡ without_id id (all_in rs)
-  gone [] = refl
-  gone (e ∷ rs) =
-      ap (λ (l : List Active). l ++ all_in (ended_in rs)) (one_gone e)
-      ∙ ap (λ (l : List Active). without_id id (active_in e) ++ l) (gone rs)
-      ∙ sym (filter-append (λ a. not (bytes_eq id a.id)) (active_in e) (all_in rs))
-
-  keys_stay : (rs : Registry) → keys_of (ended_in rs) ≡ keys_of rs
-  keys_stay [] = refl
-  keys_stay (e ∷ rs) = ap (λ (ks : List (List ℕ)). e.0 ∷ ks) (keys_stay rs)
-
-all_kept : (id : List ℕ) (xs : List Active) → AllByRecursion (λ k. bytes_eq id k ≡ false) (ids_of xs) → without_id id xs ≡ xs
-all_kept id [] h = refl
-all_kept id (x ∷ xs) h = rw h.0 (ap (λ (l : List Active). x ∷ l) (all_kept id xs h.1))
-
-middle_gone : (kept : List Active) (a : Active) (rest : List Active) → IsDistinct bytes_eq (ids_of (kept ++ a ∷ rest))
-    → without_id a.id (kept ++ a ∷ rest) ≡ kept ++ rest
-middle_gone [] a rest d = rw (nat_list_eq_equiv.refl a.id) (all_kept a.id rest (IsDistinct-head bytes_eq a.id (ids_of rest) d))
-middle_gone (x ∷ xs) a rest d =
-    let apart : bytes_eq x.id a.id ≡ false = middle_of xs (IsDistinct-head bytes_eq x.id (ids_of (xs ++ a ∷ rest)) d) in
-    let other : bytes_eq a.id x.id ≡ false = nat_list_eq_equiv.symm a.id x.id ∙ apart in
-    rw other (ap (λ (l : List Active). x ∷ l) (middle_gone xs a rest (IsDistinct-tail bytes_eq x.id (ids_of (xs ++ a ∷ rest)) d)))
+-- a fact of each running action, from one of each entry
+pub each_active : (Q : List ℕ × Resource → Type 0) (P : Active → Type 0)
+    → ((e : List ℕ × Resource) (x : Running) → Q e → e.1.history.running ≡ Some x → P (record { id = e.0; running = x }))
+    → (rs : Registry) → AllByRecursion Q rs → AllByRecursion P (all_in rs)
+each_active Q P one [] h = tt
+each_active Q P one (e ∷ es) h = by e.1.history.running refl (each_active Q P one es h.1)
   where
-    middle_of : (ys : List Active) → AllByRecursion (λ k. bytes_eq x.id k ≡ false) (ids_of (ys ++ a ∷ rest)) → bytes_eq x.id a.id ≡ false
-    middle_of [] h = h.0
-    middle_of (y ∷ ys) h = middle_of ys h.1
+    by : (o : Option Running) → e.1.history.running ≡ o → AllByRecursion P (all_in es) → AllByRecursion P (active_of e.0 o ++ all_in es)
+    by None is rest = rest
+    by (Some x) is rest = (one e x h.0 is, rest)
 
--- after the result of the action in the middle the others run
-pub others_run : (at : ℕ) (s : State) (kept : List Active) (a : Active) (rest : List Active) (end : RunEnd)
-    → IsDistinct bytes_eq (keys_of s.resources) → active s ≡ kept ++ a ∷ rest
-    → active (after s (result_of at a end)) ≡ kept ++ rest
-others_run at s kept a rest end distinct is =
-    gone at a.id a.running.run end s.resources ∙ ap (without_id a.id) is
-    ∙ middle_gone kept a rest (subst (λ (l : List Active). IsDistinct bytes_eq (ids_of l)) is (ids_distinct s.resources distinct))
+-- no more actions run than there are resources
+pub few_active : (rs : Registry) → length (all_in rs) ≤ length rs
+few_active [] = omega arith
+few_active (e ∷ es) = by e.1.history.running (few_active es)
+  where
+    by : (o : Option Running) → length (all_in es) ≤ length es → length (active_of e.0 o ++ all_in es) ≤ length (e ∷ es)
+    by None rest = omega (arith, rest)
+    by (Some x) rest = omega (arith, rest)
 
-pub same_keys : (at : ℕ) (s : State) (a : Active) (end : RunEnd) → IsDistinct bytes_eq (keys_of s.resources)
+-- each running action of a lawful state runs in the resource of its id
+pub all_run : (s : State) → IsLawfulState s → AllRun s (active s)
+all_run s lawful =
+    each_active (λ e. resource_at s e.0 ≡ Some e.1) (λ a. RunsUnder s a.id a.running.call a.running.run)
+    (λ e x here is. record {
+      running = x;
+      is = ap (λ (o : Option Resource). option_and_then (λ r. r.history.running) o) here ∙ is;
+      call_is = refl;
+      run_is = refl;
+    })
+    s.resources (own_found s.resources lawful.ids)
+
+-- the resource of a running action
+runs_there : (o : Option Resource) (x : Running) → option_and_then (λ r. r.history.running) o ≡ Some x
+    → (r : Resource) × (o ≡ Some r) × (r.history.running ≡ Some x)
+runs_there None x is = absurd (let none : None ≡ Some x = is in cc)
+runs_there (Some r) x is = (r, refl, is)
+
+-- facts of a running action: its resource has an id, and its run is drawn
+abbrev pub IsNamed : Active → Type 0
+IsNamed a = IsId a.id × IsDrawn a.running.run
+
+lookup_holds : (P : List ℕ × Resource → Type 0) (id : List ℕ) (r : Resource) (rs : Registry) → AllByRecursion P rs
+    → lookup (bytes_eq id) rs ≡ Some r → P (id, r)
+lookup_holds P id r [] all at = absurd (let none : None ≡ Some r = at in cc)
+lookup_holds P id r (e ∷ es) all at = by (bytes_eq id e.0) refl (lookup_holds P id r es all.1)
+  where
+    by : (b : Bool) → bytes_eq id e.0 ≡ b → (lookup (bytes_eq id) es ≡ Some r → P (id, r)) → P (id, r)
+    by true same rest =
+        let here : Some e.1 ≡ Some r = rw same at at in
+        let value : e.1 ≡ r = cc in
+        let key : e.0 ≡ id = sym ((bytes_eq-Decides id e.0).0 same) in
+        subst (λ (k : List ℕ). P (k, r)) key (subst (λ (v : Resource). P (e.0, v)) value all.0)
+    by false other rest = rest (rw other at at)
+
+-- they hold in a lawful state
+known : (s : State) (a : Active) → IsLawfulState s → RunsUnder s a.id a.running.call a.running.run
+    → IsNamed a × (a.running.run < s.next_run)
+known s a lawful runs =
+    let there = runs_there (resource_at s a.id) runs.running runs.is in
+    let id : IsId a.id = lookup_holds (λ e. IsId e.0) a.id there.0 s.resources lawful.named there.1 in
+    let resource = lookup_holds
+    (λ e. IsLawfulResource s.next_call s.next_run s.clock e.1) a.id there.0 s.resources lawful.resources there.1 in
+    let running : IsLawfulRunning s.next_call s.next_run s.clock (Some runs.running) = subst
+    (λ (o : Option Running). IsLawfulRunning s.next_call s.next_run s.clock o) there.2 resource.running in
+    ((id, subst IsDrawn runs.run_is running.2), subst (λ n. n < s.next_run) runs.run_is running.3)
+
+-- the runs of running actions are below the next run number
+pub runs_below : (s : State) (all : List Active) → IsLawfulState s → AllRun s all → AllByRecursion (λ n. n < s.next_run) (runs_of all)
+runs_below s [] lawful run = tt
+runs_below s (a ∷ rest) lawful run = ((known s a lawful run.0).1, runs_below s rest lawful run.1)
+
+-- no key is the id
+abbrev IsAbsent : List ℕ → Registry → Type 0
+IsAbsent id rs = AllByRecursion (λ k. bytes_eq id k ≡ false) (keys_of rs)
+
+absent_kept : (id : List ℕ) (f : Resource → Resource) (rs : Registry) → IsAbsent id rs → at_id id f rs ≡ rs
+absent_kept id f [] absent = refl
+absent_kept id f (e ∷ es) absent =
+    ap (λ (b : Bool). (e.0, cond b (f e.1) e.1) ∷ at_id id f es) absent.0 ∙ ap (λ (l : Registry). e ∷ l) (absent_kept id f es absent.1)
+
+-- the entry of an id between the others, and all entries after a change of it
+record Between (id : List ℕ) (f : Resource → Resource) (r : Resource) (rs : Registry) : Type 0 where
+  before : Registry
+  behind : Registry
+  is : rs ≡ before ++ (id, r) ∷ behind
+  changed : at_id id f rs ≡ before ++ (id, f r) ∷ behind
+
+between : (id : List ℕ) (f : Resource → Resource) (r : Resource) (rs : Registry) → IsDistinct bytes_eq (keys_of rs)
+    → lookup (bytes_eq id) rs ≡ Some r → Between id f r rs
+between id f r [] distinct at = absurd (let none : None ≡ Some r = at in cc)
+between id f r (e ∷ es) distinct at = by (bytes_eq id e.0) refl (between id f r es (IsDistinct-tail bytes_eq e.0 (keys_of es) distinct))
+  where
+    by : (b : Bool) → bytes_eq id e.0 ≡ b → (lookup (bytes_eq id) es ≡ Some r → Between id f r es) → Between id f r (e ∷ es)
+    by true same rest =
+        let here : Some e.1 ≡ Some r = rw same at at in
+        let value : e.1 ≡ r = cc in
+        let key : e.0 ≡ id = sym ((bytes_eq-Decides id e.0).0 same) in
+        let absent : IsAbsent id es = subst (λ (k : List ℕ). IsAbsent k es) key (IsDistinct-head bytes_eq e.0 (keys_of es) distinct) in
+        record {
+          before = [];
+          behind = es;
+          is = ap (λ (k : List ℕ). (k, e.1) ∷ es) key ∙ ap (λ (v : Resource). (id, v) ∷ es) value;
+          changed =
+              rw same (ap (λ (k : List ℕ). (k, f e.1) ∷ at_id id f es) key ∙ ap (λ (v : Resource). (id, f v) ∷ at_id id f es) value
+              ∙ ap (λ (l : Registry). (id, f r) ∷ l) (absent_kept id f es absent));
+        }
+    by false other rest =
+        let found = rest (rw other at at) in
+        record {
+          before = e ∷ found.before;
+          behind = found.behind;
+          is = ap (λ (l : Registry). e ∷ l) found.is;
+          changed = rw other (ap (λ (l : Registry). e ∷ l) found.changed);
+        }
+
+abbrev runs_in : Registry → List ℕ
+runs_in rs = runs_of (all_in rs)
+
+-- the runs of one entry first
+entry_first : (before behind : Registry) (e : List ℕ × Resource)
+    → IsPermutation (runs_in (before ++ e ∷ behind)) (runs_of (active_in e) ++ (runs_in before ++ runs_in behind))
+entry_first before behind e =
+    let x = runs_of (active_in e) in
+    let split : runs_in (before ++ e ∷ behind) ≡ runs_in before ++ (x ++ runs_in behind) = ap runs_of (flat_map-append active_in before (e ∷ behind))
+    ∙ map-append (λ (a : Active). a.running.run) (all_in before) (active_in e ++ all_in behind)
+    ∙ ap (λ (l : List ℕ). runs_in before ++ l) (map-append (λ (a : Active). a.running.run) (active_in e) (all_in behind)) in
+    subst (λ (l : List ℕ). IsPermutation l (x ++ (runs_in before ++ runs_in behind)))
+    (append_assoc (runs_in before) x (runs_in behind) ∙ sym split)
+    (subst (λ (l : List ℕ). IsPermutation ((runs_in before ++ x) ++ runs_in behind) l) (append_assoc x (runs_in before) (runs_in behind))
+    (IsPermutation-append_left (runs_in behind) (runs_in before ++ x) (x ++ runs_in before) (IsPermutation-append_comm (runs_in before) x)))
+
+-- the runs of one resource and of all others, before a step of it and after it
+pub stepped_runs : (s : State) (at : ℕ) (id : List ℕ) (what : Step) (r : Resource) → IsDistinct bytes_eq (keys_of s.resources)
+    → resource_at s id ≡ Some r
+    → (others : List ℕ) × IsPermutation (runs_of (active s)) (runs_of (active_in (id, r)) ++ others)
+    × IsPermutation (runs_of (active (after s (record { at = at; change = change.Step id what }))))
+    (runs_of (active_in (id, stepped at what r)) ++ others)
+stepped_runs s at id what r distinct here =
+    let found = between id (stepped at what) r s.resources distinct here in
+    let others = runs_in found.before ++ runs_in found.behind in (
+      others,
+      subst (λ (l : Registry). IsPermutation (runs_in l) (runs_of (active_in (id, r)) ++ others)) (sym found.is)
+          (entry_first found.before found.behind (id, r)),
+      subst (λ (l : Registry). IsPermutation (runs_in l) (runs_of (active_in (id, stepped at what r)) ++ others)) (sym found.changed)
+          (entry_first found.before found.behind (id, stepped at what r)),
+    )
+
+-- after a result each other action has its agent process alive, where these live on
+pub agents_result : (s : State) (at : ℕ) (a : Active) (end : RunEnd) (live later : List ℕ) → IsDistinct bytes_eq (keys_of s.resources)
+    → RunsUnder s a.id a.running.call a.running.run
+    → ((n : ℕ) → nat_eq a.running.run n ≡ false → Contains live n → Contains later n)
+    → (Contains live a.running.run → length later + 1 ≤ length live)
+    → AgentsLive s live → AgentsLive (after s (result_of at a end)) later
+agents_result s at a end live later distinct runs on fewer h =
+    let run = a.running.run in
+    let t = after s (result_of at a end) in
+    let there = runs_there (resource_at s a.id) runs.running runs.is in
+    let stepped_on = stepped_runs s at a.id (step.Result run end) there.0 distinct there.1 in
+    let others = stepped_on.0 in
+    let here : runs_of (active_in (a.id, there.0)) ≡ run ∷ [] = ap (λ (o : Option Running). runs_of (active_of a.id o)) there.2
+    ∙ ap (λ (n : ℕ). n ∷ []) runs.run_is in
+    let was : IsPermutation (runs_of (active s)) (run ∷ others) =
+    subst (λ (l : List ℕ). IsPermutation (runs_of (active s)) (l ++ others)) here stepped_on.1 in
+    let back : IsPermutation others (runs_of (active t)) = IsPermutation-sym (runs_of (active t)) others stepped_on.2 in
+    let apart = IsDistinct-IsPermutation nat_eq nat_eq_equiv.symm (runs_of (active s)) (run ∷ others) was h.distinct in
+    let lives = each_permuted (Contains live) (runs_of (active s)) (run ∷ others) was h.each_lives in
+    let size = length_permutation (runs_of (active s)) (run ∷ others) was in
+    let size2 = length_permutation others (runs_of (active t)) back in
+    record {
+      each_lives = each_permuted (Contains later) others (runs_of (active t)) back
+          (each_weaken (λ n. Contains live n × (nat_eq run n ≡ false)) (Contains later) (λ n g. on n g.1 g.0) others
+          (pair_each (Contains live) (λ n. nat_eq run n ≡ false) others lives.1 (IsDistinct-head nat_eq run others apart)));
+      distinct = IsDistinct-IsPermutation nat_eq nat_eq_equiv.symm others (runs_of (active t)) back (IsDistinct-tail nat_eq run others apart);
+      few = omega (
+        arith,
+        h.few,
+        fewer lives.0,
+        size,
+        size2,
+        length-map (active s) (λ (x : Active). x.running.run),
+        length-map (active t) (λ (x : Active). x.running.run),
+      );
+    }
+
+pub same_keys : (s : State) (at : ℕ) (a : Active) (end : RunEnd) → IsDistinct bytes_eq (keys_of s.resources)
     → IsDistinct bytes_eq (keys_of (after s (result_of at a end)).resources)
-same_keys at s a end distinct = subst (IsDistinct bytes_eq) (sym (keys_stay at a.id a.running.run end s.resources)) distinct
+same_keys s at a end distinct =
+    subst (IsDistinct bytes_eq) (sym (keys-at_id a.id (stepped at (step.Result a.running.run end)) s.resources)) distinct
 
--- an action runs in the resource of its id
-abbrev pub RunsIn : Registry → Active → Type 0
-RunsIn rs a = IsSomeAnd (lookup (bytes_eq a.id) rs) (λ r. r.history.running ≡ Some a.running)
+-- the actions of other runs run on
+pub run_on : (s : State) (at : ℕ) (a : Active) (end : RunEnd) (rest : List Active) → RunsUnder s a.id a.running.call a.running.run
+    → AllByRecursion (λ n. nat_eq a.running.run n ≡ false) (runs_of rest) → AllRun s rest → AllRun (after s (result_of at a end)) rest
+run_on s at a end [] runs apart all = tt
+run_on s at a end (b ∷ rest) runs apart all =
+    let f = stepped at (step.Result a.running.run end) in
+    let there = all.0 in
+    let differ : a.id ≡ b.id → ⊥ = λ same.
+    let both : Some runs.running ≡ Some there.running = sym runs.is
+    ∙ ap (λ (id : List ℕ). option_and_then (λ r. r.history.running) (resource_at s id)) same ∙ there.is in
+    let running : runs.running ≡ there.running = cc in
+    never_itself a.running.run b.running.run apart.0 (sym runs.run_is ∙ ap (λ (x : Running). x.run) running ∙ there.run_is) in (
+      record {
+        running = there.running;
+        is = ap (λ (o : Option Resource). option_and_then (λ r. r.history.running) o) (lookup-at_id_other a.id b.id f s.resources differ)
+            ∙ there.is;
+        call_is = there.call_is;
+        run_is = there.run_is;
+      },
+      run_on s at a end rest runs apart.1 all.1,
+    )
 
-runs_later : (e : List ℕ × Resource) (rs : Registry) (all : List Active) → AllByRecursion (λ k. bytes_eq e.0 k ≡ false) (ids_of all)
-    → AllByRecursion (RunsIn rs) all → AllByRecursion (RunsIn (e ∷ rs)) all
-runs_later e rs [] apart h = tt
-runs_later e rs (a ∷ all) apart h =
-    let other : bytes_eq a.id e.0 ≡ false = nat_list_eq_equiv.symm a.id e.0 ∙ apart.0 in
-    (rw other h.0, runs_later e rs all apart.1 h.1)
+-- the greatest length of a result: the law `lengths` of ocf_types
+abbrev pub ResultsFit : Type 0
+ResultsFit =
+    (at run : ℕ) (id : List ℕ) (end : RunEnd) → IsId id
+    → length (spelled_event (record { at = at; change = change.Step id (step.Result run end) })) ≤ longest_result
 
-pub each_runs : (rs : Registry) → IsDistinct bytes_eq (keys_of rs) → AllByRecursion (RunsIn rs) (all_in rs)
-each_runs [] distinct = tt
-each_runs (e ∷ rs) distinct =
-    let apart = ids_apart e.0 rs (IsDistinct-head bytes_eq e.0 (keys_of rs) distinct) in
-    let rest = runs_later e rs (all_in rs) apart (each_runs rs (IsDistinct-tail bytes_eq e.0 (keys_of rs) distinct)) in
-    by_running (AllByRecursion (RunsIn (e ∷ rs))) e.0 e.1.history.running (all_in rs) rest
-    (λ x is. (rw (nat_list_eq_equiv.refl e.0) is, rest))
+one_applies : ResultsFit → (s : State) (at : ℕ) (a : Active) (end : RunEnd) → IsMoment at → s.clock ≤ at → IsNamed a → IsRunEnd end
+    → RunsUnder s a.id a.running.call a.running.run → Applies s (result_of at a end)
+one_applies fit s at a end moment later named end_is runs =
+    let there = runs_there (resource_at s a.id) runs.running runs.is in
+    let run = a.running.run in
+    record {
+      spelled = record {
+        lawful = record { at = moment; change = (named.0, (named.1, end_is)) };
+        short = omega (arith, fit at run a.id end named.0);
+      };
+      later = later;
+      change =
+          subst (λ (o : Option Resource). IsSomeAnd o (StepApplies s.next_call s.next_run (step.Result run end))) (sym there.1)
+          (subst (λ (o : Option Running). IsSomeAnd o (λ x. x.run ≡ run)) (sym there.2) runs.run_is);
+    }
 
--- a running action of a lawful state has an id and a run
-abbrev pub IsActive : Active → Type 0
-IsActive a = IsId a.id × IsDrawn a.running.run
+-- at most one end
+abbrev pub AtMostOne : List RunEnd → Type 0
+AtMostOne [] = ⊤
+AtMostOne (e ∷ []) = ⊤
+AtMostOne (e ∷ f ∷ es) = ⊥
 
-each_lawful : (next_call next_run clock : ℕ) (rs : Registry) → AllByRecursion (λ e. IsTrue (is_rsc_id e.0)) rs
-    → AllByRecursion (λ e. IsLawfulResource next_call next_run clock e.1) rs
-    → AllByRecursion IsActive (all_in rs)
-each_lawful next_call next_run clock [] named lawful = tt
-each_lawful next_call next_run clock (e ∷ rs) named lawful =
-    let rest = each_lawful next_call next_run clock rs named.1 lawful.1 in
-    let runs = lawful.0.running in
-    by_running (AllByRecursion IsActive) e.0 e.1.history.running (all_in rs) rest
-    (λ x is. let drawn = subst (IsLawfulRunning next_call next_run clock) is runs in ((named.0, drawn.2), rest))
+by_end : (P : List RunEnd → Type 0) (es : List RunEnd) → AtMostOne es → P [] → ((e : RunEnd) → P (e ∷ [])) → P es
+by_end P [] few none one = none
+by_end P (e ∷ []) few none one = one e
+by_end P (e ∷ f ∷ es) few none one = absurd few
 
-pub each_active : (s : State) → IsLawfulState s → AllByRecursion IsActive (active s)
-each_active s lawful = each_lawful s.next_call s.next_run s.clock s.resources lawful.named lawful.resources
+-- Results, at most one of each of these: of polls, or of refused starts.
+module _ {X : Type 0} (who : X → Active) (ends : X → List RunEnd) (one : (x : X) → AtMostOne (ends x)) where
+  abbrev ended : ℕ → List X → List Event
+  ended at xs = flat_map (λ x. map (result_of at (who x)) (ends x)) xs
+
+  abbrev CanEnd : X → Type 0
+  CanEnd x = IsNamed (who x) × AllByRecursion IsRunEnd (ends x)
+
+  -- a fact of each result
+  pub each_ended : (P : Event → Type 0) (at : ℕ) → ((x : X) (e : RunEnd) → P (result_of at (who x) e)) → (xs : List X)
+      → AllByRecursion P (ended at xs)
+  each_ended P at h [] = tt
+  each_ended P at h (x ∷ xs) =
+      let rest = each_ended P at h xs in
+      by_end (λ es. AllByRecursion P (map (result_of at (who x)) es ++ ended at xs)) (ends x) (one x) rest (λ e. (h x e, rest))
+
+  -- they apply one after the other, they are short, and they are results
+  ended_apply : ResultsFit → (s : State) (at : ℕ) (xs : List X) → IsMoment at → s.clock ≤ at → AllByRecursion CanEnd xs
+      → AllRun s (map who xs) → IsDistinct nat_eq (runs_of (map who xs)) → AllApply s (ended at xs)
+  ended_apply fit s at [] moment later can run apart = tt
+  ended_apply fit s at (x ∷ xs) moment later can run apart =
+      let a = who x in
+      let others = runs_of (map who xs) in
+      let rest = IsDistinct-tail nat_eq a.running.run others apart in
+      by_end (λ es. AllByRecursion IsRunEnd es → AllApply s (map (result_of at a) es ++ ended at xs)) (ends x) (one x)
+      (λ is. ended_apply fit s at xs moment later can.1 run.1 rest)
+      (λ e is. (
+        one_applies fit s at a e moment later can.0.0 is.0 run.0,
+        ended_apply fit (after s (result_of at a e)) at xs moment (omega arith) can.1
+            (run_on s at a e (map who xs) run.0 (IsDistinct-head nat_eq a.running.run others apart) run.1) rest,
+      ))
+      can.0.1
+
+  ended_fit : ResultsFit → (at : ℕ) (xs : List X) → AllByRecursion CanEnd xs
+      → length (spelled_row (ended at xs)) ≤ longest_result * length xs
+  ended_fit fit at [] can = omega arith
+  ended_fit fit at (x ∷ xs) can =
+      let rest = ended_fit fit at xs can.1 in
+      by_end (λ es. length (spelled_row (map (result_of at (who x)) es ++ ended at xs)) ≤ longest_result * length (x ∷ xs)) (ends x) (one x)
+      (omega (arith, rest))
+      (λ e. omega (
+        arith,
+        rest,
+        fit at (who x).running.run (who x).id e can.0.0.0,
+        length-append (spelled_event (result_of at (who x) e)) (spelled_row (ended at xs)),
+      ))
+
+  ended_results : (at : ℕ) (xs : List X) → IsTrue (are_results (ended at xs))
+  ended_results at [] = refl
+  ended_results at (x ∷ xs) =
+      let rest = ended_results at xs in
+      by_end (λ es. IsTrue (are_results (map (result_of at (who x)) es ++ ended at xs))) (ends x) (one x) rest (λ e. rest)
+
+  can_end : (s : State) (xs : List X) → IsLawfulState s → AllRun s (map who xs) → AllByRecursion (λ x. AllByRecursion IsRunEnd (ends x)) xs
+      → AllByRecursion CanEnd xs
+  can_end s [] lawful run are = tt
+  can_end s (x ∷ xs) lawful run are = (((known s (who x) lawful run.0).0, are.0), can_end s xs lawful run.1 are.1)
+
+  -- so the batch of them may be recorded, wherever the tail is
+  pub ended_may_record : ResultsFit → (s : State) (tail at : ℕ) (xs : List X) → IsLawfulState s → s.clock ≤ at → IsMoment at
+      → length xs ≤ resources_limit → AllRun s (map who xs) → IsDistinct nat_eq (runs_of (map who xs))
+      → AllByRecursion (λ x. AllByRecursion IsRunEnd (ends x)) xs → MayRecord s tail (ended at xs)
+  ended_may_record fit s tail at xs lawful later moment few run apart are =
+      let can = can_end s xs lawful run are in record {
+        apply = ended_apply fit s at xs moment later can run apart;
+        fits = omega (arith, ended_fit fit at xs can, few);
+        plain = each_ended (λ e. IsRegistration e.change → ⊥) at (λ x e h. h) xs;
+        room = inl (ended_results at xs);
+      }

@@ -1,8 +1,7 @@
 -- The contracts of a turn and of its three steps.
-use Rattle.std.specs.Prelude.{◌≡◌, ◌≢◌, ℕ, ◌*◌, ◌+◌, ◌<◌, ◌≤◌, List, [], ◌++◌, length, map, Result, Ok, Err, IfOk, OnErr, is_ok, if◌then◌else◌}
+use Rattle.std.specs.Prelude.{◌≡◌, ◌≢◌, ◌*◌, ◌+◌, ◌<◌, ◌≤◌, List, [], ◌++◌, length, map, Result, Ok, Err, IfOk, OnErr, is_ok, if◌then◌else◌}
 use Rattle.std.specs.List.{AllByRecursion}
 use Rattle.ocf_types.specs.Due.{Due}
-use Rattle.ocf_types.specs.Kinds.{Event}
 use Rattle.ocf_types.specs.State.{State}
 use Rattle.ocf_types.specs.declared.reply.Notice.{Notice}
 use Rattle.ocf_types.specs.declared.reply.TurnEnd.{TurnEnd}

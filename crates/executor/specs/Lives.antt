@@ -22,7 +22,7 @@ use Rattle.executor.specs.declared.opening.OpenError.TheVariants.{Disk}
 use Rattle.executor.specs.Interruptions.{dropped, interrupted}
 use Rattle.executor.specs.FinishCalls.{FinishedWhile}
 use Rattle.executor.specs.RowCalls.{TakesRow}
-use Rattle.executor.specs.Sessions.{Input, Takes}
+use Rattle.executor.specs.Sessions.{Input, TakesWhile}
 use Rattle.executor.specs.Sights.{Sight}
 use Rattle.executor.specs.TidyCalls.{TidiesWhile}
 use Rattle.executor.specs.TurnCalls.{abandoned, with_empty_book}
@@ -40,7 +40,7 @@ pub data Exchange : Type 0 where
 
 -- what a call does, from one view of the executor to another
 abbrev pub Does : {D : Type 0} → (D → View) → Exchange → Sight D → Sight D → Effects → Type 0
-Does look (Took i reply) old new effects = Takes look i old new reply effects
+Does look (Took i reply) old new effects = TakesWhile old.is_open look i old new reply effects
 Does look (Row now commands replies) old new effects = TakesRow look now commands old new replies effects
 Does look (Finished now end) old new effects = FinishedWhile old.is_open look now old new end effects
 Does look (Tidied end) old new effects = TidiesWhile old.is_open look old new end × (effects ≡ no_effects)

@@ -64,15 +64,11 @@ abbrev pub TakesWhile : Bool → {D : Type 0} → (D → View) → Input → Sig
 TakesWhile is_open look i old new reply effects =
     While is_open (TakesOpen look i old new reply effects) ((reply ≡ closed_reply i) × (new ≡ old) × (effects ≡ no_effects))
 
-abbrev pub Takes : {D : Type 0} → (D → View) → Input → Sight D → Sight D → Reply → Effects → Type 0
-Takes look i old new reply effects =
-    While old.is_open (TakesOpen look i old new reply effects) ((reply ≡ closed_reply i) × (new ≡ old) × (effects ≡ no_effects))
-
 -- one input after the other, none left out, each with one reply: from one view of the executor to another
 abbrev pub Session : {D : Type 0} → (D → View) → Sight D → List Input → List Reply → Sight D → Effects → Type 0
 Session look old [] [] new effects = (new ≡ old) × (effects ≡ no_effects)
 Session {D} look old (i ∷ is) (r ∷ rs) new effects =
-    (mid : Sight D) × (first : Effects) × (later : Effects) × Takes look i old mid r first × Session look mid is rs new later
+    (mid : Sight D) × (first : Effects) × (later : Effects) × TakesWhile old.is_open look i old mid r first × Session look mid is rs new later
     × (effects ≡ followed_by first later)
 Session look old [] (r ∷ rs) new effects = ⊥
 Session look old (i ∷ is) [] new effects = ⊥

@@ -2,7 +2,7 @@
 ghost use Rattle.std.specs.Prelude.{◌≡◌, ◌++◌, IfErr, IsTrue, OnErr, OnOk, List};
 ghost use Rattle.ocf_types.specs.Kinds.{Reply};
 ghost use Rattle.exec_ledger.specs.Pieces.{Effects};
-ghost use Rattle.executor.specs.Sessions.{Sits, Takes};
+ghost use Rattle.executor.specs.Sessions.{Sits, TakesWhile};
 
 use crate::Executor;
 use child_model::Children;
@@ -27,7 +27,8 @@ pub type Input<A = Global> = InputOf<Params<A>>;
 impl<D: Disk + Drop, C: Children + Drop, A: Grows> Executor<D, C, A> {
     // Takes one input.
     fn take(&mut self, input: Input<A>) -> Reply<A>
-        ensures takes { (effects : Effects) × Takes D.view input self.old self.new result effects }
+        ensures takes { (effects : Effects)
+            × TakesWhile self.old.is_open D.view input self.old self.new result effects }
     {
         match input {
             InputOf::Request { now, request } => self.command(now, request),

@@ -1,5 +1,5 @@
 -- A history begins with a lawful state.
-use Rattle.std.proofs.Common.{◌≡◌, List, [], ◌∷◌, flat_map, sym, subst}
+use Rattle.std.proofs.Common.{List, [], ◌∷◌, flat_map, sym, subst}
 use Rattle.ocf_types.specs.Applies.{Applies, AppliesIn}
 use Rattle.ocf_types.specs.Kinds.{Event}
 use Rattle.ocf_types.specs.LawfulState.{IsLawfulState, IsLawfulStateIn}

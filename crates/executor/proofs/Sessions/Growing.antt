@@ -11,7 +11,7 @@ use Rattle.ocf_types.specs.declared.reply.TurnEnd.{TurnEnd}
 use Rattle.disk_model.specs.View.{View, Lawful}
 use Rattle.child_model.specs.declared.answer.Entry.{Entry}
 use Rattle.exec_ledger.specs.Scenes.{due_after_all}
-use Rattle.executor.specs.Sessions.{Input, Session, Takes, TakesWhile, request_effects, Leads, Sits, TakesOpen, command_effects}
+use Rattle.executor.specs.Sessions.{Input, Session, TakesWhile, request_effects, Leads, Sits, TakesOpen, command_effects}
 use Rattle.executor.specs.Sights.{Beside, Sight, due_in, ledger_of, IsSound, Keeps}
 use Rattle.ocf_types.specs.Answer.{event_of}
 use Rattle.ocf_types.specs.declared.command.RequestOf.TheVariants as asked
@@ -32,12 +32,12 @@ use Rattle.executor.specs.declared.session.InputOf.TheVariants as input
 -- one more input
 pub session_more : {D : Type 0} (look : D → View) (x y z : Sight D) (is : List Input) (rs : List Reply) (i : Input) (r : Reply)
     (a b : Effects)
-    → Session look x is rs y a → Takes look i y z r b → Session look x (is ++ i ∷ []) (rs ++ r ∷ []) z (followed_by a b)
+    → Session look x is rs y a → TakesWhile y.is_open look i y z r b → Session look x (is ++ i ∷ []) (rs ++ r ∷ []) z (followed_by a b)
 session_more look x y z [] [] i r a b s t = (
   z,
   b,
   no_effects,
-  subst (λ (v : Sight _). Takes look i v z r b) s.0 t,
+  subst (λ (v : Sight _). TakesWhile v.is_open look i v z r b) s.0 t,
   (refl, refl),
   ap (λ (d : Effects). followed_by d b) s.1
       ∙ sym (followed_by_none b),
@@ -200,7 +200,7 @@ leads_more false look i x y z reply a b closed lawful takes leads =
 
 -- one more input, in a session
 pub sits_more : {D : Type 0} (look : D → View) (x y z : Sight D) (is : List Input) (rs : List Reply) (i : Input) (r : Reply) (b : Effects)
-    → ((look y.disk).honest → Lawful (look y.disk)) → Sits look is x y rs → Takes look i y z r b
+    → ((look y.disk).honest → Lawful (look y.disk)) → Sits look is x y rs → TakesWhile y.is_open look i y z r b
     → Sits look (is ++ i ∷ []) x z (rs ++ r ∷ [])
 sits_more look x y z is rs i r b lawful sits takes = record {
   effects = followed_by sits.effects b;

@@ -1,12 +1,12 @@
-use Rattle.std.proofs.Common.{◌≡◌, ◌+◌, ◌*◌, ◌<◌, ◌≤◌, length, take}
+use Rattle.std.proofs.Common.{◌≡◌, ◌*◌, ◌≤◌, length}
 use Rattle.std.specs.List.{AllByRecursion}
 use Rattle.std.specs.Vec.{vec_capacity}
 use Rattle.exec_journal.specs.Front.{spelled_row}
 use Rattle.exec_journal.specs.Journal.{journal_place}
-use Rattle.exec_journal.specs.Rows.{IsTooLong}
 use Rattle.exec_state.specs.Store.{dues}
 use Rattle.exec_turn.specs.Launches.{IsStart, all_starting}
-use Rattle.exec_turn.specs.Picks.{ArePicks, begins}
+use Rattle.exec_turn.specs.Picks.{begins}
+use Rattle.exec_turn.proofs.PickSteps.{SoFar}
 use Rattle.exec_turn.proofs.picks.pick_all.Given as goal
 
 abbrev pub invariant-loop-place : goal.invariant-loop-place
@@ -14,12 +14,9 @@ invariant-loop-place g l =
     let s = l.state.state in
     let begun = all_starting l.starts.items in
     record {
-      picked : ArePicks (dues l.state) l.at s.next_run (take l.place s.resources) begun;
+      so_far : SoFar s (dues l.state) (journal_place l.journal).tail l.at l.place l.run begun;
       row : l.row.items ≡ begins l.at begun;
       are_starts : AllByRecursion (IsStart l.site s) l.starts.items;
-      run : l.run ≡ s.next_run + length l.starts.items;
-      drawn : l.run ≤ 9007199254740991;
-      room : 0 < length begun → IsTooLong (journal_place l.journal).tail (begins l.at begun) → ⊥;
       len : l.len ≡ length (spelled_row l.row.items);
       short : l.len ≤ 90 * l.place;
       few : length l.starts.items ≤ l.place;

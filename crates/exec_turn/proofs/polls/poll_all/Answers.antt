@@ -3,7 +3,7 @@ use Rattle.std.specs.List.{IsDistinct, flat_map}
 use Rattle.std.proofs.lemmas.List.{map-append}
 use Rattle.ocf_types.specs.Places.{entry_at}
 use Rattle.exec_ledger.specs.Actives.{Active, active_in, runs_of}
-use Rattle.exec_turn.proofs.PollSteps.{Live, active_more, active_rest, others_distinct, others_live, polls_more, room_behind}
+use Rattle.exec_turn.proofs.Polling.{Live, active_more, active_rest, others_distinct, others_live, polls_more, room_behind}
 use Rattle.exec_turn.proofs.Results.{each_first}
 use Rattle.exec_turn.proofs.polls.poll_all.Goals as goal
 

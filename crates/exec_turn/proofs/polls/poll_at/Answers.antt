@@ -5,7 +5,7 @@ use Rattle.ocf_types.specs.declared.outcome.Outcome.TheVariants.{Run}
 use Rattle.ocf_types.specs.declared.reply.Notice.{Notice}
 use Rattle.exec_ledger.specs.Actives.{Active}
 use Rattle.exec_turn.specs.Actives.{notice_of, result_of}
-use Rattle.exec_turn.proofs.PollSteps.{polled_none, polled_one}
+use Rattle.exec_turn.proofs.Polling.{polled_none, polled_one}
 use Rattle.exec_turn.proofs.polls.poll_at.Goals as goal
 
 pub returns-in_default-clause-polled : goal.returns-in_default-clause-polled
