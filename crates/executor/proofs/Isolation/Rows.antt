@@ -1,5 +1,5 @@
 -- The events and entries of one resource in the batches of a turn.
-use Rattle.std.proofs.Common.{◌≡◌, ℕ, Bool, true, false, cond, List, [], ◌∷◌, map, filter, flat_map, Option, Some, None, option_and_then, option_to_list, Result, refl, sym, ap, subst, ◌∙◌, arith}
+use Rattle.std.proofs.Common.{◌≡◌, ℕ, Bool, true, false, cond, List, [], ◌∷◌, map, filter, flat_map, Option, Some, None, option_and_then, option_to_list, Result, refl, sym, ap, subst, ◌∙◌}
 use Rattle.std.specs.List.{AllByRecursion, IsDistinct}
 use Rattle.std.specs.Map.{keys_of, lookup}
 use Rattle.std.specs.Option.{option_map_or}
@@ -9,7 +9,7 @@ use Rattle.std.proofs.lemmas.Map.Keys.{IsDistinct-head, IsDistinct-tail}
 use Rattle.std.proofs.lemmas.Slice.Eq.{bytes_eq-Decides}
 use Rattle.ocf_types.specs.Kinds.{Event}
 use Rattle.ocf_types.specs.Resource.{Resource}
-use Rattle.ocf_types.specs.State.{State, after, after_all, named, resource_at, runs_drawn}
+use Rattle.ocf_types.specs.State.{State, after, named, resource_at}
 use Rattle.ocf_types.specs.declared.operation.Running.{Running}
 use Rattle.ocf_types.specs.declared.outcome.RunEnd.{RunEnd}
 use Rattle.child_model.specs.Children.{kill_answer, start_answer}
@@ -131,16 +131,15 @@ refusals_kept id at xs = filter-flat_map (names_it id) (λ x. bytes_eq id x.what
     (each_of_all (λ x. events_of id (refused_row at x) ≡ cond (bytes_eq id x.what.id) (refused_row at x) [])
     (λ x. ends_kept id at x.what (refused_end x.answer)) xs)
 
--- a result of this moment draws no run, and is new in each state
+-- an event of this moment that is new in each state
 pub record IsEnd (at : ℕ) (e : Event) : Type 0 where
   pub now : e.at ≡ at
-  pub draws : runs_drawn e.change ≡ 0
   pub fresh : (t : State) → IsFresh t e.change
 
 ends_are : (at : ℕ) (a : Active) (ends : List RunEnd) → AllByRecursion (IsEnd at) (map (result_of at a) ends)
 ends_are at a ends =
     each_map (IsEnd at) (result_of at a) ends
-    (each_of_all (λ end. IsEnd at (result_of at a end)) (λ end. record { now = refl; draws = refl; fresh = λ t. tt }) ends)
+    (each_of_all (λ end. IsEnd at (result_of at a end)) (λ end. record { now = refl; fresh = λ t. tt }) ends)
 
 pub results_end : (at : ℕ) (ps : List Polled) → AllByRecursion (IsEnd at) (results at ps)
 results_end at ps = each_flat_map (IsEnd at) (λ p. map (result_of at p.who) (ends_of at p)) (λ p. ends_are at p.who (ends_of at p)) ps
@@ -152,10 +151,6 @@ refusals_end at xs =
 pub ends_fresh : (at : ℕ) (es : List Event) → AllByRecursion (IsEnd at) es → (t : State) → AreFresh t es
 ends_fresh at [] h t = tt
 ends_fresh at (e ∷ es) h t = (h.0.fresh t, ends_fresh at es h.1 (after t e))
-
-pub ends_draw : (at : ℕ) (es : List Event) → AllByRecursion (IsEnd at) es → (t : State) → (after_all t es).next_run ≡ t.next_run
-ends_draw at [] h t = refl
-ends_draw at (e ∷ es) h t = let rest = ends_draw at es h.1 (after t e) in omega (arith, rest, h.0.draws)
 
 -- its own poll, of its running action
 pub isolated_poll : (id : List ℕ) (at : ℕ) (o : Option Running) (ps : List Polled) → AllByRecursion (λ p. IsPoll p.poll) ps

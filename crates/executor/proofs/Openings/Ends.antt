@@ -1,5 +1,5 @@
 -- An opening of the journal, and then its boot.
-use Rattle.std.proofs.Common.{◌≡◌, ◌<◌, ◌≤◌, inl, inr, ℕ, Bool, true, false, true≢false, cond, List, Result, IsErrAnd, IfErr, Ok, Err, refl, sym, ◌∙◌, ap, subst, arith}
+use Rattle.std.proofs.Common.{◌≡◌, ◌<◌, ◌≤◌, inl, inr, ℕ, Bool, true, false, true≢false, cond, List, Ok, Err, refl, sym, ◌∙◌, ap, subst, arith}
 use Rattle.ocf_types.specs.Answer.{moment}
 use Rattle.ocf_types.specs.Boot.{any_busy, boot, boot_at}
 use Rattle.ocf_types.specs.Due.{due_at}
@@ -312,11 +312,6 @@ module _ {D : Type 0} (look : D → View) (law : WhatStands) (once : (c : Image)
         else_full : (f : SlotFault) → (told_slot f ≡ why.Disk → ⊥) → f ≡ slot.Full
         else_full slot.Disk not = absurd (not refl)
         else_full slot.Full not = refl
-
--- a fact of a fault that is handed on holds of the result
-pub if_err : {T E : Type 0} (r : Result T E) (f : E) (P : E → Type 0) → IsErrAnd r (λ e. e ≡ f) → P f → IfErr r P
-if_err (Ok x) f P none p = absurd none
-if_err (Err e) f P is p = subst P (sym is) p
 
 -- where an opening was refused for memory the journal's opening was, and not the boot
 pub told_memory : (f : JournalFault) → told_fault f ≡ why.Memory → f ≡ journal.Memory
