@@ -6,7 +6,6 @@ mod kept_calls;
 pub mod laws;
 mod notices;
 mod replies;
-mod seen;
 mod signals;
 mod tags;
 mod teller;

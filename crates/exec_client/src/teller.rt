@@ -10,7 +10,6 @@ ghost use Rattle.exec_client.specs.ToldTags.{after_told, told_tags};
 use crate::client::Client;
 use crate::notices::send_turn;
 use crate::replies::{Making, send_answer, send_answers, send_news};
-use crate::seen::Seen;
 use crate::tags::Tags;
 use crate::telling::Telling;
 use crate::told::Told;
@@ -21,6 +20,7 @@ use exec_lines::Output;
 use exec_messages::{IoFault, send_notices};
 use executor::Executor;
 use growth::Grows;
+use past::Seen;
 use std::alloc::{AllocError, Global};
 use std::io::Write;
 

@@ -1,6 +1,8 @@
-//! A list of past items that only contracts read: it takes no memory.
+//! Past items and values that only contracts read: they take no memory.
 #![tactic(auto)]
 
 mod past;
+mod seen;
 
 pub use past::Past;
+pub use seen::Seen;

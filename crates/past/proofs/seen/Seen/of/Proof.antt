@@ -16,10 +16,10 @@ use denote.Shadow.{pure_i}
 use denote.Signature.{plain, types_at}
 use denote.Triple.Entry.{alive}
 use denote.Triple.Walked.{Stays, walk_of, says, stay_none_ref, Goes-none_ref, ends_at}
-use Rattle.exec_client.specs.contracts.seen.Seen.{the_row as R}
-use Rattle.exec_client.specs.contracts.seen.Seen.of as f
-use Rattle.exec_client.proofs.seen.Seen.of.Statement.{statement}
-use Rattle.exec_client.proofs.seen.Seen.of.Code as code
+use Rattle.past.specs.contracts.seen.Seen.{the_row as R}
+use Rattle.past.specs.contracts.seen.Seen.of as f
+use Rattle.past.proofs.seen.Seen.of.Statement.{statement}
+use Rattle.past.proofs.seen.Seen.of.Code as code
 
 -- how the machine stores it
 abbrev stored : Val
