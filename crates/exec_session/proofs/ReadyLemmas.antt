@@ -1,8 +1,7 @@
 -- The tag of a line that was read, and the line that a session is ready.
-use Rattle.std.proofs.Common.{◌≡◌, ◌∙◌, ℕ, Bool, IsTrue, List, Option, Some, None, Result, Ok, Err, ap, inl, inr, refl, subst, sym}
+use Rattle.std.proofs.Common.{◌≡◌, ℕ, Bool, IsTrue, List, Option, Some, None, Result, Ok, Err, ap, inl, inr, refl, subst, sym}
 use Rattle.ocf_types.specs.declared.refusal.Refusal.{Refusal}
 use Rattle.ocf_types.specs.declared.refusal.Refusal.TheVariants.{Memory}
-use Rattle.executor.specs.Sights.{Sight}
 use Rattle.exec_commands.specs.declared.line.Line.{Line}
 use Rattle.exec_commands.specs.declared.notice.NoticeForm.{NoticeForm}
 use Rattle.exec_session.specs.Progress.{IsNotedAs, ReadsInput, ReadsLine}

@@ -172,8 +172,7 @@ impl<'a, R: Input, D: Disk + Drop, C: Children + Drop, T: Client<D, C>, K: Clock
         let Some(next) = self.worker.read(&mut self.pending.buffer)? else {
             return self.answer_rest(context);
         };
-        let mut tag = None;
-        let mut found = found_in(context, &self.pending.buffer, next, &mut tag);
+        let (mut found, tag) = found_in(context, &self.pending.buffer, next);
         self.pending.buffer.clear();
         self.worker.note_found(context.way, &mut found, tag);
         let other = match held_in(context.way, found) {

@@ -1,5 +1,5 @@
 //! The next line of the input, and how a session goes on after it.
-ghost use Rattle.std.specs.Prelude.{◌≡◌, ℕ, List, Err, IfErr, IsTrue, None, Option};
+ghost use Rattle.std.specs.Prelude.{◌≡◌, ℕ, List, Err, IfErr, IsTrue, Option};
 ghost use Rattle.exec_lines.specs.Buffer.{line_bytes};
 ghost use Rattle.exec_lines.specs.Pieces.{IsNext};
 ghost use Rattle.exec_session.specs.Answers.{IsReadAs};
@@ -49,44 +49,41 @@ pub enum Taken {
 
 // The request in a line, or why it is refused, and the line's tag. In `serve` a line may ask for the end of the session, lines are read
 // more strictly, and they have tags.
-fn read_line(way: Way, alloc: Global, bytes: &[u8], tag: &mut Option<Tag>) -> Result<Line, Refusal>
-    requires none { tag.old ≡ None }
-    ensures reads { IsReadAs way bytes.now result }
-    ensures tag { HasTagOf way bytes.now (found.Line result) tag.new }
-    ensures memory { IfErr result (λ e. e ≡ Refusal.Memory → IsTrue ⟦<Global as Grows>⟧.refuses) }
+fn read_line(way: Way, alloc: Global, bytes: &[u8]) -> (Result<Line, Refusal>, Option<Tag>)
+    ensures reads { IsReadAs way bytes.now result.0 }
+    ensures tag { HasTagOf way bytes.now (found.Line result.0) result.1 }
+    ensures memory { IfErr result.0 (λ e. e ≡ Refusal.Memory → IsTrue ⟦<Global as Grows>⟧.refuses) }
 {
     match way {
-        Way::Run => read_command(alloc, bytes),
-        Way::Serve => {
-            let served = read_strictly(alloc, bytes)?;
-            *tag = served.tag;
-            Ok(served.line)
-        }
+        Way::Run => (read_command(alloc, bytes), None),
+        Way::Serve => match read_strictly(alloc, bytes) {
+            Ok(served) => (Ok(served.line), served.tag),
+            Err(refusal) => (Err(refusal), None),
+        },
     }
 }
 
-/// The next line of the input, which is in the buffer. Stores its tag, if it has one, in `tag`, which is `None` before.
+/// The next line of the input, which is in the buffer, and its tag, if it has one.
 pub fn found_in<M>(
     context: &RunContext<'_, M>,
     buffer: &LineBuffer,
     next: Next,
-    tag: &mut Option<Tag>,
-) -> Found
-    requires none { tag.old ≡ None }
+) -> (Found, Option<Tag>)
     ensures found { (left now : Option (List ℕ)) → IsNext left next (line_bytes buffer.now) now
-        → ReadsInput context.now.way left now result }
-    ensures tag { HasTagOf context.now.way (line_bytes buffer.now) result tag.new }
-    ensures memory { result ≡ Found.Line (Err Refusal.Memory)
+        → ReadsInput context.now.way left now result.0 }
+    ensures tag { HasTagOf context.now.way (line_bytes buffer.now) result.0 result.1 }
+    ensures memory { result.0 ≡ Found.Line (Err Refusal.Memory)
         → IsTrue ⟦<Global as Grows>⟧.refuses }
 {
     match next {
-        Next::End => Found::End,
-        Next::TooLong => Found::Line(Err(Refusal::Syntax)),
+        Next::End => (Found::End, None),
+        Next::TooLong => (Found::Line(Err(Refusal::Syntax)), None),
         Next::Line => {
             if buffer.line().is_empty() {
-                return Found::Empty;
+                return (Found::Empty, None);
             }
-            Found::Line(read_line(context.way, context.alloc, buffer.line(), tag))
+            let (line, tag) = read_line(context.way, context.alloc, buffer.line());
+            (Found::Line(line), tag)
         }
     }
 }

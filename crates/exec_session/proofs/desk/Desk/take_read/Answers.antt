@@ -41,7 +41,7 @@ returns-in-Ok-clause-takes g c = λ p own most may come.
     let place' = c.read.new.self in
     let mid = mid_before held c.requires.free come.left kept old.worker.left come.mid in
     let next = at_some c.in_ok-next.field-0 c.in-Some.next _ _ c.in-Some.is (c.in_ok-next.ensures.gathers come.left mid) in
-    let read = c.found_in-found.result in
+    let read = c.found_in-found.result.0 in
     let found = c.note_found.new.found in
     let reads = noted_reads g.T.Client.refuses rules.way come.left place'.left read found
     (c.found_in-found.ensures.found come.left place'.left next) c.note_found.ensures.found in
@@ -64,7 +64,7 @@ returns-clause-takes g c = λ p own most may come.
     let place' = c.read.new.self in
     let mid = mid_before held c.requires.free come.left kept old.worker.left come.mid in
     let next = at_some c.in_ok-next.field-0 c.in-Some.next _ _ c.in-Some.is (c.in_ok-next.ensures.gathers come.left mid) in
-    let read = c.found_in-found.result in
+    let read = c.found_in-found.result.0 in
     let found = c.note_found.new.found in
     let reads = noted_reads g.T.Client.refuses rules.way come.left place'.left read found
     (c.found_in-found.ensures.found come.left place'.left next) c.note_found.ensures.found in
