@@ -1,6 +1,6 @@
 //! The event of a command, or its refusal.
 ghost use Rattle.std.specs.Prelude.{◌≡◌, length, nat_lt, Ok, Err, if◌then◌else◌};
-ghost use Rattle.ocf_types.specs.Spelling.{spelled_event};
+ghost use Rattle.ocf_types.specs.Encoding.{encoded_event};
 ghost use Rattle.ocf_types.specs.Answer.{event_of};
 ghost use Rattle.ocf_types.specs.declared.command.CommandOf.TheVariants as command;
 
@@ -13,10 +13,10 @@ use ocf_types::{
 
 /// The event, unless it is too large to be recorded.
 fn unless_too_large<A: Grows>(event: Event<A>) -> Result<Event<A>, Refusal>
-    ensures { result ≡ (if nat_lt EVENT_LIMIT (length (spelled_event event))
+    ensures { result ≡ (if nat_lt EVENT_LIMIT (length (encoded_event event))
         then Err Refusal.TooLarge else Ok event) }
 {
-    if event.spelled_len() > EVENT_LIMIT {
+    if event.encoded_len() > EVENT_LIMIT {
         return Err(Refusal::TooLarge);
     }
     Ok(event)

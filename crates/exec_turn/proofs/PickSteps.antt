@@ -9,12 +9,12 @@ use Rattle.ocf_types.specs.Limits.{num_max}
 use Rattle.ocf_types.specs.Params.{ParamList}
 use Rattle.ocf_types.specs.Places.{entry_at, id_at}
 use Rattle.ocf_types.specs.Resource.{Resource}
-use Rattle.ocf_types.specs.Spelling.{spelled_event}
+use Rattle.ocf_types.specs.Encoding.{encoded_event}
 use Rattle.ocf_types.specs.State.{State}
 use Rattle.ocf_types.specs.declared.operation.Running.{Running}
 use Rattle.ocf_types.specs.declared.reply.TurnEnd.TheVariants as turn_end
 use Rattle.ocf_env.specs.Places.{Call, SiteView}
-use Rattle.exec_journal.specs.Front.{spelled_row}
+use Rattle.exec_journal.specs.Front.{encoded_row}
 use Rattle.exec_journal.specs.Rows.{IsTooLong, kept_free}
 use Rattle.exec_ledger.specs.Actives.{Active}
 use Rattle.ocf_env.specs.Instances.{registration_of}
@@ -37,11 +37,11 @@ invoked site id r running call own provider agent params id_is provider_is agent
     subst (λ (x : Registration). IsInvocation site x running call) same is
 
 -- one more begin makes the batch longer by its encoding
-pub row_longer : (es : List Event) (e : Event) → length (spelled_row (es ++ e ∷ [])) ≡ length (spelled_row es) + length (spelled_event e)
-row_longer [] e = let size = length-append (spelled_event e) [] in omega (arith, size)
+pub row_longer : (es : List Event) (e : Event) → length (encoded_row (es ++ e ∷ [])) ≡ length (encoded_row es) + length (encoded_event e)
+row_longer [] e = let size = length-append (encoded_event e) [] in omega (arith, size)
 row_longer (x ∷ xs) e =
-    let size = length-append (spelled_event x) (spelled_row (xs ++ e ∷ [])) in
-    let size2 = length-append (spelled_event x) (spelled_row xs) in
+    let size = length-append (encoded_event x) (encoded_row (xs ++ e ∷ [])) in
+    let size2 = length-append (encoded_event x) (encoded_row xs) in
     omega (arith, size, size2, row_longer xs e)
 
 pub begins_push : (at : ℕ) (bs : List Active) (a : Active) → begins at (bs ++ a ∷ []) ≡ begins at bs ++ begin_of at a ∷ []
@@ -57,12 +57,12 @@ kept at [] a = kept_behind at a []
 kept at (b ∷ bs) a = kept_behind at b (bs ++ a ∷ [])
 
 -- the encoding of the batch with one more begin
-pub spelled_more : (at len more : ℕ) (bs : List Active) (a : Active) (row : List Event) (e : Event) → row ≡ begins at bs → e ≡ begin_of at a
-    → len ≡ length (spelled_row row) → more ≡ length (spelled_event e) → length (spelled_row (begins at (bs ++ a ∷ []))) ≡ len + more
-spelled_more at len more bs a row e row_is e_is len_is more_is =
+pub encoded_more : (at len more : ℕ) (bs : List Active) (a : Active) (row : List Event) (e : Event) → row ≡ begins at bs → e ≡ begin_of at a
+    → len ≡ length (encoded_row row) → more ≡ length (encoded_event e) → length (encoded_row (begins at (bs ++ a ∷ []))) ≡ len + more
+encoded_more at len more bs a row e row_is e_is len_is more_is =
     let grown : begins at (bs ++ a ∷ []) ≡ row ++ e ∷ [] = begins_push at bs a ∙ (λ k. sym row_is k ++ sym e_is k ∷ []) in
-    let size : length (spelled_row (begins at (bs ++ a ∷ []))) ≡ length (spelled_row (row ++ e ∷ [])) = ap
-    (λ (l : List Event). length (spelled_row l)) grown in
+    let size : length (encoded_row (begins at (bs ++ a ∷ []))) ≡ length (encoded_row (row ++ e ∷ [])) = ap
+    (λ (l : List Event). length (encoded_row l)) grown in
     omega (arith, size, row_longer row e, len_is, more_is)
 
 pub longer : {A : Type 0} (bs : List A) (a : A) → length (bs ++ a ∷ []) ≡ length bs + 1
@@ -71,7 +71,7 @@ longer bs a = length-append bs (a ∷ [])
 -- where a longer batch does not fit
 pub too_long : (s : State) (tail at run size : ℕ) (bs : List Active) (a : Active) → run ≡ s.next_run + length bs
     → run + 1 ≤ 9007199254740991
-    → length (spelled_row (begins at (bs ++ a ∷ []))) ≡ size → 8388608 < tail + 5 + size + 1 + 32768
+    → length (encoded_row (begins at (bs ++ a ∷ []))) ≡ size → 8388608 < tail + 5 + size + 1 + 32768
     → (s.next_run + length (bs ++ a ∷ []) ≤ 9007199254740991) × IsTooLong tail (begins at (bs ++ a ∷ []))
 too_long s tail at run size bs a run_is drawn size_is over =
     (omega (arith, run_is, drawn, longer bs a), omega (arith, kept at bs a, size_is, over))
@@ -79,12 +79,12 @@ too_long s tail at run size bs a run_is drawn size_is over =
 -- where a longer batch fits
 pub may_more : (s : State) (tail at run size : ℕ) (bs : List Active) (a : Active) → run ≡ s.next_run + length bs
     → run + 1 ≤ 9007199254740991
-    → length (spelled_row (begins at (bs ++ a ∷ []))) ≡ size → tail + 5 + size + 1 + 32768 ≤ 8388608 → MayBegin s tail at (bs ++ a ∷ [])
+    → length (encoded_row (begins at (bs ++ a ∷ []))) ≡ size → tail + 5 + size + 1 + 32768 ≤ 8388608 → MayBegin s tail at (bs ++ a ∷ [])
 may_more s tail at run size bs a run_is drawn size_is fit = record {
   runs = omega (arith, run_is, drawn, longer bs a);
   room =
       λ some over. let over2 : 8388608
-      < tail + 5 + length (spelled_row (begins at (bs ++ a ∷ []))) + 1 + kept_free (begins at (bs ++ a ∷ [])) = over in
+      < tail + 5 + length (encoded_row (begins at (bs ++ a ∷ []))) + 1 + kept_free (begins at (bs ++ a ∷ [])) = over in
       absurd (omega (arith, kept at bs a, size_is, fit, over2));
 }
 
@@ -126,7 +126,7 @@ module _ {s : State} {due : Due} {tail at place next : ℕ} {bs : List Active} (
     pub spent_here : num_max < next + 1 → Picked turn_end.RunsSpent s due tail at bs
     spent_here spent = (cut_here (λ more. num_max < s.next_run + length more) (omega (arith, p.next_is, longer bs here, spent)), p.may)
 
-    module _ (drawn : next + 1 ≤ num_max) {size : ℕ} (size_is : length (spelled_row (begins at (bs ++ here ∷ []))) ≡ size) where
+    module _ (drawn : next + 1 ≤ num_max) {size : ℕ} (size_is : length (encoded_row (begins at (bs ++ here ∷ []))) ≡ size) where
       pub full_here : 8388608 < tail + 5 + size + 1 + 32768 → Picked turn_end.Full s due tail at bs
       full_here over = (
         cut_here (λ more. (s.next_run + length more ≤ num_max) × IsTooLong tail (begins at more))

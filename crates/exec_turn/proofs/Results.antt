@@ -24,9 +24,9 @@ use Rattle.std.proofs.lemmas.List.Elements.{All-from_recursion, recursion_from_A
 use Rattle.ocf_types.specs.Applies.{Applies, StepApplies}
 use Rattle.ocf_types.specs.Kinds.{Event, Step}
 use Rattle.ocf_types.specs.Limits.{longest_result, resources_limit}
-use Rattle.ocf_types.specs.Spelling.{spelled_event}
+use Rattle.ocf_types.specs.Encoding.{encoded_event}
 use Rattle.ocf_types.specs.declared.event.Change.TheVariants as change
-use Rattle.exec_journal.specs.Front.{AllApply, spelled_row}
+use Rattle.exec_journal.specs.Front.{AllApply, encoded_row}
 use Rattle.exec_journal.specs.Rows.{are_results}
 use Rattle.exec_turn.specs.AgentsLive.{AgentsLive}
 use Rattle.exec_ledger.specs.Rows.{MayRecord}
@@ -289,7 +289,7 @@ run_on s at a end (b ∷ rest) runs apart all =
 abbrev pub ResultsFit : Type 0
 ResultsFit =
     (at run : ℕ) (id : List ℕ) (end : RunEnd) → IsId id
-    → length (spelled_event (record { at = at; change = change.Step id (step.Result run end) })) ≤ longest_result
+    → length (encoded_event (record { at = at; change = change.Step id (step.Result run end) })) ≤ longest_result
 
 one_applies : ResultsFit → (s : State) (at : ℕ) (a : Active) (end : RunEnd) → IsMoment at → s.clock ≤ at → IsNamed a → IsRunEnd end
     → RunsUnder s a.id a.running.call a.running.run → Applies s (result_of at a end)
@@ -297,7 +297,7 @@ one_applies fit s at a end moment later named end_is runs =
     let there = runs_there (resource_at s a.id) runs.running runs.is in
     let run = a.running.run in
     record {
-      spelled = record {
+      encoded = record {
         lawful = record { at = moment; change = (named.0, (named.1, end_is)) };
         short = omega (arith, fit at run a.id end named.0);
       };
@@ -352,17 +352,17 @@ module _ {X : Type 0} (who : X → Active) (ends : X → List RunEnd) (one : (x 
       can.0.1
 
   ended_fit : ResultsFit → (at : ℕ) (xs : List X) → AllByRecursion CanEnd xs
-      → length (spelled_row (ended at xs)) ≤ longest_result * length xs
+      → length (encoded_row (ended at xs)) ≤ longest_result * length xs
   ended_fit fit at [] can = omega arith
   ended_fit fit at (x ∷ xs) can =
       let rest = ended_fit fit at xs can.1 in
-      by_end (λ es. length (spelled_row (map (result_of at (who x)) es ++ ended at xs)) ≤ longest_result * length (x ∷ xs)) (ends x) (one x)
+      by_end (λ es. length (encoded_row (map (result_of at (who x)) es ++ ended at xs)) ≤ longest_result * length (x ∷ xs)) (ends x) (one x)
       (omega (arith, rest))
       (λ e. omega (
         arith,
         rest,
         fit at (who x).running.run (who x).id e can.0.0.0,
-        length-append (spelled_event (result_of at (who x) e)) (spelled_row (ended at xs)),
+        length-append (encoded_event (result_of at (who x) e)) (encoded_row (ended at xs)),
       ))
 
   ended_results : (at : ℕ) (xs : List X) → IsTrue (are_results (ended at xs))

@@ -6,7 +6,7 @@ ghost use Rattle.exec_journal.specs.Journal.{journal_place};
 ghost use Rattle.exec_state.specs.Store.{dues};
 ghost use Rattle.ocf_types.specs.Limits.{longest_begin};
 ghost use Rattle.ocf_types.specs.Places.{id_at};
-ghost use Rattle.ocf_types.specs.Spelling.{spelled_event};
+ghost use Rattle.ocf_types.specs.Encoding.{encoded_event};
 ghost use Rattle.exec_turn.specs.Launches.{IsStart, all_starting, what_starts};
 ghost use Rattle.exec_turn.specs.Picks.{Picked, begin_of, begins};
 
@@ -34,7 +34,7 @@ fn begin_at<A: Grows>(state: &State<A>, place: usize, running: &Running, at: Mom
     requires place { place < length state.now.state.resources }
     ensures begin { result
         ≡ begin_of at (record { id = id_at state.now.state place; running = running.now }) }
-    ensures short { length (spelled_event result) ≤ longest_begin }
+    ensures short { length (encoded_event result) ≤ longest_begin }
 {
     lengths();
     let id = state.id_at(place).copied();
@@ -114,7 +114,7 @@ pub(crate) fn pick_all<D: Disk + Drop, A: Grows, S: Allocator>(
             return TurnEnd::RunsSpent;
         };
         let begin = begin_at(state, place, &running, at);
-        len += begin.spelled_len();
+        len += begin.encoded_len();
         if !journal.fits(len) {
             return TurnEnd::Full;
         }

@@ -7,7 +7,7 @@ use Rattle.ocf_types.specs.Due.{IsPick, or_else, step_sets}
 use Rattle.ocf_types.specs.Kinds.{Change, Command, Event, Reply}
 use Rattle.ocf_types.specs.Limits.{event_limit, num_max, queue_limit, recurring_limit}
 use Rattle.ocf_types.specs.Resource.{Resource, is_busy, of_call, of_interval, queued_of}
-use Rattle.ocf_types.specs.Spelling.{spelled_event}
+use Rattle.ocf_types.specs.Encoding.{encoded_event}
 use Rattle.ocf_types.specs.State.{registered, resource_at, stepped}
 use Rattle.ocf_types.specs.declared.command.CommandOf.TheVariants as command
 use Rattle.ocf_types.specs.declared.command.Question.{Question}
@@ -110,7 +110,7 @@ isolated_tests resource (command.Withdraw id call) size =
 
 -- the event that a command asks for, or the first refusal
 abbrev pub isolated_event : Option Resource → Event → Command → Result Event Refusal
-isolated_event resource e c = first_of (isolated_tests resource c (length (spelled_event e))) e
+isolated_event resource e c = first_of (isolated_tests resource c (length (encoded_event e))) e
 
 -- the reply to a command that is this event or this refusal, and the events that it records
 abbrev pub Follows : Result Event Refusal → Reply → List Event → Type 0

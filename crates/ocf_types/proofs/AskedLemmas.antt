@@ -12,7 +12,7 @@ use Rattle.ocf_types.specs.declared.operation.Recur.{Recur}
 use Rattle.ocf_types.specs.Kinds.{Change, Event, Command}
 use Rattle.ocf_types.specs.Numbers.{IsMoment}
 use Rattle.ocf_types.specs.Lawful.{IsLawfulChange, IsLawfulCommand}
-use Rattle.ocf_types.specs.Spelling.{spelled_event, HasNoParams}
+use Rattle.ocf_types.specs.Encoding.{encoded_event, HasNoParams}
 use Rattle.ocf_types.specs.Resource.{Resource, is_busy, of_interval, queued_of}
 use Rattle.ocf_types.specs.State.{State, resource_at, IsRegistration}
 use Rattle.ocf_types.specs.Applies.{Applies, ChangeApplies, StepApplies, IsNext}
@@ -55,10 +55,10 @@ moment_is s now h = omega (arith, h.clock)
 
 -- an event at that moment applies if its change is lawful and applies, and its encoding is not too long
 applies_now : (s : State) (now : ℕ) (c : Change) → IsLawfulState s → IsLawfulChange c
-    → length (spelled_event (record { at = moment s now; change = c })) ≤ 16384 → ChangeApplies s c
+    → length (encoded_event (record { at = moment s now; change = c })) ≤ 16384 → ChangeApplies s c
     → Applies s (record { at = moment s now; change = c })
 applies_now s now c h l short a = record {
-  spelled = record { lawful = record { at = moment_is s now h; change = l }; short = short };
+  encoded = record { lawful = record { at = moment_is s now h; change = l }; short = short };
   later = omega arith;
   change = a;
 }
@@ -74,7 +74,7 @@ next_is s h unspent = (refl, omega (arith, h.next_call.1, unspent))
 
 -- the event that is asked for applies if no test for a refusal holds
 pub asked_applies : (s : State) (now : ℕ) (c : Command) → IsLawfulState s → IsLawfulCommand c
-    → AllByRecursion (λ t. t.1 ≡ false) (tests s c (length (spelled_event (asked_event s now c)))) → Applies s (asked_event s now c)
+    → AllByRecursion (λ t. t.1 ≡ false) (tests s c (length (encoded_event (asked_event s now c)))) → Applies s (asked_event s now c)
 asked_applies s now (command.Register r) h l p =
     applies_now s now (change.Register r) h l (ltb-false _ _ p.1.1.0) (none_is (resource_at s r.id) p.0, leb-false _ _ p.1.0)
 asked_applies s now (command.Unregister id) h l p =
@@ -120,13 +120,13 @@ asked_applies s now (command.Withdraw id call) h l p =
 pub event_applies : (s : State) (now : ℕ) (c : Command) (e : Event) → IsLawfulState s → IsLawfulCommand c → event_of s now c ≡ Ok e
     → Applies s e
 event_applies s now c e h l is =
-    let p = passed (tests s c (length (spelled_event (asked_event s now c)))) (asked_event s now c) e is in
+    let p = passed (tests s c (length (encoded_event (asked_event s now c)))) (asked_event s now c) e is in
     subst (λ (x : Event). Applies s x) p.0 (asked_applies s now c h l p.1)
 
 -- a boot that is needed applies at a moment that is not before the clock
 pub boot_applies : (s : State) (at : ℕ) → s.clock ≤ at → at ≤ 9007199254740991 → IsTrue (any_busy s) → Applies s (boot_at at)
 boot_applies s at later le busy = record {
-  spelled = record { lawful = record { at = le; change = tt }; short = omega (arith, event_short at change.Boot tt tt) };
+  encoded = record { lawful = record { at = le; change = tt }; short = omega (arith, event_short at change.Boot tt tt) };
   later = later;
   change = busy;
 }
@@ -138,5 +138,5 @@ asks_to_register call _ h = absurd h
 
 pub registers : (s : State) (now : ℕ) (c : Command) (e : Event) → event_of s now c ≡ Ok e → IsRegistration e.change → IsRegister c
 registers s now c e is h =
-    let p = passed (tests s c (length (spelled_event (asked_event s now c)))) (asked_event s now c) e is in
+    let p = passed (tests s c (length (encoded_event (asked_event s now c)))) (asked_event s now c) e is in
     asks_to_register s.next_call c (subst (λ (x : Event). IsRegistration x.change) (sym p.0) h)

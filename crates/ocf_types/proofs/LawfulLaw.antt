@@ -12,7 +12,7 @@ use Rattle.ocf_types.specs.Kinds.{Step, Change, Event}
 use Rattle.ocf_types.specs.Limits.{event_limit}
 use Rattle.ocf_types.specs.Numbers.{IsDrawn, IsMoment}
 use Rattle.ocf_types.specs.Lawful.{IsId, IsLawfulChangeIn}
-use Rattle.ocf_types.specs.Spelling.{fields_in, step_fields_in}
+use Rattle.ocf_types.specs.Encoding.{fields_in, step_fields_in}
 use Rattle.ocf_types.specs.Resource.{Resource, booted_in}
 use Rattle.ocf_types.specs.State.{State, empty, after_in, changed_in, resource_at, on_history, stepped_in, registered, calls_drawn}
 use Rattle.ocf_types.specs.State.{runs_drawn}
@@ -129,5 +129,5 @@ lawful_change layout s at change.Boot h moment w short le a =
 pub lawful_after : (layout : Layout) (s : State) (e : Event) → IsLawfulStateIn layout s → AppliesIn layout s e
     → IsLawfulStateIn layout (after_in layout s e)
 lawful_after layout s e h a =
-    let short : length (fields_in layout e.change) ≤ event_limit = omega (arith, a.spelled.short, length-event layout e.at e.change) in
-    lawful_change layout s e.at e.change h a.spelled.lawful.at a.spelled.lawful.change short a.later a.change
+    let short : length (fields_in layout e.change) ≤ event_limit = omega (arith, a.encoded.short, length-event layout e.at e.change) in
+    lawful_change layout s e.at e.change h a.encoded.lawful.at a.encoded.lawful.change short a.later a.change

@@ -18,7 +18,7 @@ use Rattle.ocf_types.specs.Limits.{event_limit}
 use Rattle.ocf_types.specs.Numbers.{IsDrawn}
 use Rattle.ocf_types.specs.Lawful.{IsLawfulOpIn, IsLawfulRecurIn, IsLawfulRegistration, IsRunEnd}
 use Rattle.ocf_types.specs.Kinds.{Registration}
-use Rattle.ocf_types.specs.Spelling.{spelled_params}
+use Rattle.ocf_types.specs.Encoding.{encoded_params}
 use Rattle.ocf_types.specs.State.{Registry, registered}
 use Rattle.ocf_types.specs.Layouts.{kept_in, failed_in, CanEnd, KnowsWithdrawal, current}
 use Rattle.ocf_types.specs.Expected.{has_failed}
@@ -107,7 +107,7 @@ known_again Second o = refl
 
 -- a newly registered resource is lawful
 pub lawful_registered : (layout : Layout) (n k at : ℕ) (r : Registration) → IsLawfulRegistration r
-    → length (spelled_params r.params) ≤ event_limit → IsLawfulResourceIn layout n k at (registered r).1
+    → length (encoded_params r.params) ≤ event_limit → IsLawfulResourceIn layout n k at (registered r).1
 lawful_registered layout n k at r w short = record {
   provider = w.provider;
   agent = w.agent;

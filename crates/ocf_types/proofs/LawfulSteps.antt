@@ -14,7 +14,7 @@ use Rattle.ocf_types.specs.Limits.{event_limit, queue_limit, recurring_limit}
 use Rattle.ocf_types.specs.Numbers.{IsDrawn}
 use Rattle.ocf_types.specs.Params.{ParamList, AreParams}
 use Rattle.ocf_types.specs.Lawful.{IsLawfulStepIn}
-use Rattle.ocf_types.specs.Spelling.{spelled_params, step_fields_in}
+use Rattle.ocf_types.specs.Encoding.{encoded_params, step_fields_in}
 use Rattle.ocf_types.specs.Resource.{Resource, History, accepted, begun, ended_in, booted_in, failed_after, forgotten, dropped_of, ended_of}
 use Rattle.ocf_types.specs.Resource.{run_of_op, run_of_monitor, of_call, without_interval, cancelled_of, queued_of, withdrawn_in}
 use Rattle.ocf_types.specs.State.{calls_drawn, runs_drawn, on_history, stepped_in}
@@ -80,7 +80,7 @@ with_recurring layout n k clock r ms l recurring_len recurring ascends intervals
 
 -- a lawful resource with other parameters
 with_params : (layout : Layout) (n k clock : ℕ) (r : Resource) (ps : ParamList) → IsLawfulResourceIn layout n k clock r → AreParams ps
-    → length (spelled_params ps) ≤ event_limit
+    → length (encoded_params ps) ≤ event_limit
     → IsLawfulResourceIn layout n k clock (record r { params = ps })
 with_params layout n k clock r ps l are short = record {
   provider = l.provider;

@@ -3,7 +3,7 @@ pub mod ParamsLemmas
 pub mod AroundLemmas
 pub mod SortedLemmas
 pub mod InsertLemmas
-pub mod SpellingExamples
+pub mod EncodingExamples
 pub mod StateExamples
 pub mod RuleExamples
 pub mod FailureExamples

@@ -19,9 +19,9 @@ use Rattle.ocf_types.specs.Resource.{Resource, no_history}
 use Rattle.ocf_types.specs.State.{State, empty, resource_at, after, after_all}
 use Rattle.ocf_types.specs.Boot.{boot, boot_event, IsLast}
 use Rattle.ocf_types.specs.Answer.{event_of}
-use Rattle.ocf_types.specs.Spelling.{two_bytes, four_bytes, eight_bytes}
+use Rattle.ocf_types.specs.Encoding.{two_bytes, four_bytes, eight_bytes}
 use Rattle.ocf_types.specs.Due.{Due, due_at, due_after, IsBefore, IsPick}
-use Rattle.ocf_types.specs.Spelling.{spelled_event_in}
+use Rattle.ocf_types.specs.Encoding.{encoded_event_in}
 
 abbrev r1 : List ℕ
 r1 = codes "r1"
@@ -61,7 +61,7 @@ with_resource next_call queue monitors = record {
 
 -- a second register of the same id is refused
 registered_twice : event_of registered 0 (command.Register dummy) ≡ Err Exists
-unfolding two_bytes four_bytes eight_bytes spelled_event_in
+unfolding two_bytes four_bytes eight_bytes encoded_event_in
 registered_twice = refl
 
 -- r1 runs its start, and its stop is queued
@@ -95,12 +95,12 @@ booted_once = refl
 
 -- a resource with an action queued or running is not removed
 busy : event_of stopped 30 (command.Unregister r1) ≡ Err Busy
-unfolding two_bytes four_bytes eight_bytes spelled_event_in
+unfolding two_bytes four_bytes eight_bytes encoded_event_in
 busy = refl
 
 -- the thirty-third queued action
 queue_full : event_of (with_resource 40 (replicate 32 (op 1 task.Start)) []) 0 (command.Exec r1 task.Stop 20000) ≡ Err QueueFull
-unfolding two_bytes four_bytes eight_bytes spelled_event_in
+unfolding two_bytes four_bytes eight_bytes encoded_event_in
 queue_full = refl
 
 -- the ninth monitor, and a second one of an interval
@@ -108,21 +108,21 @@ abbrev eight : List Recur
 eight = monitor 1 1 ∷ monitor 2 2 ∷ monitor 3 3 ∷ monitor 4 4 ∷ monitor 5 5 ∷ monitor 6 6 ∷ monitor 7 7 ∷ monitor 8 8 ∷ []
 
 recurring_full : event_of (with_resource 9 [] eight) 0 (command.Recur r1 9 20000 plain) ≡ Err RecurringFull
-unfolding two_bytes four_bytes eight_bytes spelled_event_in
+unfolding two_bytes four_bytes eight_bytes encoded_event_in
 recurring_full = refl
 
 same_interval : event_of (with_resource 9 [] eight) 0 (command.Recur r1 8 20000 plain) ≡ Err Exists
-unfolding two_bytes four_bytes eight_bytes spelled_event_in
+unfolding two_bytes four_bytes eight_bytes encoded_event_in
 same_interval = refl
 
 -- an interval that no monitor has
 not_recurring : event_of (with_resource 9 [] eight) 0 (command.Cancel r1 9) ≡ Err NoSuchRecurring
-unfolding two_bytes four_bytes eight_bytes spelled_event_in
+unfolding two_bytes four_bytes eight_bytes encoded_event_in
 not_recurring = refl
 
 -- the greatest call id is never given
 calls_spent : event_of (with_resource 9007199254740991 [] []) 0 (command.Exec r1 task.Start 20000) ≡ Err CallsSpent
-unfolding two_bytes four_bytes eight_bytes spelled_event_in
+unfolding two_bytes four_bytes eight_bytes encoded_event_in
 calls_spent = refl
 
 -- a moment above the greatest one is cut at that, and the clock does not go back
@@ -130,11 +130,11 @@ abbrev late : State
 late = after empty (at 9007199254740991 (change.Register dummy))
 
 moment_cut : event_of empty 18446744073709551615 (command.Register dummy) ≡ Ok (at 9007199254740991 (change.Register dummy))
-unfolding two_bytes four_bytes eight_bytes spelled_event_in
+unfolding two_bytes four_bytes eight_bytes encoded_event_in
 moment_cut = refl
 
 never_back : event_of late 5 (command.Forget r1) ≡ Ok (at 9007199254740991 (change.Step r1 step.Forget))
-unfolding two_bytes four_bytes eight_bytes spelled_event_in
+unfolding two_bytes four_bytes eight_bytes encoded_event_in
 never_back = refl
 
 -- a new monitor is due at once, and after a run of it its interval later; a cancelled one never

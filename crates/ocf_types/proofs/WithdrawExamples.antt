@@ -17,7 +17,7 @@ use Rattle.ocf_types.specs.Lawful.{IsLawfulStepIn}
 use Rattle.ocf_types.specs.Resource.{History, no_history, accepted, begun, ended}
 use Rattle.ocf_types.specs.State.{State, empty, resource_at, after, after_all}
 use Rattle.ocf_types.specs.Answer.{event_of}
-use Rattle.ocf_types.specs.Spelling.{two_bytes, four_bytes, eight_bytes, spelled_event_in}
+use Rattle.ocf_types.specs.Encoding.{two_bytes, four_bytes, eight_bytes, encoded_event_in}
 
 abbrev r1 : List ℕ
 r1 = codes "r1"
@@ -49,15 +49,15 @@ left_queued = refl
 
 -- only a queued action can be withdrawn: not one that was withdrawn before, one that runs, or one of an unknown resource
 again : event_of withdrawn 40 (command.Withdraw r1 3) ≡ Err NotQueued
-unfolding two_bytes four_bytes eight_bytes spelled_event_in
+unfolding two_bytes four_bytes eight_bytes encoded_event_in
 again = refl
 
 running : event_of withdrawn 40 (command.Withdraw r1 1) ≡ Err NotQueued
-unfolding two_bytes four_bytes eight_bytes spelled_event_in
+unfolding two_bytes four_bytes eight_bytes encoded_event_in
 running = refl
 
 no_resource : event_of withdrawn 40 (command.Withdraw (codes "zz") 3) ≡ Err UnknownResource
-unfolding two_bytes four_bytes eight_bytes spelled_event_in
+unfolding two_bytes four_bytes eight_bytes encoded_event_in
 no_resource = refl
 
 -- the first layout can't encode a withdrawal

@@ -4,7 +4,7 @@ use Rattle.std.specs.Prelude.{if◌then◌else◌, ⊤}
 use Rattle.std.specs.Option.{option_map_or}
 use Rattle.ocf_types.specs.Limits.{num_max, event_limit, resources_limit, queue_limit, recurring_limit}
 use Rattle.ocf_types.specs.Kinds.{Change, Event, Command, Info, Reply}
-use Rattle.ocf_types.specs.Spelling.{spelled_event}
+use Rattle.ocf_types.specs.Encoding.{encoded_event}
 use Rattle.ocf_types.specs.Resource.{Resource, is_busy, of_interval, queued_of}
 use Rattle.ocf_types.specs.State.{State, resource_at}
 use Rattle.ocf_types.specs.declared.command.CommandOf.TheVariants as command
@@ -72,7 +72,7 @@ first_of (t ∷ ts) e = if t.1 then Err t.0 else first_of ts e
 
 -- the event of a command in a state, or its refusal. An event of more than 16,384 bytes is too large
 abbrev pub event_of : State → ℕ → Command → Result Event Refusal
-event_of s now c = first_of (tests s c (length (spelled_event (asked_event s now c)))) (asked_event s now c)
+event_of s now c = first_of (tests s c (length (encoded_event (asked_event s now c)))) (asked_event s now c)
 
 -- the info of a resource: its agent, its parameters and its operations
 abbrev pub info_of : List ℕ → Resource → Info

@@ -2,7 +2,7 @@
 use Rattle.std.specs.Prelude.{◌≡◌, ℕ, ◌<◌, ◌≤◌, List, [], ◌∷◌, length, None, IsSome, IsSomeAnd, IsTrue, ⊤, false}
 use Rattle.ocf_types.specs.Limits.{num_max, resources_limit, queue_limit, recurring_limit}
 use Rattle.ocf_types.specs.Kinds.{Step, Change, Event}
-use Rattle.ocf_types.specs.Lawful.{HasSpellingIn}
+use Rattle.ocf_types.specs.Lawful.{HasEncodingIn}
 use Rattle.ocf_types.specs.Resource.{Resource, is_busy, of_call, of_interval, queued_of}
 use Rattle.ocf_types.specs.State.{State, resource_at}
 use Rattle.ocf_types.specs.Boot.{any_busy}
@@ -44,7 +44,7 @@ ChangeApplies s change.Boot = IsTrue (any_busy s)
 
 -- when an event applies: it has an encoding in the layout, its moment is not before the clock, and its change applies
 pub record AppliesIn (layout : Layout) (s : State) (e : Event) : Type 0 where
-  pub spelled : HasSpellingIn layout e
+  pub encoded : HasEncodingIn layout e
   pub later : s.clock ≤ e.at
   pub change : ChangeApplies s e.change
 

@@ -8,7 +8,7 @@ use Rattle.ocf_types.specs.Params.{AreParams}
 use Rattle.ocf_types.specs.Kinds.{Registration, Step, Change, Event, Command}
 use Rattle.ocf_types.specs.Actions.{expect_of}
 use Rattle.ocf_types.specs.Layouts.{CanExpect, KnowsWithdrawal, current}
-use Rattle.ocf_types.specs.Spelling.{spelled_event_in}
+use Rattle.ocf_types.specs.Encoding.{encoded_event_in}
 use Rattle.ocf_types.specs.declared.layout.Layout.{Layout}
 use Rattle.ocf_types.specs.declared.operation.Op.{Op}
 use Rattle.ocf_types.specs.declared.operation.Recur.{Recur}
@@ -81,18 +81,18 @@ abbrev pub IsLawfulEvent : Event → Type 0
 IsLawfulEvent e = IsLawfulEventIn current e
 
 -- an event has an encoding in a layout if it is lawful in it and has at most 16,384 bytes
-pub record HasSpellingIn (layout : Layout) (e : Event) : Type 0 where
+pub record HasEncodingIn (layout : Layout) (e : Event) : Type 0 where
   pub lawful : IsLawfulEventIn layout e
-  pub short : length (spelled_event_in layout e) ≤ event_limit
+  pub short : length (encoded_event_in layout e) ≤ event_limit
 
-abbrev pub HasSpelling : Event → Type 0
-HasSpelling e = HasSpellingIn current e
+abbrev pub HasEncoding : Event → Type 0
+HasEncoding e = HasEncodingIn current e
 
 -- the bytes begin with the encoding of this event in a layout
 pub record BeginsIn (layout : Layout) (bytes : List ℕ) (e : Event) : Type 0 where
-  pub spelled : HasSpellingIn layout e
+  pub encoded : HasEncodingIn layout e
   pub rest : List ℕ
-  pub whole : bytes ≡ spelled_event_in layout e ++ rest
+  pub whole : bytes ≡ encoded_event_in layout e ++ rest
 
 abbrev pub Begins : List ℕ → Event → Type 0
 Begins bytes e = BeginsIn current bytes e

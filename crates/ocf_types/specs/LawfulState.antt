@@ -8,8 +8,8 @@ use Rattle.ocf_types.specs.Names.{is_rsc_id, is_provider, is_agent_type}
 use Rattle.ocf_types.specs.Numbers.{IsMoment, IsDrawn, IsMillis}
 use Rattle.ocf_types.specs.Params.{AreParams}
 use Rattle.ocf_types.specs.Actions.{action_of, expect_of}
-use Rattle.ocf_types.specs.Spelling.{spelled_params}
-use Rattle.ocf_types.specs.StateSpelling.{spelled_state_in}
+use Rattle.ocf_types.specs.Encoding.{encoded_params}
+use Rattle.ocf_types.specs.StateEncoding.{encoded_state_in}
 use Rattle.ocf_types.specs.Lawful.{IsLawfulOpIn, IsLawfulRecurIn, IsRunEnd}
 use Rattle.ocf_types.specs.Layouts.{kept_in, CanExpect, CanEnd, failed_in, current}
 use Rattle.ocf_types.specs.Resource.{Resource}
@@ -83,7 +83,7 @@ pub record IsLawfulResourceIn (layout : Layout) (next_call next_run clock : ℕ)
   pub provider : IsTrue (is_provider r.provider)
   pub agent : IsTrue (is_agent_type r.agent)
   pub are_params : AreParams r.params
-  pub params_len : length (spelled_params r.params) ≤ event_limit
+  pub params_len : length (encoded_params r.params) ≤ event_limit
   pub queue_len : length r.history.queue ≤ queue_limit
   pub queue : AllByRecursion (λ o. IsLawfulOpIn layout o × (o.call < next_call)) r.history.queue
   pub queue_ascends : IsAscending (map (λ o. o.call) r.history.queue)
@@ -114,6 +114,6 @@ abbrev pub IsLawfulState : State → Type 0
 IsLawfulState s = IsLawfulStateIn current s
 
 -- the bytes are the encoding of a lawful state in a layout
-pub record SpellsIn (layout : Layout) (bytes : List ℕ) (s : State) : Type 0 where
+pub record EncodesIn (layout : Layout) (bytes : List ℕ) (s : State) : Type 0 where
   pub lawful : IsLawfulStateIn layout s
-  pub whole : bytes ≡ spelled_state_in layout s
+  pub whole : bytes ≡ encoded_state_in layout s

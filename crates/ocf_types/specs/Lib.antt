@@ -9,7 +9,7 @@ pub mod Outcomes
 pub mod Expected
 pub mod Refusals
 pub mod Kinds
-pub mod Spelling
+pub mod Encoding
 pub mod Lawful
 pub mod Resource
 pub mod Notices
@@ -18,7 +18,7 @@ pub mod Applies
 pub mod Boot
 pub mod Answer
 pub mod Due
-pub mod StateSpelling
+pub mod StateEncoding
 pub mod LawfulState
 pub mod Places
 pub mod Laws

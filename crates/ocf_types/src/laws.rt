@@ -5,8 +5,8 @@ ghost use Rattle.ocf_types.specs.declared.event.Change.TheVariants as change;
 ghost use Rattle.ocf_types.specs.declared.outcome.RunEnd.{RunEnd};
 ghost use Rattle.ocf_types.specs.Limits.{num_max, boot_len, longest_result, longest_begin, longest_small, longest_state};
 ghost use Rattle.ocf_types.specs.Kinds.{Event, Command, Step, Change};
-ghost use Rattle.ocf_types.specs.Lawful.{HasSpelling, HasSpellingIn, IsId, IsLawfulEvent, IsLawfulCommand};
-ghost use Rattle.ocf_types.specs.Spelling.{spelled_event, HasNoParams};
+ghost use Rattle.ocf_types.specs.Lawful.{HasEncoding, HasEncodingIn, IsId, IsLawfulEvent, IsLawfulCommand};
+ghost use Rattle.ocf_types.specs.Encoding.{encoded_event, HasNoParams};
 ghost use Rattle.ocf_types.specs.State.{State, empty, resource_at, named, others, after, after_in, after_all, after_all_in, in_first};
 ghost use Rattle.ocf_types.specs.State.{IsRegistration};
 ghost use Rattle.ocf_types.specs.Applies.{Applies, AppliesIn};
@@ -15,7 +15,7 @@ ghost use Rattle.std.specs.List.{AllByRecursion};
 ghost use Rattle.ocf_types.specs.Boot.{any_busy, boot, boot_at, IsLast};
 ghost use Rattle.ocf_types.specs.Answer.{event_of, IsRegister};
 ghost use Rattle.ocf_types.specs.LawfulState.{IsLawfulState, IsLawfulStateIn};
-ghost use Rattle.ocf_types.specs.StateSpelling.{spelled_state};
+ghost use Rattle.ocf_types.specs.StateEncoding.{encoded_state};
 ghost use Rattle.ocf_types.specs.Resource.{Resource, ended_of};
 ghost use Rattle.ocf_types.specs.Notices.{drop_notice, is_failure, last_failure, run_notice};
 ghost use Rattle.ocf_types.specs.declared.operation.Op.{Op};
@@ -85,16 +85,16 @@ pub fn what_applies()
 /// snapshot of any lawful state fits a part.
 pub fn lengths()
     ensures result { (at run : ℕ) (id : List ℕ) (end : RunEnd) → IsId id
-        → length (spelled_event (record { at = at; change = change.Step id (step.Result run end) }))
+        → length (encoded_event (record { at = at; change = change.Step id (step.Result run end) }))
         ≤ longest_result }
     ensures begin { (at call run : ℕ) (id : List ℕ) → IsId id
-        → length (spelled_event (record { at = at; change = change.Step id (step.Begin call run) }))
+        → length (encoded_event (record { at = at; change = change.Step id (step.Begin call run) }))
         ≤ longest_begin }
-    ensures boot { (at : ℕ) → length (spelled_event (boot_at at)) ≡ boot_len }
+    ensures boot { (at : ℕ) → length (encoded_event (boot_at at)) ≡ boot_len }
     ensures small { (at : ℕ) (c : Change) → IsLawfulEvent (record { at = at; change = c })
         → HasNoParams c
-        → length (spelled_event (record { at = at; change = c })) ≤ longest_small }
-    ensures state { (s : State) → IsLawfulState s → length (spelled_state s) ≤ longest_state }
+        → length (encoded_event (record { at = at; change = c })) ≤ longest_small }
+    ensures state { (s : State) → IsLawfulState s → length (encoded_state s) ≤ longest_state }
 {}
 
 /// The second layout encodes everything that the first one does, with the same meaning. A state that is lawful in the first
@@ -103,12 +103,12 @@ pub fn lengths()
 pub fn layouts()
     ensures lawful { (s : State) → IsLawfulStateIn First s → IsLawfulState s }
     ensures whole { (s : State) → IsLawfulStateIn First s → in_first s ≡ s }
-    ensures spelled { (e : Event) → HasSpellingIn First e → HasSpelling e }
-    ensures applies { (s : State) (e : Event) → HasSpellingIn First e → Applies s e
+    ensures encoded { (e : Event) → HasEncodingIn First e → HasEncoding e }
+    ensures applies { (s : State) (e : Event) → HasEncodingIn First e → Applies s e
         ↔ AppliesIn First (in_first s) e }
-    ensures after { (s : State) (e : Event) → HasSpellingIn First e
+    ensures after { (s : State) (e : Event) → HasEncodingIn First e
         → in_first (after s e) ≡ after_in First (in_first s) e }
-    ensures after_all { (s : State) (es : List Event) → AllByRecursion (HasSpellingIn First) es
+    ensures after_all { (s : State) (es : List Event) → AllByRecursion (HasEncodingIn First) es
         → in_first (after_all s es) ≡ after_all_in First (in_first s) es }
     ensures stays { (s : State) (e : Event) → IsLawfulStateIn First s → AppliesIn First s e
         → IsLawfulStateIn First (after_in First s e) }

@@ -23,7 +23,7 @@ mod refusal;
 mod reply;
 mod resource_parts;
 mod rsc_id;
-mod spelled;
+mod encoded;
 mod state_parts;
 mod state_view;
 mod values;

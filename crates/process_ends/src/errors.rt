@@ -36,7 +36,7 @@ impl ErrorLines {
     }
 
     // A text, after the number of lines that were left out before it.
-    fn spelled<D: Display + Drop>(&self, value: D) -> BoundedLine {
+    fn encoded<D: Display + Drop>(&self, value: D) -> BoundedLine {
         let mut line = BoundedLine::new();
         let count = self.left_out.get();
         // what does not fit is cut; that is no error
@@ -75,11 +75,11 @@ impl ErrorLines {
 
 impl Eprint for ErrorLines {
     fn eprint<D: Display + Drop>(&self, value: D) -> io::Result<()> {
-        self.send(&self.spelled(value))
+        self.send(&self.encoded(value))
     }
 
     fn eprintln<D: Display + Drop>(&self, value: D) -> io::Result<()> {
-        let mut line = self.spelled(value);
+        let mut line = self.encoded(value);
         line.end();
         self.send(&line)
     }

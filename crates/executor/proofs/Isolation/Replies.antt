@@ -4,7 +4,7 @@ use Rattle.std.proofs.lemmas.Slice.Eq.{bytes_eq-Decides}
 use Rattle.ocf_types.specs.Answer.{asked_event, change_of, event_of, first_of, reply_to, tests}
 use Rattle.ocf_types.specs.Kinds.{Command, Event, Reply}
 use Rattle.ocf_types.specs.Resource.{Resource}
-use Rattle.ocf_types.specs.Spelling.{spelled_event}
+use Rattle.ocf_types.specs.Encoding.{encoded_event}
 use Rattle.ocf_types.specs.State.{State, resource_at}
 use Rattle.ocf_types.specs.declared.command.CommandOf.TheVariants as command
 use Rattle.ocf_types.specs.declared.command.Question.{Question}
@@ -69,7 +69,7 @@ isolated_command y s now c answer events same calls clock plain follows =
     (λ shared.
     let refused : Follows (Err shared.0) answer events = subst (λ (v : Result Event Refusal). Follows v answer events) shared.1 follows in
     absurd (shared.2 (subst IsPlain refused.0 plain)))
-    (first_alike s c (length (spelled_event e)) e) in
+    (first_alike s c (length (encoded_event e)) e) in
     let cut_off : Follows (isolated_event (resource_at s (commanded c)) (asked_at (cut now) s.next_call c) c) answer events =
     subst (λ (at : ℕ). Follows (isolated_event (resource_at s (commanded c)) (asked_at at s.next_call c) c) answer events)
     (moment_is s now clock) one in record {

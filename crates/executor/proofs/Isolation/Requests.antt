@@ -5,7 +5,7 @@ use Rattle.std.specs.List.{AllByRecursion}
 use Rattle.ocf_types.specs.Answer.{asked_event, change_of, event_of, moment, tests}
 use Rattle.ocf_types.specs.Due.{Due}
 use Rattle.ocf_types.specs.Kinds.{Change, Command, Event, Reply}
-use Rattle.ocf_types.specs.Spelling.{spelled_event}
+use Rattle.ocf_types.specs.Encoding.{encoded_event}
 use Rattle.ocf_types.specs.State.{State, after, after_all, named, resource_at}
 use Rattle.ocf_types.specs.declared.command.CommandOf.TheVariants as command
 use Rattle.ocf_types.specs.declared.command.RequestOf.TheVariants as asked
@@ -103,23 +103,23 @@ AllName id es = AllByRecursion (λ e. named e.change ≡ Some id) es
 -- the event that a command is names its resource, is new, and has the moment that is passed in
 one_names : (s : State) (now : ℕ) (c : Command) (e : Event) → event_of s now c ≡ Ok e → AllName (commanded c) (e ∷ [])
 one_names s now c e is =
-    let went = passed (tests s c (length (spelled_event (asked_event s now c)))) (asked_event s now c) e is in
+    let went = passed (tests s c (length (encoded_event (asked_event s now c)))) (asked_event s now c) e is in
     subst (λ (f : Event). AllName (commanded c) (f ∷ [])) went.0 (asked_names s.next_call c, tt)
 
 one_keeps : (s : State) (now : ℕ) (c : Command) (e : Event) → event_of s now c ≡ Ok e → AllKeep (e ∷ [])
 one_keeps s now c e is =
-    let went = passed (tests s c (length (spelled_event (asked_event s now c)))) (asked_event s now c) e is in
+    let went = passed (tests s c (length (encoded_event (asked_event s now c)))) (asked_event s now c) e is in
     subst (λ (f : Event). AllKeep (f ∷ [])) went.0 (asked_keeps s.next_call c, tt)
 
 one_fresh : (s : State) (now : ℕ) (c : Command) (e : Event) → event_of s now c ≡ Ok e → AreFresh s (e ∷ [])
 one_fresh s now c e is =
-    let size = length (spelled_event (asked_event s now c)) in
+    let size = length (encoded_event (asked_event s now c)) in
     let went = passed (tests s c size) (asked_event s now c) e is in
     subst (λ (f : Event). AreFresh s (f ∷ [])) went.0 (asked_fresh s c size went.1, tt)
 
 one_clock : (s : State) (now : ℕ) (c : Command) (e : Event) → event_of s now c ≡ Ok e → s.clock ≤ cut now → e.at ≤ cut now
 one_clock s now c e is clock =
-    let went = passed (tests s c (length (spelled_event (asked_event s now c)))) (asked_event s now c) e is in
+    let went = passed (tests s c (length (encoded_event (asked_event s now c)))) (asked_event s now c) e is in
     subst (λ (f : Event). f.at ≤ cut now) went.0 (le_of_eq (moment_is s now clock))
 
 -- The effects of a command, and its reply where that is plain.

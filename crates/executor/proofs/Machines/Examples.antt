@@ -3,7 +3,7 @@ use Rattle.std.proofs.Common.{◌≡◌, inl, inr, ℕ, ◌<◌, true, false, Li
 use Rattle.ocf_types.specs.Answer.{asked_event, moment, tests}
 use Rattle.ocf_types.specs.Kinds.{Event}
 use Rattle.ocf_types.specs.RegistryLaws.{passed}
-use Rattle.ocf_types.specs.Spelling.{spelled_event}
+use Rattle.ocf_types.specs.Encoding.{encoded_event}
 use Rattle.ocf_types.specs.State.{State, after_all, empty}
 use Rattle.ocf_types.specs.declared.command.CommandOf.TheVariants as command
 use Rattle.ocf_types.specs.declared.event.Change.TheVariants as change
@@ -136,7 +136,7 @@ lost h =
 crossed : AllRecorded empty (Acknowledged 0 (command.Unregister r1) reply.Done ∷ []) (registered ∷ []) → ⊥
 crossed (inl h) =
     let c = command.Unregister r1 in
-    let same = (passed (tests empty c (length (spelled_event (asked_event empty 0 c)))) (asked_event empty 0 c) registered h.0.0).0 in
+    let same = (passed (tests empty c (length (encoded_event (asked_event empty 0 c)))) (asked_event empty 0 c) registered h.0.0).0 in
     let bad : change.Unregister r1 ≡ registered.change = ap (λ (e : Event). e.change) same in
     cc
 crossed (inr bad) = bad

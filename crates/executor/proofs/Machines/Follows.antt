@@ -15,7 +15,7 @@ use Rattle.ocf_types.specs.Laws.{distinct_none, each_append, each_weaken}
 use Rattle.ocf_types.specs.Limits.{num_max}
 use Rattle.ocf_types.specs.RegistryLaws.{found, none_is, other_stays, other_way, passed, same_id}
 use Rattle.ocf_types.specs.Resource.{Resource, is_busy, of_interval, queued_of}
-use Rattle.ocf_types.specs.Spelling.{spelled_event}
+use Rattle.ocf_types.specs.Encoding.{encoded_event}
 use Rattle.ocf_types.specs.State.{Registry, State, after, after_all, calls_drawn, named, resource_at, stepped}
 use Rattle.ocf_types.specs.declared.command.CommandOf.TheVariants as command
 use Rattle.ocf_types.specs.declared.event.Change.TheVariants as change
@@ -59,7 +59,7 @@ module _ {A : Type 0} where
 
 -- the change that a command asks for applies where no test held
 asked_applies : (s : State) (now : ℕ) (c : Command) → s.next_call ≤ num_max
-    → AllByRecursion (λ t. t.1 ≡ false) (tests s c (length (spelled_event (asked_event s now c)))) → ChangeApplies s (asked_event s now c).change
+    → AllByRecursion (λ t. t.1 ≡ false) (tests s c (length (encoded_event (asked_event s now c)))) → ChangeApplies s (asked_event s now c).change
 asked_applies s now (command.Register r) low p = (none_is (resource_at s r.id) p.0, leb-false _ _ p.1.0)
 asked_applies s now (command.Unregister id) low p =
     from_test (resource_at s id) (λ r. is_busy r.history) (λ r. is_busy r.history ≡ false) (λ r idle. idle) p.0 p.1.0
@@ -84,7 +84,7 @@ asked_applies s now (command.Withdraw id call) low p =
 
 pub command_applies : (s : State) (now : ℕ) (c : Command) (e : Event) → s.next_call ≤ num_max → event_of s now c ≡ Ok e → ChangeApplies s e.change
 command_applies s now c e low is =
-    let p = passed (tests s c (length (spelled_event (asked_event s now c)))) (asked_event s now c) e is in
+    let p = passed (tests s c (length (encoded_event (asked_event s now c)))) (asked_event s now c) e is in
     subst (λ (x : Event). ChangeApplies s x.change) p.0 (asked_applies s now c low p.1)
 
 -- so the next call number is never above the greatest

@@ -3,12 +3,12 @@ use Rattle.std.specs.List.{AllByRecursion}
 use Rattle.ocf_types.specs.Kinds.{Event}
 use Rattle.ocf_types.specs.Limits.{num_max}
 use Rattle.ocf_types.specs.Places.{id_at}
-use Rattle.exec_journal.specs.Front.{spelled_row}
+use Rattle.exec_journal.specs.Front.{encoded_row}
 use Rattle.exec_state.specs.Store.{dues}
 use Rattle.exec_ledger.specs.Actives.{Active}
 use Rattle.exec_turn.specs.Launches.{IsStart, all_starting}
 use Rattle.exec_turn.specs.Picks.{begins}
-use Rattle.exec_turn.proofs.PickSteps.{SoFar, above, begun_here, each_push, full_here, no_memory_here, nothing_here, one_longer, row_more, spelled_more, spent_here, starting_more}
+use Rattle.exec_turn.proofs.PickSteps.{SoFar, above, begun_here, each_push, full_here, no_memory_here, nothing_here, one_longer, row_more, encoded_more, spent_here, starting_more}
 use Rattle.exec_turn.proofs.Resting.{rests_picked}
 use Rattle.exec_turn.proofs.picks.pick_all.Goals as goal
 
@@ -49,10 +49,10 @@ returns-then-not-fits-clause-picked g c =
     let inv = c.loop-place.invariant in
     let within : c.loop-place.place < length s.resources = omega (arith, c.loop-place-test.true, c.len-place-end.ensures.value) in
     let drawn : c.loop-place.run + 1 ≤ num_max = omega (arith, (c.in-Some-new.ensures.lawful.0 refl).1, c.get.ensures.value) in
-    let size = spelled_more c.args.at c.loop-place.len c.spelled_len-len.result (all_starting c.loop-place.starts.items)
+    let size = encoded_more c.args.at c.loop-place.len c.encoded_len-len.result (all_starting c.loop-place.starts.items)
     (record { id = id_at s c.loop-place.place; running = c.in-Some.running }) c.loop-place.row.items c.begin_at-begin.result inv.row
-    c.begin_at-begin.ensures.begin inv.len c.spelled_len-len.ensures in
-    let all = c.args.journal.now.tail.at + 5 + (c.loop-place.len + c.spelled_len-len.result) + 1 + 32768 in
+    c.begin_at-begin.ensures.begin inv.len c.encoded_len-len.ensures in
+    let all = c.args.journal.now.tail.at + 5 + (c.loop-place.len + c.encoded_len-len.result) + 1 + 32768 in
     let over : 8388608 < all = above all 8388608 (λ le. let no : false ≡ true = c.if-not-fits.ensures.value.1 le in cc) in
     full_here inv.so_far within c.in-Some.ensures drawn size over
 
@@ -62,9 +62,9 @@ returns-in_default-start_of-clause-picked g c =
     let inv = c.loop-place.invariant in
     let within : c.loop-place.place < length s.resources = omega (arith, c.loop-place-test.true, c.len-place-end.ensures.value) in
     let drawn : c.loop-place.run + 1 ≤ num_max = omega (arith, (c.in-Some-new.ensures.lawful.0 refl).1, c.get.ensures.value) in
-    let size = spelled_more c.args.at c.loop-place.len c.spelled_len-len.result (all_starting c.loop-place.starts.items)
+    let size = encoded_more c.args.at c.loop-place.len c.encoded_len-len.result (all_starting c.loop-place.starts.items)
     (record { id = id_at s c.loop-place.place; running = c.in-Some.running }) c.loop-place.row.items c.begin_at-begin.result inv.row
-    c.begin_at-begin.ensures.begin inv.len c.spelled_len-len.ensures in
+    c.begin_at-begin.ensures.begin inv.len c.encoded_len-len.ensures in
     no_memory_here inv.so_far within c.in-Some.ensures drawn size (c.if-not-fits.ensures.value.0 refl)
 
 pub loop-place-preserved : goal.loop-place-preserved
@@ -73,9 +73,9 @@ loop-place-preserved g c =
     let inv = c.loop-place.invariant in
     let within : c.loop-place.place < length s.resources = omega (arith, c.loop-place-test.true, c.len-place-end.ensures.value) in
     let drawn : c.loop-place.run + 1 ≤ num_max = omega (arith, (c.in-Some-new.ensures.lawful.0 refl).1, c.get.ensures.value) in
-    let size = spelled_more c.args.at c.loop-place.len c.spelled_len-len.result (all_starting c.loop-place.starts.items)
+    let size = encoded_more c.args.at c.loop-place.len c.encoded_len-len.result (all_starting c.loop-place.starts.items)
     (record { id = id_at s c.loop-place.place; running = c.in-Some.running }) c.loop-place.row.items c.begin_at-begin.result inv.row
-    c.begin_at-begin.ensures.begin inv.len c.spelled_len-len.ensures in
+    c.begin_at-begin.ensures.begin inv.len c.encoded_len-len.ensures in
     let items = c.loop-place.starts.items in
     let starts = c.push_reserved-in-loop-place.new.self.items in
     let a : Active = record { id = id_at s c.loop-place.place; running = c.in-Some.running } in
@@ -94,8 +94,8 @@ loop-place-preserved g c =
       are_starts =
           subst (AllByRecursion (IsStart c.args.site.now s)) (sym grown)
           (each_push (IsStart c.args.site.now s) items c.in-Ok.start inv.are_starts c.in-Ok.ensures.start);
-      len = sym size ∙ ap (λ (l : List Event). length (spelled_row l)) (sym row_is);
-      short = omega (arith, inv.short, c.begin_at-begin.ensures.short, c.spelled_len-len.ensures);
+      len = sym size ∙ ap (λ (l : List Event). length (encoded_row l)) (sym row_is);
+      short = omega (arith, inv.short, c.begin_at-begin.ensures.short, c.encoded_len-len.ensures);
       few = omega (arith, inv.few, count);
       row_room = c.push_reserved.ensures.capacity ∙ inv.row_room;
       start_room = c.push_reserved-in-loop-place.ensures.capacity ∙ inv.start_room;

@@ -1,7 +1,7 @@
 use Rattle.std.proofs.Common.{◌≡◌, ◌*◌, ◌≤◌, length}
 use Rattle.std.specs.List.{AllByRecursion}
 use Rattle.std.specs.Vec.{vec_capacity}
-use Rattle.exec_journal.specs.Front.{spelled_row}
+use Rattle.exec_journal.specs.Front.{encoded_row}
 use Rattle.exec_journal.specs.Journal.{journal_place}
 use Rattle.exec_state.specs.Store.{dues}
 use Rattle.exec_turn.specs.Launches.{IsStart, all_starting}
@@ -17,7 +17,7 @@ invariant-loop-place g l =
       so_far : SoFar s (dues l.state) (journal_place l.journal).tail l.at l.place l.run begun;
       row : l.row.items ≡ begins l.at begun;
       are_starts : AllByRecursion (IsStart l.site s) l.starts.items;
-      len : l.len ≡ length (spelled_row l.row.items);
+      len : l.len ≡ length (encoded_row l.row.items);
       short : l.len ≤ 90 * l.place;
       few : length l.starts.items ≤ l.place;
       row_room : vec_capacity l.row ≡ vec_capacity l.fn.row;

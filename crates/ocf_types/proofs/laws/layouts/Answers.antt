@@ -1,6 +1,6 @@
 use Rattle.ocf_types.specs.declared.layout.Layout.TheVariants.{First}
 use Rattle.ocf_types.proofs.LawfulLaw.{lawful_after}
-use Rattle.ocf_types.proofs.LayoutLemmas.{state_carried, state_whole, spelling_carried, applies_cut, after_cut, after_all_cut}
+use Rattle.ocf_types.proofs.LayoutLemmas.{state_carried, state_whole, encoding_carried, applies_cut, after_cut, after_all_cut}
 use Rattle.ocf_types.proofs.laws.layouts.Goals as goal
 
 pub returns-clause-lawful : goal.returns-clause-lawful
@@ -9,8 +9,8 @@ returns-clause-lawful c s h = state_carried s h
 pub returns-clause-whole : goal.returns-clause-whole
 returns-clause-whole c s h = state_whole s h
 
-pub returns-clause-spelled : goal.returns-clause-spelled
-returns-clause-spelled c e h = spelling_carried e h
+pub returns-clause-encoded : goal.returns-clause-encoded
+returns-clause-encoded c e h = encoding_carried e h
 
 pub returns-clause-applies : goal.returns-clause-applies
 returns-clause-applies c s e h = applies_cut s e h
