@@ -3,7 +3,7 @@ use Rattle.std.proofs.Common.{◌≡◌, ℕ, zero, suc, ◌+◌, ◌<◌, ◌�
 use Rattle.std.proofs.lemmas.List.{append-nil}
 use Rattle.std.proofs.KnownBytes.{Appends-nil, Appends-trans}
 use Rattle.std.specs.Io.KnownBytes.{Appends}
-use Rattle.exec_lines.specs.Fronts.{AppendsFront}
+use Rattle.exec_lines.specs.Prefixes.{AppendsPrefix}
 
 -- some of the lines are written, and the others are left
 pub record Along (all rest : List ℕ) (old new : Option (List ℕ)) : Type 0 where
@@ -30,14 +30,14 @@ along_all all rest a b none so_far =
     (sym (so_far.parts ∙ ap (λ (l : List ℕ). so_far.done ++ l) none ∙ append-nil so_far.done)) so_far.written
 
 -- the next line is cut short
-pub along_part : (all line rest : List ℕ) (a b c : Option (List ℕ)) → Along all (line ++ rest) a b → AppendsFront b c line
-    → AppendsFront a c all
+pub along_part : (all line rest : List ℕ) (a b c : Option (List ℕ)) → Along all (line ++ rest) a b → AppendsPrefix b c line
+    → AppendsPrefix a c all
 along_part all line rest a b c so_far part = record {
-  front = so_far.done ++ part.front;
+  prefix = so_far.done ++ part.prefix;
   rest = part.rest ++ rest;
   parts = so_far.parts ∙ ap (λ (l : List ℕ). so_far.done ++ (l ++ rest)) part.parts
-      ∙ ap (λ (l : List ℕ). so_far.done ++ l) (append_assoc part.front part.rest rest)
-      ∙ sym (append_assoc so_far.done part.front (part.rest ++ rest));
+      ∙ ap (λ (l : List ℕ). so_far.done ++ l) (append_assoc part.prefix part.rest rest)
+      ∙ sym (append_assoc so_far.done part.prefix (part.rest ++ rest));
   written = Appends-trans a b c _ _ so_far.written part.written;
 }
 

@@ -2,7 +2,7 @@
 use Rattle.std.proofs.Common.{◌≡◌, ℕ, ◌+◌, ◌<◌, ◌≤◌, ◌∙◌, List, [], ◌∷◌, ◌++◌, map, drop, get_or, length, Option, None, Result, OnErr, OnOk, refl, sym, ap, subst}
 use Rattle.std.specs.Io.KnownBytes.{Appends}
 use Rattle.std.specs.List.{flat_map}
-use Rattle.exec_lines.specs.Fronts.{AppendsFront}
+use Rattle.exec_lines.specs.Prefixes.{AppendsPrefix}
 use Rattle.ocf_types.specs.Kinds.{Reply}
 use Rattle.ocf_types.specs.declared.reply.Notice.{Notice}
 use Rattle.ocf_types.specs.declared.reply.ReplyOf.TheVariants as reply
@@ -19,15 +19,15 @@ use Rattle.exec_client.proofs.Along.{Along, along_all, along_more, along_part, d
 pub appends_same : (a b : Option (List ℕ)) (l m : List ℕ) → l ≡ m → Appends a b l → Appends a b m
 appends_same a b l m same written = subst (λ (t : List ℕ). Appends a b t) same written
 
-pub front_same : (a b : Option (List ℕ)) (l m : List ℕ) → l ≡ m → AppendsFront a b l → AppendsFront a b m
-front_same a b l m same part = subst (λ (t : List ℕ). AppendsFront a b t) same part
+pub prefix_same : (a b : Option (List ℕ)) (l m : List ℕ) → l ≡ m → AppendsPrefix a b l → AppendsPrefix a b m
+prefix_same a b l m same part = subst (λ (t : List ℕ). AppendsPrefix a b t) same part
 
 pub ok_same : {T E : Type 0} (r : Result T E) (a b : Option (List ℕ)) (l m : List ℕ) → m ≡ l → OnOk r (Appends a b l) → OnOk r (Appends a b m)
 ok_same r a b l m same written = subst (λ (t : List ℕ). OnOk r (Appends a b t)) (sym same) written
 
-pub err_same : {T E : Type 0} (r : Result T E) (a b : Option (List ℕ)) (l m : List ℕ) → m ≡ l → OnErr r (AppendsFront a b l)
-    → OnErr r (AppendsFront a b m)
-err_same r a b l m same part = subst (λ (t : List ℕ). OnErr r (AppendsFront a b t)) (sym same) part
+pub err_same : {T E : Type 0} (r : Result T E) (a b : Option (List ℕ)) (l m : List ℕ) → m ≡ l → OnErr r (AppendsPrefix a b l)
+    → OnErr r (AppendsPrefix a b m)
+err_same r a b l m same part = subst (λ (t : List ℕ). OnErr r (AppendsPrefix a b t)) (sym same) part
 
 -- the lines of a report have no tags
 pub report_lines : (form : NoticeForm) (ns : List Notice) → lines_of form [] (map Reported ns) ≡ flat_map (formed_line form None None) ns
@@ -76,7 +76,7 @@ module _ (form : NoticeForm) where
       })
 
   pub answers_part : (was v : TagsView) (rs : List Reply) (i : ℕ) (r : Reply) (a b c : Option (List ℕ)) → i < length rs → r ≡ get_or rs i r
-      → Answers was v rs i a b → AppendsFront b c (line_of form (first_tag v.lines) (answered r)) → AppendsFront a c (reply_rest was rs)
+      → Answers was v rs i a b → AppendsPrefix b c (line_of form (first_tag v.lines) (answered r)) → AppendsPrefix a c (reply_rest was rs)
   answers_part was v rs i r a b c lt at so_far part =
       along_part (reply_rest was rs) (line_of form (first_tag v.lines) (answered r))
       (reply_rest (after_reply r (next_line v)) (drop (i + 1) rs)) a b c
@@ -120,7 +120,7 @@ module _ (form : NoticeForm) where
         })
 
     pub notices_part : (was v : TagsView) (ns : List Notice) (i : ℕ) (n : Notice) (a b c : Option (List ℕ)) → i < length ns → n ≡ get_or ns i n
-        → Noticing was v ns i a b → AppendsFront b c (notice_line v n) → AppendsFront a c (notice_rest was ns)
+        → Noticing was v ns i a b → AppendsPrefix b c (notice_line v n) → AppendsPrefix a c (notice_rest was ns)
     notices_part was v ns i n a b c lt at so_far part =
         along_part (notice_rest was ns) (notice_line v n) (notice_rest (after_notice n v) (drop (i + 1) ns)) a b c
         (subst (λ (xs : List Notice). Along (notice_rest was ns) (notice_rest v xs) a b) (drop_next ns i n lt at) so_far.lines) part

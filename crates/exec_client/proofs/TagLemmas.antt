@@ -42,12 +42,12 @@ call_added calls k =
     ∙ ap (λ (n : ℕ). drop (n - call_limit) (map call_tag calls ++ call_tag k ∷ [])) (sym long)
 
 -- if lines without a tag wait first, the oldest has none
-untagged_front : (n : ℕ) (a b c : List LineTag) → 0 < n → None ≡ first_tag (((replicate n None ++ a) ++ b) ++ c)
-untagged_front zero a b c lt = absurd (omega (arith, lt))
-untagged_front (suc n) a b c lt = refl
+untagged_prefix : (n : ℕ) (a b c : List LineTag) → 0 < n → None ≡ first_tag (((replicate n None ++ a) ++ b) ++ c)
+untagged_prefix zero a b c lt = absurd (omega (arith, lt))
+untagged_prefix (suc n) a b c lt = refl
 
 pub untagged_first : (waiting : List Waiting) (after : ℕ) (w : Waiting) → 0 < length waiting → w ≡ get_or waiting 0 w → 0 < w.before
     → None ≡ first_tag (lines_in waiting after)
 untagged_first [] after w some is before = absurd (omega (arith, some))
 untagged_first (x ∷ xs) after w some is before =
-    untagged_front x.before _ _ _ (subst (λ (y : Waiting). 0 < y.before) is before)
+    untagged_prefix x.before _ _ _ (subst (λ (y : Waiting). 0 < y.before) is before)

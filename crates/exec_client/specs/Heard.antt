@@ -2,7 +2,7 @@
 use Rattle.std.specs.Prelude.{◌≡◌, ℕ, List, ◌++◌, Option}
 use Rattle.std.specs.Io.KnownBytes.{Appends}
 use Rattle.executor.specs.Sights.{Sight}
-use Rattle.exec_lines.specs.Fronts.{AppendsFront}
+use Rattle.exec_lines.specs.Prefixes.{AppendsPrefix}
 use Rattle.exec_commands.specs.declared.notice.NoticeForm.{NoticeForm}
 use Rattle.exec_client.specs.Said.{Said, lines_of}
 use Rattle.exec_client.specs.Tags.{LineTag}
@@ -27,4 +27,4 @@ pub record Hears {D : Type 0} (form : NoticeForm) (old new : Heard D) (more : Li
 pub record HearsPart {D : Type 0} (form : NoticeForm) (old new : Heard D) (more : List Said) : Type 0 where
   pub told : IsTold old new more
   pub tags : List LineTag
-  pub written : AppendsFront old.written new.written (lines_of form tags more)
+  pub written : AppendsPrefix old.written new.written (lines_of form tags more)

@@ -1,7 +1,7 @@
 //! Lines of notices, each with the tag of its call and the signal that ended its run.
 ghost use Rattle.std.specs.Prelude.{◌≡◌, IfErr, IsTrue, OnErr, OnOk, map};
 ghost use Rattle.std.specs.Io.KnownBytes.{Appends};
-ghost use Rattle.exec_lines.specs.Fronts.{AppendsFront};
+ghost use Rattle.exec_lines.specs.Prefixes.{AppendsPrefix};
 ghost use Rattle.exec_messages.specs.declared.send.IoFault.TheVariants.{Memory};
 ghost use Rattle.exec_client.specs.Said.{Noticed, line_of, lines_of, noticed_by};
 ghost use Rattle.exec_client.specs.Signals.{signal_of};
@@ -49,8 +49,8 @@ fn send_signaled<W: Write>(
         (Appends (W.contents writer.old) (W.contents writer.new)
         (line_of making.now.form (tag_of_call signaled.now.notice.now.result.call tags.old.calls)
         (Noticed signaled.now.notice.now signaled.now.signal))) }
-    ensures front { OnErr result
-        (AppendsFront (W.contents writer.old) (W.contents writer.new)
+    ensures prefix { OnErr result
+        (AppendsPrefix (W.contents writer.old) (W.contents writer.new)
         (line_of making.now.form (tag_of_call signaled.now.notice.now.result.call tags.old.calls)
         (Noticed signaled.now.notice.now signaled.now.signal))) }
     ensures kept { OnOk result (tags.new ≡ after_notice signaled.now.notice.now tags.old) }
@@ -82,8 +82,8 @@ pub(crate) fn send_turn<W: Write>(
         (Appends (W.contents writer.old) (W.contents writer.new)
         (lines_of making.now.form (notice_tags tags.old turn.now.notices.now)
         (map (noticed_by turn.now.book.now) turn.now.notices.now))) }
-    ensures front { OnErr result
-        (AppendsFront (W.contents writer.old) (W.contents writer.new)
+    ensures prefix { OnErr result
+        (AppendsPrefix (W.contents writer.old) (W.contents writer.new)
         (lines_of making.now.form (notice_tags tags.old turn.now.notices.now)
         (map (noticed_by turn.now.book.now) turn.now.notices.now))) }
     ensures kept { OnOk result (tags.new ≡ after_notices turn.now.notices.now tags.old) }

@@ -1,7 +1,7 @@
 //! Replies to lines, each with the tag of the line that it answers.
 ghost use Rattle.std.specs.Prelude.{◌≡◌, IfErr, IsTrue, None, OnErr, OnOk, map};
 ghost use Rattle.std.specs.Io.KnownBytes.{Appends};
-ghost use Rattle.exec_lines.specs.Fronts.{AppendsFront};
+ghost use Rattle.exec_lines.specs.Prefixes.{AppendsPrefix};
 ghost use Rattle.exec_messages.specs.declared.send.IoFault.TheVariants.{Memory};
 ghost use Rattle.exec_client.specs.Said.{Answered, answered, line_of, lines_of};
 ghost use Rattle.exec_client.specs.Tags.{after_line_reply, after_reply, first_tag, next_line};
@@ -32,8 +32,8 @@ pub(crate) fn send_answer<W: Write>(
     ensures sent { OnOk result
         (Appends (W.contents writer.old) (W.contents writer.new)
         (line_of making.now.form (first_tag tags.old.lines) (Answered reply.now))) }
-    ensures front { OnErr result
-        (AppendsFront (W.contents writer.old) (W.contents writer.new)
+    ensures prefix { OnErr result
+        (AppendsPrefix (W.contents writer.old) (W.contents writer.new)
         (line_of making.now.form (first_tag tags.old.lines) (Answered reply.now))) }
     ensures kept { OnOk result (tags.new ≡ after_line_reply reply.now (next_line tags.old)) }
     ensures memory { IfErr result (λ f. f ≡ Memory → IsTrue ⟦<Global as Grows>⟧.refuses) }
@@ -58,8 +58,8 @@ fn put_answer<W: Write>(
     ensures sent { OnOk result
         (Appends (W.contents writer.old) (W.contents writer.new)
         (line_of making.now.form (first_tag tags.old.lines) (answered reply.now))) }
-    ensures front { OnErr result
-        (AppendsFront (W.contents writer.old) (W.contents writer.new)
+    ensures prefix { OnErr result
+        (AppendsPrefix (W.contents writer.old) (W.contents writer.new)
         (line_of making.now.form (first_tag tags.old.lines) (answered reply.now))) }
     ensures kept { OnOk result (tags.new ≡ after_reply reply.now (next_line tags.old)) }
     ensures memory { IfErr result (λ f. f ≡ Memory → IsTrue ⟦<Global as Grows>⟧.refuses) }
@@ -84,8 +84,8 @@ fn put_answers<W: Write>(
     ensures sent { OnOk result
         (Appends (W.contents writer.old) (W.contents writer.new)
         (lines_of making.now.form tags.old.lines (map answered replies.now))) }
-    ensures front { OnErr result
-        (AppendsFront (W.contents writer.old) (W.contents writer.new)
+    ensures prefix { OnErr result
+        (AppendsPrefix (W.contents writer.old) (W.contents writer.new)
         (lines_of making.now.form tags.old.lines (map answered replies.now))) }
     ensures kept { OnOk result (tags.new ≡ after_replies replies.now tags.old) }
     ensures memory { IfErr result (λ f. f ≡ Memory → IsTrue ⟦<Global as Grows>⟧.refuses) }
@@ -107,8 +107,8 @@ pub(crate) fn send_answers<W: Write>(
     ensures sent { OnOk result
         (Appends (W.contents writer.old) (W.contents writer.new)
         (lines_of making.now.form tags.old.lines (map answered replies.now))) }
-    ensures front { OnErr result
-        (AppendsFront (W.contents writer.old) (W.contents writer.new)
+    ensures prefix { OnErr result
+        (AppendsPrefix (W.contents writer.old) (W.contents writer.new)
         (lines_of making.now.form tags.old.lines (map answered replies.now))) }
     ensures kept { OnOk result (tags.new ≡ after_replies replies.now tags.old) }
     ensures memory { IfErr result (λ f. f ≡ Memory → IsTrue ⟦<Global as Grows>⟧.refuses) }
@@ -127,8 +127,8 @@ pub(crate) fn send_news<W: Write>(
     ensures sent { OnOk result
         (Appends (W.contents writer.old) (W.contents writer.new)
         (line_of making.now.form None (Answered news.now))) }
-    ensures front { OnErr result
-        (AppendsFront (W.contents writer.old) (W.contents writer.new)
+    ensures prefix { OnErr result
+        (AppendsPrefix (W.contents writer.old) (W.contents writer.new)
         (line_of making.now.form None (Answered news.now))) }
     ensures memory { IfErr result (λ f. f ≡ Memory → IsTrue ⟦<Global as Grows>⟧.refuses) }
 {

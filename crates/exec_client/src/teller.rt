@@ -1,7 +1,7 @@
 //! A client that writes messages as lines.
 ghost use Rattle.std.specs.Prelude.{◌≡◌, [], IfErr, IsTrue, OnErr, OnOk};
 ghost use Rattle.std.specs.Io.KnownBytes.{Appends};
-ghost use Rattle.exec_lines.specs.Fronts.{AppendsFront};
+ghost use Rattle.exec_lines.specs.Prefixes.{AppendsPrefix};
 ghost use Rattle.exec_messages.specs.declared.send.IoFault.TheVariants.{Memory};
 ghost use Rattle.exec_client.specs.Heard.{Heard};
 ghost use Rattle.exec_client.specs.Said.{lines_of, said_in};
@@ -44,8 +44,8 @@ fn write_told<W: Output>(
     ensures sent { OnOk result
         (Appends (W.contents writer.old) (W.contents writer.new)
         (lines_of making.now.form (told_tags tags.old what.now) (said_in what.now))) }
-    ensures front { OnErr result
-        (AppendsFront (W.contents writer.old) (W.contents writer.new)
+    ensures prefix { OnErr result
+        (AppendsPrefix (W.contents writer.old) (W.contents writer.new)
         (lines_of making.now.form (told_tags tags.old what.now) (said_in what.now))) }
     ensures kept { OnOk result (tags.new ≡ after_told what.now tags.old) }
     ensures memory { IfErr result (λ f. f ≡ Memory → IsTrue ⟦<Global as Grows>⟧.refuses) }

@@ -1,4 +1,4 @@
 pub mod LineLemmas
 pub mod PieceLemmas
 pub mod BufferLemmas
-pub mod FrontLemmas
+pub mod PrefixLemmas

@@ -35,7 +35,7 @@ pub reads-shown : (E : Type 0) (a b c : Option (List ℕ)) (buffered : Option �
     → IfSome a (λ xs. StartsWith xs shown) → IfSome a (λ xs. length shown ≡ 0 → xs ≡ []) → Keeps a b
     → IfSome a (λ _. IfSome buffered (λ k. length shown ≤ k)) → DropsConsumable b c buffered (len + newline_count piece)
     → Reads {E = E} a c (take len shown) (Ok piece)
-reads-shown E a b c buffered shown len piece place is front end kept fits drops =
+reads-shown E a b c buffered shown len piece place is prefix end kept fits drops =
     let of = by (nat_lt len (length shown)) (length shown == 0) refl refl
     (subst (λ p. DropsConsumable b c buffered (len + newline_count p)) is drops) in
     subst (λ p. Reads {E = E} a c (take len shown) (Ok p)) (sym is) of
@@ -44,7 +44,7 @@ reads-shown E a b c buffered shown len piece place is front end kept fits drops 
     within = omega (arith, place, place-le shown)
 
     taken : (n k : ℕ) → n ≡ k → k ≤ length shown → DropsConsumable b c buffered n → Consumes a c (take k shown)
-    taken n k same le d = (Consumes_shown a b c buffered shown k le front end kept fits (subst (DropsConsumable b c buffered) same d)).0
+    taken n k same le d = (Consumes_shown a b c buffered shown k le prefix end kept fits (subst (DropsConsumable b c buffered) same d)).0
 
     by : (ended none : Bool) → nat_lt len (length shown) ≡ ended → (length shown == 0) ≡ none
         → DropsConsumable b c buffered (len + newline_count (if ended then Last else (if none then Nothing else Part)))

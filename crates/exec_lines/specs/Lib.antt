@@ -2,4 +2,4 @@ pub mod Buffer
 pub mod Lines
 pub mod Pieces
 pub mod Clock
-pub mod Fronts
+pub mod Prefixes

@@ -34,7 +34,7 @@ Reads old new part (Err e) = Consumes old new part
 pub record IsMidLine (left : Option (List ℕ)) (kept : List ℕ) (now : Option (List ℕ)) : Type 0 where
   pub part : List ℕ
   pub unended : All (λ b. b ≢ 10) part
-  pub front : kept ≡ take line_room part
+  pub prefix : kept ≡ take line_room part
   pub read : Consumes left now part
 
 -- the next line of the input `left`, with its bytes if it is not too long, and the rest of the input after it

@@ -2,7 +2,7 @@
 ghost use Rattle.std.specs.Prelude.{OnErr, OnOk};
 ghost use Rattle.std.specs.Io.{WritesAtMost};
 ghost use Rattle.std.specs.Io.KnownBytes.{Appends, WriteAppends};
-ghost use Rattle.exec_lines.specs.Fronts.{AppendsFront};
+ghost use Rattle.exec_lines.specs.Prefixes.{AppendsPrefix};
 
 use ocf_types::NUM_MAX;
 use std::io::{self, ErrorKind, Write};
@@ -24,8 +24,8 @@ fn write_once<W: Write>(writer: &mut W, bytes: &[u8]) -> io::Result<usize>
 pub fn write_bytes<W: Write>(writer: &mut W, bytes: &[u8]) -> io::Result<()>
     ensures written { OnOk result
         (Appends (W.contents writer.old) (W.contents writer.new) bytes.now) }
-    ensures front { OnErr result
-        (AppendsFront (W.contents writer.old) (W.contents writer.new) bytes.now) }
+    ensures prefix { OnErr result
+        (AppendsPrefix (W.contents writer.old) (W.contents writer.new) bytes.now) }
 {
     let mut done = 0;
     for _ in 0..NUM_MAX {
@@ -42,8 +42,8 @@ pub fn write_bytes<W: Write>(writer: &mut W, bytes: &[u8]) -> io::Result<()>
 pub fn write_flushed<W: Write>(writer: &mut W, bytes: &[u8]) -> io::Result<()>
     ensures written { OnOk result
         (Appends (W.contents writer.old) (W.contents writer.new) bytes.now) }
-    ensures front { OnErr result
-        (AppendsFront (W.contents writer.old) (W.contents writer.new) bytes.now) }
+    ensures prefix { OnErr result
+        (AppendsPrefix (W.contents writer.old) (W.contents writer.new) bytes.now) }
 {
     write_bytes(writer, bytes)?;
     writer.flush()

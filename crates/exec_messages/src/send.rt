@@ -4,7 +4,7 @@ ghost use Rattle.std.specs.Io.KnownBytes.{Appends};
 ghost use Rattle.std.specs.List.{flat_map};
 ghost use Rattle.exec_commands.specs.Replies.{formed_line, told_reply_line, told_request_line};
 ghost use Rattle.exec_commands.specs.Tags.{told_tag};
-ghost use Rattle.exec_lines.specs.Fronts.{AppendsFront};
+ghost use Rattle.exec_lines.specs.Prefixes.{AppendsPrefix};
 ghost use Rattle.exec_messages.specs.declared.send.IoFault.TheVariants.{InputOrOutput, Memory};
 
 use exec_commands::{
@@ -46,9 +46,9 @@ fn send_line<W: Write>(writer: &mut W, line: Result<Vec<u8>, AllocError>) -> Res
     ensures sent { IfOk line
         (λ bytes. OnOk result
         (Appends (W.contents writer.old) (W.contents writer.new) bytes.items)) }
-    ensures front { IfOk line
+    ensures prefix { IfOk line
         (λ bytes. OnErr result
-        (AppendsFront (W.contents writer.old) (W.contents writer.new) bytes.items)) }
+        (AppendsPrefix (W.contents writer.old) (W.contents writer.new) bytes.items)) }
     ensures memory { IfErr line (λ _. result ≡ Err Memory) }
     ensures only { IfOk line (λ _. IfErr result (λ f. f ≢ Memory)) }
     ensures unwritten { IfErr line (λ _. W.contents writer.new ≡ W.contents writer.old) }
@@ -67,8 +67,8 @@ pub fn send_reply<W: Write>(
     ensures sent { OnOk result
         (Appends (W.contents writer.old) (W.contents writer.new)
         (told_reply_line tagged.entry.form (told_tag tagged.entry) reply.now)) }
-    ensures front { OnErr result
-        (AppendsFront (W.contents writer.old) (W.contents writer.new)
+    ensures prefix { OnErr result
+        (AppendsPrefix (W.contents writer.old) (W.contents writer.new)
         (told_reply_line tagged.entry.form (told_tag tagged.entry) reply.now)) }
     ensures memory { IfErr result (λ f. f ≡ Memory → IsTrue ⟦<Global as Grows>⟧.refuses) }
 {
@@ -85,8 +85,8 @@ pub fn put_reply<W: Write>(
     ensures sent { OnOk result
         (Appends (W.contents writer.old) (W.contents writer.new)
         (told_request_line tagged.entry.form (told_tag tagged.entry) reply.now)) }
-    ensures front { OnErr result
-        (AppendsFront (W.contents writer.old) (W.contents writer.new)
+    ensures prefix { OnErr result
+        (AppendsPrefix (W.contents writer.old) (W.contents writer.new)
         (told_request_line tagged.entry.form (told_tag tagged.entry) reply.now)) }
     ensures memory { IfErr result (λ f. f ≡ Memory → IsTrue ⟦<Global as Grows>⟧.refuses) }
 {
@@ -107,8 +107,8 @@ pub fn send_notice<W: Write>(
     ensures sent { OnOk result
         (Appends (W.contents writer.old) (W.contents writer.new)
         (formed_line tagged.entry.form (told_tag tagged.entry) signal notice.now)) }
-    ensures front { OnErr result
-        (AppendsFront (W.contents writer.old) (W.contents writer.new)
+    ensures prefix { OnErr result
+        (AppendsPrefix (W.contents writer.old) (W.contents writer.new)
         (formed_line tagged.entry.form (told_tag tagged.entry) signal notice.now)) }
     ensures memory { IfErr result (λ f. f ≡ Memory → IsTrue ⟦<Global as Grows>⟧.refuses) }
 {
@@ -125,8 +125,8 @@ pub fn send_notices<W: Write>(
     ensures sent { OnOk result
         (Appends (W.contents writer.old) (W.contents writer.new)
         (flat_map (formed_line form.entry None None) notices.now)) }
-    ensures front { OnErr result
-        (AppendsFront (W.contents writer.old) (W.contents writer.new)
+    ensures prefix { OnErr result
+        (AppendsPrefix (W.contents writer.old) (W.contents writer.new)
         (flat_map (formed_line form.entry None None) notices.now)) }
     ensures memory { IfErr result (λ f. f ≡ Memory → IsTrue ⟦<Global as Grows>⟧.refuses) }
 {

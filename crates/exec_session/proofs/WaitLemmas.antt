@@ -120,7 +120,7 @@ pub begins : (left now : Option (List ℕ)) (kept : List ℕ) → left ≡ now �
 begins left now kept same none = subst (λ (l : Option (List ℕ)). IsMidLine l kept now) (sym same) (record {
   part = [];
   unended = All-nil (λ b. b ≢ 10);
-  front = none ∙ sym (take_all 131073 [] (omega arith));
+  prefix = none ∙ sym (take_all 131073 [] (omega arith));
   read = Consumes-nil now;
 })
 

@@ -179,9 +179,9 @@ pub picks_cut : (due : Due) (at run next : ℕ) (rs : Registry) (place : ℕ) (b
 picks_cut due at run next rs place bs x lt before is now =
     let e = slice_index_or rs place no_entry in
     let a : Active = record { id = e.0; running = x } in
-    let front = picks_more due at run next rs place bs (Some x) lt before is now in
+    let prefix = picks_more due at run next rs place bs (Some x) lt before is now in
     let later = some_picks due at (run + length (bs ++ a ∷ [])) (drop (place + 1) rs) in
-    let all = picks_append due at run (take (place + 1) rs) (drop (place + 1) rs) (bs ++ a ∷ []) later.0 front later.1 in
+    let all = picks_append due at run (take (place + 1) rs) (drop (place + 1) rs) (bs ++ a ∷ []) later.0 prefix later.1 in
     let whole : take (place + 1) rs ++ drop (place + 1) rs ≡ rs = take-append-drop (place + 1) rs in (
       later.0,
       subst (λ (l : List Active). ArePicks due at run rs l) (append_assoc bs (a ∷ []) later.0)

@@ -14,7 +14,7 @@ use Rattle.ocf_types.specs.State.{State}
 use Rattle.ocf_types.specs.declared.operation.Running.{Running}
 use Rattle.ocf_types.specs.declared.reply.TurnEnd.TheVariants as turn_end
 use Rattle.ocf_env.specs.Places.{Call, SiteView}
-use Rattle.exec_journal.specs.Front.{encoded_row}
+use Rattle.exec_journal.specs.PartPrefix.{encoded_row}
 use Rattle.exec_journal.specs.Rows.{IsTooLong, kept_free}
 use Rattle.exec_ledger.specs.Actives.{Active}
 use Rattle.ocf_env.specs.Instances.{registration_of}

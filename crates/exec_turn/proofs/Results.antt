@@ -26,7 +26,7 @@ use Rattle.ocf_types.specs.Kinds.{Event, Step}
 use Rattle.ocf_types.specs.Limits.{longest_result, resources_limit}
 use Rattle.ocf_types.specs.Encoding.{encoded_event}
 use Rattle.ocf_types.specs.declared.event.Change.TheVariants as change
-use Rattle.exec_journal.specs.Front.{AllApply, encoded_row}
+use Rattle.exec_journal.specs.PartPrefix.{AllApply, encoded_row}
 use Rattle.exec_journal.specs.Rows.{are_results}
 use Rattle.exec_turn.specs.AgentsLive.{AgentsLive}
 use Rattle.exec_ledger.specs.Rows.{MayRecord}

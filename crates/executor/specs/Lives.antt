@@ -142,7 +142,7 @@ boots s now = option_to_list (boot_event s (moment s now))
 -- and the begin of each start that was asked before the crash.
 pub record Stands {D : Type 0} (x : Service D) (p : List Event) : Type 0 where
   pub others : List Event
-  pub front : p ++ others ≡ (followed_by x.done x.under_way).events ++ (followed_by x.done x.under_way).pending
+  pub prefix : p ++ others ≡ (followed_by x.done x.under_way).events ++ (followed_by x.done x.under_way).pending
   pub later : List Event
   pub acknowledged : p ≡ x.done.events ++ later
   pub begins : (run clock : ℕ) → Asked (followed_by x.done x.under_way).entries run clock → clock ≤ x.stop → HasBegin run p

@@ -9,11 +9,11 @@ use Rattle.exit_reasons.specs.Reasons.{is_reason_at, last_of}
 use Rattle.exit_reasons.specs.declared.tail.Tail.{Tail}
 
 -- one byte more
-pub byte_more : (f : ℕ → List ℕ) (bs : List ℕ) (i : ℕ) (front now : List ℕ) → i < length bs → now ≡ front ++ flat_map f (take i bs)
-    → now ++ f (slice_index bs i) ≡ front ++ flat_map f (take (i + 1) bs)
-byte_more f bs i front now lt is =
-    ap (λ t. t ++ f (slice_index bs i)) is ∙ append_assoc front (flat_map f (take i bs)) (f (slice_index bs i))
-    ∙ ap (λ t. front ++ t) (sym (flat_more f bs i (slice_index bs i) lt (index_is bs i lt)))
+pub byte_more : (f : ℕ → List ℕ) (bs : List ℕ) (i : ℕ) (prefix now : List ℕ) → i < length bs → now ≡ prefix ++ flat_map f (take i bs)
+    → now ++ f (slice_index bs i) ≡ prefix ++ flat_map f (take (i + 1) bs)
+byte_more f bs i prefix now lt is =
+    ap (λ t. t ++ f (slice_index bs i)) is ∙ append_assoc prefix (flat_map f (take i bs)) (f (slice_index bs i))
+    ∙ ap (λ t. prefix ++ t) (sym (flat_more f bs i (slice_index bs i) lt (index_is bs i lt)))
   where
     index_is : (bs : List ℕ) (i : ℕ) → i < length bs → slice_index bs i ≡ get_or bs i (slice_index bs i)
     index_is bs i lt = sym (get_or_default_zero bs i (slice_index bs i) lt)

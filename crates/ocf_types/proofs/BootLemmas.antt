@@ -23,12 +23,12 @@ boot_once s m n = by (any_busy s) refl
 -- after a boot the action that ran is the last result of a history
 interrupted_last : (at : ℕ) (h : History) (x : Running) → h.running ≡ Some x → IsLast (ended_of Interrupted at x) (booted at h).ended
 interrupted_last at h x is =
-    let front : List Ended = h.ended ++ map (dropped_of at) h.queue in
+    let prefix : List Ended = h.ended ++ map (dropped_of at) h.queue in
     let e : Ended = ended_of Interrupted at x in
-    let cut : ℕ = length (front ++ e ∷ []) - kept in
-    let within : cut ≤ length front = omega (arith, length-append front (e ∷ [])) in
-    subst (λ (o : Option Running). IsLast e (last_ended (front ++ map (ended_of Interrupted at) (option_to_list o)))) (sym is)
-    (drop cut front, drop-append-le cut front (e ∷ []) within)
+    let cut : ℕ = length (prefix ++ e ∷ []) - kept in
+    let within : cut ≤ length prefix = omega (arith, length-append prefix (e ∷ [])) in
+    subst (λ (o : Option Running). IsLast e (last_ended (prefix ++ map (ended_of Interrupted at) (option_to_list o)))) (sym is)
+    (drop cut prefix, drop-append-le cut prefix (e ∷ []) within)
 
 -- the same of its resource
 pub boot_interrupts : (s : State) (at : ℕ) (id : List ℕ) (r : Resource) (x : Running) → resource_at s id ≡ Some r

@@ -9,10 +9,10 @@ module _ {X : Type 0} (n : ℕ) where
   pub keep_last-append : (xs ys : List X) → keep_last n (keep_last n xs ++ ys) ≡ keep_last n (xs ++ ys)
   keep_last-append xs ys =
       let k : ℕ = length xs - n in
-      let front : keep_last n xs ++ ys ≡ drop k (xs ++ ys) = sym (drop-append-le k xs ys (omega arith)) in
+      let prefix : keep_last n xs ++ ys ≡ drop k (xs ++ ys) = sym (drop-append-le k xs ys (omega arith)) in
       let size : length (keep_last n xs ++ ys) - n + k ≡ length (xs ++ ys) - n
       = omega (arith, length-append (drop k xs) ys, length-append xs ys, length-drop k xs) in
-      ap (λ zs. drop (length (keep_last n xs ++ ys) - n) zs) front
+      ap (λ zs. drop (length (keep_last n xs ++ ys) - n) zs) prefix
       ∙ drop-drop (length (keep_last n xs ++ ys) - n) k (xs ++ ys)
       ∙ ap (λ m. drop m (xs ++ ys)) (omega (arith, size))
 

@@ -12,33 +12,33 @@ split_words : (before : List (List ℕ)) (file action : List ℕ)
 split_words before file action = joined_append 0 before (file ∷ action ∷ []) ∙ sym (simp append_assoc)
 
 -- if the text before the last two arguments is pieces, the command line calls the action
-pub calls : (cmdline front file action : List ℕ) → cmdline ≡ (((front ++ file) ++ 0 ∷ []) ++ action) ++ 0 ∷ [] → IsPieces 0 front
+pub calls : (cmdline prefix file action : List ℕ) → cmdline ≡ (((prefix ++ file) ++ 0 ∷ []) ++ action) ++ 0 ∷ [] → IsPieces 0 prefix
     → Calls cmdline file action
-calls cmdline front file action is (words, same) =
+calls cmdline prefix file action is (words, same) =
     (words, is ∙ ap (λ f. (((f ++ file) ++ 0 ∷ []) ++ action) ++ 0 ∷ []) same ∙ sym (split_words words file action))
 
-pub before_calls : (cmdline front file action : List ℕ) → cmdline ≡ (((front ++ file) ++ 0 ∷ []) ++ action) ++ 0 ∷ []
-    → Calls cmdline file action → IsPieces 0 front
-before_calls cmdline front file action is (words, same) =
+pub before_calls : (cmdline prefix file action : List ℕ) → cmdline ≡ (((prefix ++ file) ++ 0 ∷ []) ++ action) ++ 0 ∷ []
+    → Calls cmdline file action → IsPieces 0 prefix
+before_calls cmdline prefix file action is (words, same) =
     let both = sym is ∙ same ∙ split_words words file action in (
       words,
-      append_cancel_right front (joined 0 words) file
-          (append_cancel_right (front ++ file) (joined 0 words ++ file) (0 ∷ [])
-          (append_cancel_right ((front ++ file) ++ 0 ∷ []) ((joined 0 words ++ file) ++ 0 ∷ []) action
-          (append_cancel_right (((front ++ file) ++ 0 ∷ []) ++ action) (((joined 0 words ++ file) ++ 0 ∷ []) ++ action) (0 ∷ []) both))),
+      append_cancel_right prefix (joined 0 words) file
+          (append_cancel_right (prefix ++ file) (joined 0 words ++ file) (0 ∷ [])
+          (append_cancel_right ((prefix ++ file) ++ 0 ∷ []) ((joined 0 words ++ file) ++ 0 ∷ []) action
+          (append_cancel_right (((prefix ++ file) ++ 0 ∷ []) ++ action) (((joined 0 words ++ file) ++ 0 ∷ []) ++ action) (0 ∷ []) both))),
     )
 
-pub none_calls : (cmdline file action : List ℕ) → ((front : List ℕ) → cmdline ≢ (((front ++ file) ++ 0 ∷ []) ++ action) ++ 0 ∷ [])
+pub none_calls : (cmdline file action : List ℕ) → ((prefix : List ℕ) → cmdline ≢ (((prefix ++ file) ++ 0 ∷ []) ++ action) ++ 0 ∷ [])
     → Calls cmdline file action → ⊥
 none_calls cmdline file action none (words, same) = none (joined 0 words) (same ∙ split_words words file action)
 
 -- if the text before the last argument does not end with the agent's file, no call is in the whole text
 pub no_call : (cmdline rest file action : List ℕ) → cmdline ≡ (rest ++ action) ++ 0 ∷ []
-    → ((front : List ℕ) → rest ≢ (front ++ file) ++ 0 ∷ [])
-    → (front : List ℕ) → cmdline ≢ (((front ++ file) ++ 0 ∷ []) ++ action) ++ 0 ∷ []
-no_call cmdline rest file action is none front same =
-    none front (append_cancel_right rest ((front ++ file) ++ 0 ∷ []) action
-    (append_cancel_right (rest ++ action) (((front ++ file) ++ 0 ∷ []) ++ action) (0 ∷ []) (sym is ∙ same)))
+    → ((prefix : List ℕ) → rest ≢ (prefix ++ file) ++ 0 ∷ [])
+    → (prefix : List ℕ) → cmdline ≢ (((prefix ++ file) ++ 0 ∷ []) ++ action) ++ 0 ∷ []
+no_call cmdline rest file action is none prefix same =
+    none prefix (append_cancel_right rest ((prefix ++ file) ++ 0 ∷ []) action
+    (append_cancel_right (rest ++ action) (((prefix ++ file) ++ 0 ∷ []) ++ action) (0 ∷ []) (sym is ∙ same)))
 
 -- a text does not name the instance if the key, the id or the NUL after it is not there
 pub no_key : (key text instance : List ℕ) → ((rest : List ℕ) → text ≢ key ++ rest) → (rest : List ℕ) → text ≢ (key ++ instance) ++ 0 ∷ rest

@@ -8,17 +8,17 @@ use Rattle.std.proofs.Math.Seq.{take-append_seam, drop-append_seam}
 use Rattle.proc_files.specs.Pieces.{Behind, IsPieces, joined}
 
 -- the text of pieces is empty, or ends with the byte
-pieces_end : (end : ℕ) (pieces : List (List ℕ)) → (joined end pieces ≡ []) ⊎ ((front : List ℕ) × (joined end pieces ≡ front ++ end ∷ []))
+pieces_end : (end : ℕ) (pieces : List (List ℕ)) → (joined end pieces ≡ []) ⊎ ((prefix : List ℕ) × (joined end pieces ≡ prefix ++ end ∷ []))
 pieces_end end [] = inl refl
 pieces_end end (p ∷ ps) = elim (pieces_end end ps) [
   | inl e ↦ inr (p, ap (λ l. p ++ end ∷ l) e)
   | inr h ↦ inr (p ++ end ∷ h.0, ap (λ l. p ++ end ∷ l) h.1 ∙ sym (append_assoc p (end ∷ h.0) (end ∷ [])))
 ]
 
-pub one_piece : (end : ℕ) (front text : List ℕ) → text ≡ front ++ end ∷ [] → IsPieces end text
-one_piece end front text is = (front ∷ [], is)
+pub one_piece : (end : ℕ) (prefix text : List ℕ) → text ≡ prefix ++ end ∷ [] → IsPieces end text
+one_piece end prefix text is = (prefix ∷ [], is)
 
-pub no_piece : (end : ℕ) (text : List ℕ) → ((front : List ℕ) → text ≢ front ++ end ∷ []) → IsPieces end text → text ≡ []
+pub no_piece : (end : ℕ) (text : List ℕ) → ((prefix : List ℕ) → text ≢ prefix ++ end ∷ []) → IsPieces end text → text ≡ []
 no_piece end text none (pieces, is) = elim (pieces_end end pieces) [
   | inl e ↦ is ∙ e
   | inr h ↦ absurd (none h.0 (is ∙ h.1))
@@ -64,7 +64,7 @@ no_length : {X : Type 0} (x : X) (xs : List X) → true ≡ (length (x ∷ xs) =
 no_length x xs e = false≢true (sym (e ∙ ne_eqb (length (x ∷ xs)) 0 (λ z. omega (arith, z))))
 
 -- a text that does not end with the byte is pieces exactly when it is empty
-pub is_empty_pieces : (end : ℕ) (text : List ℕ) (r : Bool) → r ≡ (length text == 0) → ((front : List ℕ) → text ≢ front ++ end ∷ [])
+pub is_empty_pieces : (end : ℕ) (text : List ℕ) (r : Bool) → r ≡ (length text == 0) → ((prefix : List ℕ) → text ≢ prefix ++ end ∷ [])
     → IsTrue r ↔ IsPieces end text
 is_empty_pieces end [] r is none = (λ _. ([], refl), λ _. is)
 is_empty_pieces end (x ∷ xs) r is none = (

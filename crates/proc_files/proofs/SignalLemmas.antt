@@ -26,10 +26,10 @@ same_mask text m n a b =
     sym a.value ∙ ap (digits_value 16) (sym (line_digits text value m a.is a) ∙ line_digits text value n a.is b) ∙ b.value
 
 -- if the digits are not a number that fits, there is no mask
-pub no_mask : (text value front : List ℕ) → text ≡ codes "SigIgn:\t" ++ value → front ≡ take 16 value
-    → (IsNumeral 16 front → 2 ^ 64 ≤ digits_value 16 front) → (mask : ℕ) → IsMaskLine text mask → ⊥
-no_mask text value front is cut big mask line =
-    let same : front ≡ line.digits = cut ∙ line_digits text value mask is line in
+pub no_mask : (text value prefix : List ℕ) → text ≡ codes "SigIgn:\t" ++ value → prefix ≡ take 16 value
+    → (IsNumeral 16 prefix → 2 ^ 64 ≤ digits_value 16 prefix) → (mask : ℕ) → IsMaskLine text mask → ⊥
+no_mask text value prefix is cut big mask line =
+    let same : prefix ≡ line.digits = cut ∙ line_digits text value mask is line in
     let large : 2 ^ 64 ≤ digits_value 16 line.digits =
     subst (λ d. 2 ^ 64 ≤ digits_value 16 d) same (big (subst (IsNumeral 16) (sym same) line.numeral)) in
     omega (arith, large, line.value, line.fits)

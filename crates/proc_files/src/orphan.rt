@@ -9,8 +9,8 @@ const INSTANCE: &[u8] = b"OCF_RESOURCE_INSTANCE=";
 
 // The arguments before the last one, if the last one is this argument; each is followed by a NUL.
 fn before_word<'a>(words: &'a [u8], word: &[u8]) -> Option<&'a [u8]>
-    ensures front { IfSome result (λ front. words.now ≡ front.now ++ word.now ++ 0 ∷ []) }
-    ensures none { IfNone result ((front : List ℕ) → words.now ≢ front ++ word.now ++ 0 ∷ []) }
+    ensures prefix { IfSome result (λ prefix. words.now ≡ prefix.now ++ word.now ++ 0 ∷ []) }
+    ensures none { IfNone result ((prefix : List ℕ) → words.now ≢ prefix ++ word.now ++ 0 ∷ []) }
 {
     before(before(words, b"\0")?, word)
 }
@@ -18,10 +18,10 @@ fn before_word<'a>(words: &'a [u8], word: &[u8]) -> Option<&'a [u8]>
 // The arguments before the last two, if these are the agent's file and the action.
 #[tactic(auto, using(crate::proofs::OrphanLemmas::no_call))]
 fn before_call<'a>(cmdline: &'a [u8], agent_file: &[u8], action: &[u8]) -> Option<&'a [u8]>
-    ensures front { IfSome result (λ front.
-        cmdline.now ≡ (front.now ++ agent_file.now ++ 0 ∷ []) ++ action.now ++ 0 ∷ []) }
-    ensures none { IfNone result ((front : List ℕ)
-        → cmdline.now ≢ (front ++ agent_file.now ++ 0 ∷ []) ++ action.now ++ 0 ∷ []) }
+    ensures prefix { IfSome result (λ prefix.
+        cmdline.now ≡ (prefix.now ++ agent_file.now ++ 0 ∷ []) ++ action.now ++ 0 ∷ []) }
+    ensures none { IfNone result ((prefix : List ℕ)
+        → cmdline.now ≢ (prefix ++ agent_file.now ++ 0 ∷ []) ++ action.now ++ 0 ∷ []) }
 {
     before_word(before_word(cmdline, action)?, agent_file)
 }
@@ -31,7 +31,7 @@ pub fn calls(cmdline: &[u8], agent_file: &[u8], action: &[u8]) -> bool
     ensures { IsTrue result ↔ Calls cmdline.now agent_file.now action.now }
 {
     match before_call(cmdline, agent_file, action) {
-        Some(front) => is_pieces(front, 0),
+        Some(prefix) => is_pieces(prefix, 0),
         None => false,
     }
 }

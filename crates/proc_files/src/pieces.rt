@@ -3,17 +3,17 @@ ghost use Rattle.std.specs.Prelude.{◌≡◌, ◌≢◌, ◌↔◌, ◌++◌, �
 ghost use Rattle.proc_files.specs.Pieces.{IsPieces};
 
 /// The rest of a text after this prefix, if the text begins with that.
-pub fn after<'a>(text: &'a [u8], front: &[u8]) -> Option<&'a [u8]>
-    ensures rest { IfSome result (λ rest. text.now ≡ front.now ++ rest.now) }
-    ensures none { IfNone result ((rest : List ℕ) → text.now ≢ front.now ++ rest) }
+pub fn after<'a>(text: &'a [u8], prefix: &[u8]) -> Option<&'a [u8]>
+    ensures rest { IfSome result (λ rest. text.now ≡ prefix.now ++ rest.now) }
+    ensures none { IfNone result ((rest : List ℕ) → text.now ≢ prefix.now ++ rest) }
 {
-    text.strip_prefix(front)
+    text.strip_prefix(prefix)
 }
 
 /// The part of a text before this suffix, if the text ends with that.
 pub fn before<'a>(text: &'a [u8], last: &[u8]) -> Option<&'a [u8]>
-    ensures front { IfSome result (λ front. text.now ≡ front.now ++ last.now) }
-    ensures none { IfNone result ((front : List ℕ) → text.now ≢ front ++ last.now) }
+    ensures prefix { IfSome result (λ prefix. text.now ≡ prefix.now ++ last.now) }
+    ensures none { IfNone result ((prefix : List ℕ) → text.now ≢ prefix ++ last.now) }
 {
     text.strip_suffix(last)
 }

@@ -34,14 +34,14 @@ pub put_behind : {A : Type 0} (xs : List A) (i : ℕ) (x : A) → length xs ≤ 
 put_behind xs i x le = rw (take_all i xs le, drop_of_length-le xs (let more : length xs ≤ i + 1 = omega (arith, le) in more)) refl
 
 -- a prefix that is one element longer; the elements after it stay
-pub front_more : {A B : Type 0} (f : A → B) (ms : List A) (was now : List B) (i : ℕ) (d : A) → i < length ms → now ≡ map f (take i ms) ++ drop i was
+pub prefix_more : {A B : Type 0} (f : A → B) (ms : List A) (was now : List B) (i : ℕ) (d : A) → i < length ms → now ≡ map f (take i ms) ++ drop i was
     → take i now ++ f (get_or ms i d) ∷ drop (i + 1) now ≡ map f (take (i + 1) ms) ++ drop (i + 1) was
-front_more f ms was now i d lt is =
-    let front : length (map f (take i ms)) ≡ i = length-map (take i ms) f ∙ length-take-le i ms (omega (arith, lt)) in
-    rw (is, take_at (map f (take i ms)) (drop i was) i front, drop-append-drop i was (map f (take i ms)) (i + 1) (omega arith) front, map_more f ms i d lt)
+prefix_more f ms was now i d lt is =
+    let prefix : length (map f (take i ms)) ≡ i = length-map (take i ms) f ∙ length-take-le i ms (omega (arith, lt)) in
+    rw (is, take_at (map f (take i ms)) (drop i was) i prefix, drop-append-drop i was (map f (take i ms)) (i + 1) (omega arith) prefix, map_more f ms i d lt)
     (sym (append_assoc (map f (take i ms)) (f (get_or ms i d) ∷ []) (drop (i + 1) was)))
 
 -- nothing is after a prefix that is the whole list
-pub front_all : {A B : Type 0} (f : A → B) (ms : List A) (was now : List B) (i : ℕ) → length ms ≤ i → length was ≤ i
+pub prefix_all : {A B : Type 0} (f : A → B) (ms : List A) (was now : List B) (i : ℕ) → length ms ≤ i → length was ≤ i
     → now ≡ map f (take i ms) ++ drop i was → now ≡ map f ms
-front_all f ms was now i le short is = is ∙ rw (take_all i ms le, drop_of_length-le was short) (append-nil (map f ms))
+prefix_all f ms was now i le short is = is ∙ rw (take_all i ms le, drop_of_length-le was short) (append-nil (map f ms))

@@ -172,11 +172,11 @@ pub leaves-removed : (xs : List (Option ℕ)) (n k : ℕ) → 0 < n → length x
     → drop (n - 1) (remove (remove xs (n + k)) 0) ≡ remove (drop n xs) k
 leaves-removed xs n k some long within =
     let ys = remove xs (n + k) in
-    let front : length (take n xs) ≡ n = length-take-le n xs (omega (arith, long)) in
+    let prefix : length (take n xs) ≡ n = length-take-le n xs (omega (arith, long)) in
     let zero_out : drop (n - 1) (drop 1 ys) ≡ drop n ys = drop-drop (n - 1) 1 ys ∙ ap (λ (j : ℕ). drop j ys) (let e : 1 + (n - 1) ≡ n = omega (arith, some) in e) in
     let split : ys ≡ take n xs ++ remove (drop n xs) (n + k - n)
-    = ap (λ (zs : List (Option ℕ)). remove zs (n + k)) (sym (take-append-drop n xs)) ∙ remove-append_right (take n xs) (drop n xs) n (n + k) front (omega arith) in
-    zero_out ∙ ap (drop n) split ∙ drop_at (take n xs) (remove (drop n xs) (n + k - n)) n front
+    = ap (λ (zs : List (Option ℕ)). remove zs (n + k)) (sym (take-append-drop n xs)) ∙ remove-append_right (take n xs) (drop n xs) n (n + k) prefix (omega arith) in
+    zero_out ∙ ap (drop n) split ∙ drop_at (take n xs) (remove (drop n xs) (n + k - n)) n prefix
     ∙ ap (remove (drop n xs)) (let e : n + k - n ≡ k = omega arith in e)
 
 -- no nodes are the tree of no moments

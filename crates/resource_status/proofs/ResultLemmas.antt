@@ -8,11 +8,11 @@ use Rattle.ocf_types.specs.Laws.{flat_more}
 use Rattle.resource_status.specs.Results.{last_of}
 
 -- the lines of items, and one more
-pub lines_more : {X : Type 0} (f : X → List ℕ) (xs : List X) (i : ℕ) (x : X) (front : List ℕ) → slice_get xs i ≡ Some x
-    → (front ++ flat_map f (take i xs)) ++ f x ≡ front ++ flat_map f (take (i + 1) xs)
-lines_more f xs i x front is =
-    append_assoc front (flat_map f (take i xs)) (f x)
-    ∙ ap (λ t. front ++ t) (sym (flat_more f xs i x (slice_get_within xs i x is) (sym (get_or_from_slice_get xs i x x is))))
+pub lines_more : {X : Type 0} (f : X → List ℕ) (xs : List X) (i : ℕ) (x : X) (prefix : List ℕ) → slice_get xs i ≡ Some x
+    → (prefix ++ flat_map f (take i xs)) ++ f x ≡ prefix ++ flat_map f (take (i + 1) xs)
+lines_more f xs i x prefix is =
+    append_assoc prefix (flat_map f (take i xs)) (f x)
+    ∙ ap (λ t. prefix ++ t) (sym (flat_more f xs i x (slice_get_within xs i x is) (sym (get_or_from_slice_get xs i x x is))))
 
 -- the last item of a list
 last_more : {A : Type 0} (xs : List A) (x : A) (o : Option A) → last_or o (xs ++ x ∷ []) ≡ Some x

@@ -20,13 +20,13 @@ since_more s runs [] e = refl
 since_more s runs (d ∷ ds) e = since_more (after s d) (ran_after s runs d) ds e
 
 -- the runs with one more resource
-pub place_more : (f : List ℕ × Resource → List Ran) (s : State) (i : ℕ) (front : List Ran) → i < length s.resources
-    → (front ++ flat_map f (take i s.resources)) ++ f (entry_at s i) ≡ front ++ flat_map f (take (i + 1) s.resources)
-place_more f s i front lt =
+pub place_more : (f : List ℕ × Resource → List Ran) (s : State) (i : ℕ) (prefix : List Ran) → i < length s.resources
+    → (prefix ++ flat_map f (take i s.resources)) ++ f (entry_at s i) ≡ prefix ++ flat_map f (take (i + 1) s.resources)
+place_more f s i prefix lt =
     let es = take i s.resources in
     let one : flat_map f (entry_at s i ∷ []) ≡ f (entry_at s i) = flat_map-cons f (entry_at s i) [] ∙ append-nil (f (entry_at s i)) in
     let all = ap (flat_map f) (take_more s.resources i no_entry lt) ∙ flat_map-append f es (entry_at s i ∷ []) in
-    append_assoc front (flat_map f es) (f (entry_at s i)) ∙ ap (λ t. front ++ t) (sym (all ∙ ap (λ t. flat_map f es ++ t) one))
+    append_assoc prefix (flat_map f es) (f (entry_at s i)) ∙ ap (λ t. prefix ++ t) (sym (all ∙ ap (λ t. flat_map f es ++ t) one))
 
 -- the run of a resource that a change ends with this outcome
 pub ended_one : (c : Change) (e : List ℕ × Resource) (id : List ℕ) (outcome : Outcome) (x : Running) (failed : Bool) → id ≡ e.0

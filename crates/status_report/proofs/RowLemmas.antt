@@ -82,23 +82,23 @@ no_first : (f : ℕ) (more : List ℕ) → [] ≡ f ∷ more → ⊥
 no_first f more e = cc
 
 -- both parts of an empty text are empty
-left_none : (front more : List ℕ) → [] ≡ front ++ more → [] ≡ front
+left_none : (prefix more : List ℕ) → [] ≡ prefix ++ more → [] ≡ prefix
 left_none [] more e = refl
 left_none (f ∷ fs) more e = let bad : [] ≡ f ∷ (fs ++ more) = e in absurd (no_first f (fs ++ more) bad)
 
-right_none : (front more : List ℕ) → [] ≡ front ++ more → [] ≡ more
+right_none : (prefix more : List ℕ) → [] ≡ prefix ++ more → [] ≡ more
 right_none [] more e = e
 right_none (f ∷ fs) more e = let bad : [] ≡ f ∷ (fs ++ more) = e in absurd (no_first f (fs ++ more) bad)
 
 -- a row is not empty: it has the colon of its agent
 no_row : (look : Look) (e : Entry) (row more : List ℕ) → [] ≡ row ++ more → IsRow look e row → ⊥
 no_row look e row more empty is =
-    let front = (e.0 ++ gap is.0) ++ agent_text e.1 in
-    let state = (front ++ gap is.1) ++ state_text look e.1 in
+    let prefix = (e.0 ++ gap is.0) ++ agent_text e.1 in
+    let state = (prefix ++ gap is.1) ++ state_text look e.1 in
     let whole : [] ≡ (state ++ gap is.2) ++ told look (reason_of look e.0) e.1 = left_none row more empty ∙ is.3 in
     let no_state : [] ≡ state = left_none state (gap is.2) (left_none (state ++ gap is.2) (told look (reason_of look e.0) e.1) whole) in
-    let no_front : [] ≡ front ++ gap is.1 = left_none (front ++ gap is.1) (state_text look e.1) no_state in
-    let agent = right_none (e.0 ++ gap is.0) (agent_text e.1) (left_none front (gap is.1) no_front) in
+    let no_prefix : [] ≡ prefix ++ gap is.1 = left_none (prefix ++ gap is.1) (state_text look e.1) no_state in
+    let agent = right_none (e.0 ++ gap is.0) (agent_text e.1) (left_none prefix (gap is.1) no_prefix) in
     no_first 58 e.1.agent (right_none e.1.provider (58 ∷ e.1.agent) agent)
 
 -- an empty text has the rows of no resource

@@ -9,7 +9,7 @@ use Rattle.exec_faults.specs.declared.fault.Fault.{Fault}
 use Rattle.exec_faults.specs.declared.fault.Fault.TheVariants as fault
 use Rattle.resource_status.proofs.StatusLemmas.{resource_has_no_float}
 use Rattle.status_report.specs.Reasons.{reason_of}
-use Rattle.status_report.specs.StatusLines.{IsFrontTold, IsLinesTold, TellsLinesAs, status_data}
+use Rattle.status_report.specs.StatusLines.{IsPrefixTold, IsLinesTold, TellsLinesAs, status_data}
 use Rattle.status_report.specs.declared.look.Look.{Look}
 
 pub status_has_no_float : (look : Look) (e : List ℕ × Resource) → has_float (status_data look e) ≡ false
@@ -17,7 +17,7 @@ status_has_no_float look e = resource_has_no_float (reason_of look e.0) e
 
 -- if the lines of `show` are not written, the status ends with the same fault
 pub unwritten : (T : Type 0) (look : Look) (s : State) (old new : Option (List ℕ)) (f : Fault)
-    → IsFrontTold {T = T} s look.only old new (Err f) → IsLinesTold {T = T} look s old new (Err f)
+    → IsPrefixTold {T = T} s look.only old new (Err f) → IsLinesTold {T = T} look s old new (Err f)
 unwritten T look s old new fault.NoResource told = told
 unwritten T look s old new fault.InputOrOutput told = told
 unwritten T look s old new fault.ReplyMemory told = told

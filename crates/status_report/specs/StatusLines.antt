@@ -30,13 +30,13 @@ abbrev pub status_lines : Look → State → List ℕ
 status_lines look s = flat_map (status_line look) (asked_entries look s.resources)
 
 -- what `show` prints, of all resources or of the single one that is asked for
-abbrev pub front_lines : State → Option (Bor (List ℕ)) → List ℕ
-front_lines s None = shown s
-front_lines s (Some id) = resource_lines s id.now
+abbrev pub prefix_lines : State → Option (Bor (List ℕ)) → List ℕ
+prefix_lines s None = shown s
+prefix_lines s (Some id) = resource_lines s id.now
 
 -- all that a status prints of a state for a program
 abbrev pub told_lines : Look → State → List ℕ
-told_lines look s = front_lines s look.only ++ status_lines look s
+told_lines look s = prefix_lines s look.only ++ status_lines look s
 
 -- the single resource that is asked for is registered
 abbrev pub IsThere : State → Option (Bor (List ℕ)) → Type 0
@@ -49,12 +49,12 @@ IsMissed s None = ⊥
 IsMissed s (Some id) = ¬ IsRegistered s id.now
 
 -- what is written of a state before the lines of status, by the result
-abbrev pub IsFrontTold : {T : Type 0} → State → Option (Bor (List ℕ)) → Option (List ℕ) → Option (List ℕ) → Result T Fault → Type 0
-IsFrontTold s only old new (Ok done) = IsThere s only × Appends old new (front_lines s only)
-IsFrontTold s only old new (Err fault.NoResource) = IsMissed s only × (new ≡ old)
-IsFrontTold s only old new (Err fault.ReplyMemory) = ⊤
-IsFrontTold s only old new (Err fault.InputOrOutput) = ⊤
-IsFrontTold s only old new (Err _) = ⊥
+abbrev pub IsPrefixTold : {T : Type 0} → State → Option (Bor (List ℕ)) → Option (List ℕ) → Option (List ℕ) → Result T Fault → Type 0
+IsPrefixTold s only old new (Ok done) = IsThere s only × Appends old new (prefix_lines s only)
+IsPrefixTold s only old new (Err fault.NoResource) = IsMissed s only × (new ≡ old)
+IsPrefixTold s only old new (Err fault.ReplyMemory) = ⊤
+IsPrefixTold s only old new (Err fault.InputOrOutput) = ⊤
+IsPrefixTold s only old new (Err _) = ⊥
 
 -- what is written of a state, by the result
 abbrev pub IsLinesTold : {T : Type 0} → Look → State → Option (List ℕ) → Option (List ℕ) → Result T Fault → Type 0

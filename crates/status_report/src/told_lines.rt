@@ -3,7 +3,7 @@ ghost use Rattle.std.specs.Prelude.{IsErrOf, Some, None, IfErr, ◌≡◌};
 ghost use Rattle.disk_model.specs.View.{Increased};
 ghost use Rattle.exec_journal.specs.Opening.{Opens};
 ghost use Rattle.exec_faults.specs.Faults.{HasCause, IsRunEnd};
-ghost use Rattle.status_report.specs.StatusLines.{IsFrontTold, IsLinesTold, TellsLinesAs};
+ghost use Rattle.status_report.specs.StatusLines.{IsPrefixTold, IsLinesTold, TellsLinesAs};
 
 use crate::alarm::is_alarm;
 use crate::alone::write_one;
@@ -22,7 +22,7 @@ use std::io::Write;
 
 // Writes the replies of the single resource that is asked for.
 fn write_only<W: Write>(alloc: Global, writer: &mut W, state: &State, id: &str) -> Result<(), Fault>
-    ensures told { IsFrontTold state.now.state (Some id.entry) (W.contents writer.old)
+    ensures told { IsPrefixTold state.now.state (Some id.entry) (W.contents writer.old)
         (W.contents writer.new) result }
     ensures memory { IfErr result (HasCause ⟦<Global as Grows>⟧.refuses) }
 {
@@ -36,7 +36,7 @@ fn write_only<W: Write>(alloc: Global, writer: &mut W, state: &State, id: &str) 
 
 // Writes the replies of all resources.
 fn write_all<W: Write>(alloc: Global, writer: &mut W, state: &State) -> Result<(), Fault>
-    ensures told { IsFrontTold state.now.state None (W.contents writer.old)
+    ensures told { IsPrefixTold state.now.state None (W.contents writer.old)
         (W.contents writer.new) result }
     ensures memory { IfErr result (HasCause ⟦<Global as Grows>⟧.refuses) }
 {
@@ -48,13 +48,13 @@ fn write_all<W: Write>(alloc: Global, writer: &mut W, state: &State) -> Result<(
 }
 
 // Writes what `show` prints, of all resources or of the single one that is asked for.
-fn write_front<W: Write>(
+fn write_prefix<W: Write>(
     alloc: Global,
     writer: &mut W,
     state: &State,
     only: Option<&str>,
 ) -> Result<(), Fault>
-    ensures told { IsFrontTold state.now.state only.entry (W.contents writer.old)
+    ensures told { IsPrefixTold state.now.state only.entry (W.contents writer.old)
         (W.contents writer.new) result }
     ensures memory { IfErr result (HasCause ⟦<Global as Grows>⟧.refuses) }
 {
@@ -79,7 +79,7 @@ fn tell_lines<W: Write>(
     let Ok(lines) = status_lines(alloc, look, state) else {
         return Err(Fault::ReplyMemory);
     };
-    if let Err(fault) = write_front(alloc, writer, state, look.only) {
+    if let Err(fault) = write_prefix(alloc, writer, state, look.only) {
         return Err(fault);
     }
     if let Err(_) = write_flushed(writer, lines.as_slice()) {

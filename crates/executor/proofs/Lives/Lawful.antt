@@ -12,7 +12,7 @@ use Rattle.two_parts.specs.Choice.{choice}
 use Rattle.two_parts.specs.declared.choice.Choice.{Choice}
 use Rattle.two_parts.specs.declared.choice.Choice.TheVariants.{Broken, Current, Fresh}
 use Rattle.exec_journal.specs.Found.{FoundAs, LeadsTo}
-use Rattle.exec_journal.specs.Front.{AllApplyIn}
+use Rattle.exec_journal.specs.PartPrefix.{AllApplyIn}
 use Rattle.executor.specs.Lives.{InOpening, InService, IsLife, LifeLeaves, Sitting}
 use Rattle.exec_ledger.specs.Laws.{WhatStands}
 use Rattle.executor.proofs.Lives.Services.{whole_leads}
@@ -46,10 +46,10 @@ module _ (laws : LawfulLaws) where
       by (Broken d) is = absurd is
       by Fresh is = subst IsLawfulState (sym is) laws.empty
       by (Current part head) whole =
-          let front = whole.is_front in
-          subst IsLawfulState (sym front.folds)
-          (in_second whole.layout (after_all_in whole.layout front.first (flat_map (λ es. es) front.rows))
-          (all_stay whole.layout front.first (flat_map (λ es. es) front.rows) front.lawful front.apply))
+          let prefix = whole.is_prefix in
+          subst IsLawfulState (sym prefix.folds)
+          (in_second whole.layout (after_all_in whole.layout prefix.first (flat_map (λ es. es) prefix.rows))
+          (all_stay whole.layout prefix.first (flat_map (λ es. es) prefix.rows) prefix.lawful prefix.apply))
 
   module _ {D : Type 0} (look : D → View) (law : WhatStands) (lawful : (d : D) → (look d).honest → Lawful (look d)) (start : State) where
     -- so is the first state of a history that may leave something

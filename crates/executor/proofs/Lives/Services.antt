@@ -13,7 +13,7 @@ use Rattle.executor.specs.Lives.{Serves, Service, Stands}
 use Rattle.exec_ledger.specs.Pieces.{Effects, followed_by, no_effects}
 use Rattle.exec_ledger.specs.Laws.{WhatStands}
 use Rattle.executor.proofs.Lives.Calls.{calls_closed, calls_more}
-use Rattle.executor.proofs.Lives.Fronts.{EachBegun, FrontOf, GoesOn, all_begun, begin_among}
+use Rattle.executor.proofs.Lives.Prefixes.{EachBegun, PrefixOf, GoesOn, all_begun, begin_among}
 use Rattle.executor.proofs.Sessions.Growing.{Onward, leads_start, leads_still, onward}
 
 -- the events of some effects, those that are pending after them
@@ -42,7 +42,7 @@ module _ {D : Type 0} (look : D → View) (law : WhatStands) (lawful : (d : D) �
       from_earlier t le = (lawful x.last.disk honest).earlier x.stop t c le left
 
       abbrev Base : Type 0
-      Base = (p : List Event) × FrontOf x.opened.state (all_of (followed_by x.done x.under_way)) c p × GoesOn x.done.events p
+      Base = (p : List Event) × PrefixOf x.opened.state (all_of (followed_by x.done x.under_way)) c p × GoesOn x.done.events p
 
       -- where the executor was open after the last return, the pair is found after some of the events under way
       base_open : x.returned.is_open ≡ true → Base
@@ -59,7 +59,7 @@ module _ {D : Type 0} (look : D → View) (law : WhatStands) (lawful : (d : D) �
             d ++ q,
             record {
               others = stands.1;
-              front =
+              prefix =
                   append_assoc d q stands.1 ∙ ap (λ (l : List Event). d ++ l) stands.2 ∙ sym (append_assoc d u.events u.pending)
                   ∙ ap (λ (l : List Event). (d ++ u.events) ++ (l ++ u.pending)) (sym none);
               found =
@@ -94,7 +94,7 @@ module _ {D : Type 0} (look : D → View) (law : WhatStands) (lawful : (d : D) �
             d,
             record {
               others = x.done.pending;
-              front = sym all_is;
+              prefix = sym all_is;
               found = found;
             },
             ([], sym (append-nil d)),
@@ -103,7 +103,7 @@ module _ {D : Type 0} (look : D → View) (law : WhatStands) (lawful : (d : D) �
             d ++ x.done.pending,
             record {
               others = [];
-              front = append-nil (d ++ x.done.pending) ∙ sym all_is;
+              prefix = append-nil (d ++ x.done.pending) ∙ sym all_is;
               found =
                   subst (λ (t : State). FoundAs t c) (sym (after_all-append x.opened.state d x.done.pending)) found;
             },
@@ -124,7 +124,7 @@ module _ {D : Type 0} (look : D → View) (law : WhatStands) (lawful : (d : D) �
             begun.first ++ q,
             record {
               others = stands.1;
-              front =
+              prefix =
                   append_assoc begun.first q stands.1 ∙ ap (λ (l : List Event). begun.first ++ l) stands.2 ∙ begun.split;
               found =
                   subst (λ (t : State). FoundAs t c) (sym (after_all-append x.opened.state begun.first q)) stands.3;
@@ -141,7 +141,7 @@ module _ {D : Type 0} (look : D → View) (law : WhatStands) (lawful : (d : D) �
             all.0,
             record {
               others = all.1.others;
-              front = all.1.front;
+              prefix = all.1.prefix;
               later = base.2.0 ++ all.2.0;
               acknowledged =
                   all.2.1 ∙ ap (λ (l : List Event). l ++ all.2.0) base.2.1 ∙ append_assoc x.done.events base.2.0 all.2.0;

@@ -122,7 +122,7 @@ module _ {D : Type 0} (look : D → View) (law : WhatStands) (once : OneFinding)
     moves = subst (λ (m : Machine). MovesAll (view_of x s).calls m (machine_of x.returned) x.done) machine
         (moves_all look s.calls x.opened x.returned x.done s.returns);
     goes_on = moves_all look s.begun x.returned x.last x.under_way s.goes_on;
-    stands = (stands.later, stands.others, stands.acknowledged, stands.front);
+    stands = (stands.later, stands.others, stands.acknowledged, stands.prefix);
     begins = λ run clock asked le.
         stands.begins run clock (subst (λ (es : List Entry). Asked es run clock) (answers_are x s) asked) le;
   }

@@ -3,7 +3,7 @@ use Rattle.exec_lines.proofs.PieceLemmas.{on_err}
 use Rattle.ocf_types.specs.declared.reply.Notice.{Notice}
 use Rattle.exec_client.specs.Tags.{after_notice}
 use Rattle.exec_client.proofs.Along.{along_none}
-use Rattle.exec_client.proofs.Lines.{appends_same, front_same, notices_all, notices_more, notices_part, signaled_line}
+use Rattle.exec_client.proofs.Lines.{appends_same, prefix_same, notices_all, notices_more, notices_part, signaled_line}
 use Rattle.exec_client.proofs.notices.send_turn.Goals as goal
 
 pub loop-notice-init : goal.loop-notice-init
@@ -20,8 +20,8 @@ loop-notice-preserved g c =
     c.notice-item.is c.loop-notice.invariant (appends_same _ _ _ _ line c.in_ok-send_signaled.ensures.sent)
     (c.in_ok-send_signaled.ensures.kept ∙ ap (λ (n : Notice). after_notice n c.loop-notice.tags) c.with_signal.ensures.notice)
 
-pub returns-in_err-send_signaled-clause-front : goal.returns-in_err-send_signaled-clause-front
-returns-in_err-send_signaled-clause-front g c =
+pub returns-in_err-send_signaled-clause-prefix : goal.returns-in_err-send_signaled-clause-prefix
+returns-in_err-send_signaled-clause-prefix g c =
     let form = c.args.making.now.form in
     let book = c.args.turn.now.book.now in
     let signaled = c.with_signal.result in
@@ -29,7 +29,7 @@ returns-in_err-send_signaled-clause-front g c =
     c.with_signal.ensures.signal in
     on_err c.from_residual.result _
     (notices_part form book _ _ c.args.turn.now.notices.now c.loop-notice.notice-index c.notice-item.result _ _ _ c.loop-notice-test.true
-    c.notice-item.is c.loop-notice.invariant (front_same _ _ _ _ line c.in_err-send_signaled.ensures.front))
+    c.notice-item.is c.loop-notice.invariant (prefix_same _ _ _ _ line c.in_err-send_signaled.ensures.prefix))
 
 pub returns-clause-sent : goal.returns-clause-sent
 returns-clause-sent g c =

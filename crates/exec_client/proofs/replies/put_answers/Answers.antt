@@ -12,11 +12,11 @@ loop-reply-preserved g c =
     answers_more c.args.making.now.form _ _ _ c.args.replies.now c.loop-reply.reply-index c.reply-item.result _ _ _ c.loop-reply-test.true
     c.reply-item.is c.loop-reply.invariant c.in_ok-put_answer.ensures.sent c.in_ok-put_answer.ensures.kept
 
-pub returns-in_err-put_answer-clause-front : goal.returns-in_err-put_answer-clause-front
-returns-in_err-put_answer-clause-front g c =
+pub returns-in_err-put_answer-clause-prefix : goal.returns-in_err-put_answer-clause-prefix
+returns-in_err-put_answer-clause-prefix g c =
     on_err c.from_residual.result _
     (answers_part c.args.making.now.form _ _ c.args.replies.now c.loop-reply.reply-index c.reply-item.result _ _ _ c.loop-reply-test.true
-    c.reply-item.is c.loop-reply.invariant c.in_err-put_answer.ensures.front)
+    c.reply-item.is c.loop-reply.invariant c.in_err-put_answer.ensures.prefix)
 
 pub returns-clause-sent : goal.returns-clause-sent
 returns-clause-sent g c =

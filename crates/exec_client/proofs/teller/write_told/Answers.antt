@@ -16,11 +16,11 @@ returns-in-Report-clause-sent g c =
     in
     ok_same c.send_notices.result _ _ _ _ lines c.send_notices.ensures.sent
 
-pub returns-in-Report-clause-front : goal.returns-in-Report-clause-front
-returns-in-Report-clause-front g c =
+pub returns-in-Report-clause-prefix : goal.returns-in-Report-clause-prefix
+returns-in-Report-clause-prefix g c =
     let form = c.args.making.now.form in
     let ns = c.in-Report.notices.now in
     let lines : lines_of form (told_tags c.args.tags.now c.args.what.now) (said_in c.args.what.now) ≡ flat_map (formed_line form None None) ns =
     ap (λ (w : Told). lines_of form (told_tags c.args.tags.now w) (said_in w)) c.in-Report.is ∙ report_lines form ns
     in
-    err_same c.send_notices.result _ _ _ _ lines c.send_notices.ensures.front
+    err_same c.send_notices.result _ _ _ _ lines c.send_notices.ensures.prefix

@@ -1,4 +1,4 @@
-use Rattle.exec_messages.proofs.FrontLemmas.{sends_more}
+use Rattle.exec_messages.proofs.PrefixLemmas.{sends_more}
 use Rattle.exec_events.specs.Events.{event_line}
 use Rattle.exec_events.proofs.eventful.write_events.Goals as goal
 

@@ -13,7 +13,7 @@ returns-in-Part-clause-gathers g c = λ left mid.
     record {
       part = mid.part ++ part;
       unended = All-append (λ b. b ≢ 10) mid.part part mid.unended none;
-      front = kept-more mid.part part _ _ mid.front kept;
+      prefix = kept-more mid.part part _ _ mid.prefix kept;
       read = Consumes-trans _ _ _ mid.part part mid.read (at_part Error _ _ part c.in_ok-piece.piece reads c.in-Part.is);
     }
 
@@ -23,7 +23,7 @@ returns-in_default g c =
     let held : length (line_bytes c.take_piece.new.buffer) ≤ 131073 = search rules in
     record {
       gathers = λ left mid.
-          let all = kept-more mid.part part _ _ mid.front kept in
+          let all = kept-more mid.part part _ _ mid.prefix kept in
           next-of left _ _ c.answer.result
           (clauses Error _ _ _ mid.part part _ c.in_ok-piece.piece c.answer.result mid.read mid.unended reads none c.in_default.not-Part all
           (c.answer.ensures (mid.part ++ part) all));

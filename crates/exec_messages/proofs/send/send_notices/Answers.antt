@@ -2,8 +2,8 @@ use Rattle.std.proofs.Common.{None}
 use Rattle.std.proofs.KnownBytes.{Appends-nil}
 use Rattle.exec_commands.specs.Replies.{formed_line}
 use Rattle.exec_lines.proofs.PieceLemmas.{on_err}
-use Rattle.exec_messages.proofs.FrontLemmas.{front_more}
-use Rattle.exec_messages.proofs.FrontLemmas.{sends_more}
+use Rattle.exec_messages.proofs.PrefixLemmas.{prefix_more}
+use Rattle.exec_messages.proofs.PrefixLemmas.{sends_more}
 use Rattle.exec_messages.proofs.send.send_notices.Goals as goal
 
 pub loop-notice-init : goal.loop-notice-init
@@ -14,8 +14,8 @@ loop-notice-preserved g c =
     sends_more (formed_line c.args.form None None) c.args.notices.now c.loop-notice.notice-index c.notice-item.result _ _ _ c.loop-notice-test.true c.notice-item.is
     c.loop-notice.invariant c.in_ok-send_notice.ensures.sent
 
-pub returns-in_err-send_notice-clause-front : goal.returns-in_err-send_notice-clause-front
-returns-in_err-send_notice-clause-front g c =
+pub returns-in_err-send_notice-clause-prefix : goal.returns-in_err-send_notice-clause-prefix
+returns-in_err-send_notice-clause-prefix g c =
     on_err c.from_residual.result _
-    (front_more (formed_line c.args.form None None) c.args.notices.now c.loop-notice.notice-index c.notice-item.result _ _ _ c.loop-notice-test.true
-    c.notice-item.is c.loop-notice.invariant c.in_err-send_notice.ensures.front)
+    (prefix_more (formed_line c.args.form None None) c.args.notices.now c.loop-notice.notice-index c.notice-item.result _ _ _ c.loop-notice-test.true
+    c.notice-item.is c.loop-notice.invariant c.in_err-send_notice.ensures.prefix)

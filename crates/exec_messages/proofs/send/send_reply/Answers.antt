@@ -1,9 +1,9 @@
-use Rattle.exec_messages.proofs.FrontLemmas.{front_made, memory_of}
+use Rattle.exec_messages.proofs.PrefixLemmas.{prefix_made, memory_of}
 use Rattle.exec_messages.proofs.send.send_reply.Goals as goal
 
-pub returns-clause-front : goal.returns-clause-front
-returns-clause-front g c =
-    front_made (λ v. v.items) c.write_told_reply.result c.send_line.result _ _ _ c.write_told_reply.ensures.line c.send_line.ensures.front
+pub returns-clause-prefix : goal.returns-clause-prefix
+returns-clause-prefix g c =
+    prefix_made (λ v. v.items) c.write_told_reply.result c.send_line.result _ _ _ c.write_told_reply.ensures.line c.send_line.ensures.prefix
     c.send_line.ensures.unwritten
 
 pub returns-clause-memory : goal.returns-clause-memory

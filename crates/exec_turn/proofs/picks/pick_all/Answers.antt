@@ -3,7 +3,7 @@ use Rattle.std.specs.List.{AllByRecursion}
 use Rattle.ocf_types.specs.Kinds.{Event}
 use Rattle.ocf_types.specs.Limits.{num_max}
 use Rattle.ocf_types.specs.Places.{id_at}
-use Rattle.exec_journal.specs.Front.{encoded_row}
+use Rattle.exec_journal.specs.PartPrefix.{encoded_row}
 use Rattle.exec_state.specs.Store.{dues}
 use Rattle.exec_ledger.specs.Actives.{Active}
 use Rattle.exec_turn.specs.Launches.{IsStart, all_starting}

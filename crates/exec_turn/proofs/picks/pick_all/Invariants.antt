@@ -1,7 +1,7 @@
 use Rattle.std.proofs.Common.{◌≡◌, ◌*◌, ◌≤◌, length}
 use Rattle.std.specs.List.{AllByRecursion}
 use Rattle.std.specs.Vec.{vec_capacity}
-use Rattle.exec_journal.specs.Front.{encoded_row}
+use Rattle.exec_journal.specs.PartPrefix.{encoded_row}
 use Rattle.exec_journal.specs.Journal.{journal_place}
 use Rattle.exec_state.specs.Store.{dues}
 use Rattle.exec_turn.specs.Launches.{IsStart, all_starting}

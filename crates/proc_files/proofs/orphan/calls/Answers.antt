@@ -5,11 +5,11 @@ use Rattle.proc_files.proofs.orphan.calls.Goals as goal
 pub returns-in-Some : goal.returns-in-Some
 returns-in-Some c =
     let line = c.args.cmdline.now in
-    let front = c.in-Some.front.now in
+    let prefix = c.in-Some.prefix.now in
     let file = c.args.agent_file.now in
     let action = c.args.action.now in (
-      λ yes. calls line front file action c.in-Some.ensures.front (c.is_pieces.ensures.0 yes),
-      λ called. c.is_pieces.ensures.1 (before_calls line front file action c.in-Some.ensures.front called),
+      λ yes. calls line prefix file action c.in-Some.ensures.prefix (c.is_pieces.ensures.0 yes),
+      λ called. c.is_pieces.ensures.1 (before_calls line prefix file action c.in-Some.ensures.prefix called),
     )
 
 pub returns-in-None : goal.returns-in-None

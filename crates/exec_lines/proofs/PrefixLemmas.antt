@@ -3,12 +3,12 @@ use Rattle.std.proofs.Common.{◌≡◌, ℕ, ◌+◌, ◌-◌, ◌≤◌, List,
 use Rattle.std.proofs.Math.Seq.{take-add}
 use Rattle.std.proofs.KnownBytes.{Appends-trans}
 use Rattle.std.specs.Io.KnownBytes.{Appends}
-use Rattle.exec_lines.specs.Fronts.{AppendsFront}
+use Rattle.exec_lines.specs.Prefixes.{AppendsPrefix}
 
 -- the first n bytes are a prefix
-pub front_taken : (a b : Option (List ℕ)) (bytes : List ℕ) (n : ℕ) → Appends a b (take n bytes) → AppendsFront a b bytes
-front_taken a b bytes n written =
-    record { front = take n bytes; rest = drop n bytes; parts = sym (take-append-drop n bytes); written = written }
+pub prefix_taken : (a b : Option (List ℕ)) (bytes : List ℕ) (n : ℕ) → Appends a b (take n bytes) → AppendsPrefix a b bytes
+prefix_taken a b bytes n written =
+    record { prefix = take n bytes; rest = drop n bytes; parts = sym (take-append-drop n bytes); written = written }
 
 -- the bytes from the nth on
 rest_is : (bytes : List ℕ) (n : ℕ) → take (length bytes - n) (drop n bytes) ≡ drop n bytes

@@ -55,18 +55,18 @@ asked_later : (e : Entry) (xs : List Entry) (run clock : ℕ) → Asked xs run c
 asked_later e xs run clock h = (h.0, h.1, Contains-append_right (e ∷ []) xs (record { run = run; at = clock; answer = h.0 }) h.2)
 
 -- the pair is found as the state after a prefix of these events
-pub record FrontOf (s : State) (all : List Event) (c : Image) (p : List Event) : Type 0 where
+pub record PrefixOf (s : State) (all : List Event) (c : Image) (p : List Event) : Type 0 where
   pub others : List Event
-  pub front : p ++ others ≡ all
+  pub prefix : p ++ others ≡ all
   pub found : FoundAs (after_all s p) c
 
 module _ (s : State) (all : List Event) (c : Image) (stop : ℕ) where
   -- of two prefixes one extends both
-  longer : (p q : List Event) → FrontOf s all c p → FrontOf s all c q
-      → (r : List Event) × FrontOf s all c r × GoesOn p r × GoesOn q r
+  longer : (p q : List Event) → PrefixOf s all c p → PrefixOf s all c q
+      → (r : List Event) × PrefixOf s all c r × GoesOn p r × GoesOn q r
   longer p q f g = ⊎_elim
-      (λ lt. (p, f, goes_on_self p, shorter q p g.others f.others (g.front ∙ sym f.front) (omega (arith, lt))))
-      (λ le. (q, g, shorter p q f.others g.others (f.front ∙ sym g.front) le, goes_on_self q))
+      (λ lt. (p, f, goes_on_self p, shorter q p g.others f.others (g.prefix ∙ sym f.prefix) (omega (arith, lt))))
+      (λ le. (q, g, shorter p q f.others g.others (f.prefix ∙ sym g.prefix) le, goes_on_self q))
       (cases_lt (length q) (length p))
 
   -- the begins of all starts that were asked up to a moment are among these events
@@ -75,11 +75,11 @@ module _ (s : State) (all : List Event) (c : Image) (stop : ℕ) where
 
   -- for each start that was asked up to a moment there is a prefix with its begin
   abbrev pub EachBegun : List Entry → Type 0
-  EachBegun xs = (run clock : ℕ) → Asked xs run clock → clock ≤ stop → (q : List Event) × FrontOf s all c q × HasBegin run q
+  EachBegun xs = (run clock : ℕ) → Asked xs run clock → clock ≤ stop → (q : List Event) × PrefixOf s all c q × HasBegin run q
 
   -- then one prefix has all of them, and extends any given one
-  pub all_begun : (xs : List Entry) → EachBegun xs → (p : List Event) → FrontOf s all c p
-      → (r : List Event) × FrontOf s all c r × GoesOn p r × AllBegun xs r
+  pub all_begun : (xs : List Entry) → EachBegun xs → (p : List Event) → PrefixOf s all c p
+      → (r : List Event) × PrefixOf s all c r × GoesOn p r × AllBegun xs r
   all_begun [] each p f = (p, f, goes_on_self p, λ run clock asked le. absurd (asked_none run clock asked))
   all_begun (e ∷ xs) each p f =
       let rest = all_begun xs (λ run clock asked le. each run clock (asked_later e xs run clock asked) le) p f in
@@ -89,8 +89,8 @@ module _ (s : State) (all : List Event) (c : Image) (stop : ℕ) where
       same_entry run clock h = asked_one e (record { run = run; at = clock; answer = h.0 }) h.2
 
       by : (IsOfStart e.answer ⊎ (IsOfStart e.answer → ⊥)) → (stop < e.at) ⊎ (e.at ≤ stop)
-          → (r : List Event) × FrontOf s all c r × GoesOn p r × AllBegun xs r
-          → (r : List Event) × FrontOf s all c r × GoesOn p r × AllBegun (e ∷ xs) r
+          → (r : List Event) × PrefixOf s all c r × GoesOn p r × AllBegun xs r
+          → (r : List Event) × PrefixOf s all c r × GoesOn p r × AllBegun (e ∷ xs) r
       by (inr none) when (r, g, on, begun) = (
         r,
         g,
