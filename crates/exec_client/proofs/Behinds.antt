@@ -23,7 +23,7 @@ use Rattle.exec_ledger.specs.Laws.{same_events}
 use Rattle.exec_ledger.specs.Pieces.{Effects}
 use Rattle.exec_ledger.specs.Scenes.{Scene}
 use Rattle.exec_ledger.specs.Replies.{IsReplyTo, KeepsRunning, recorded}
-use Rattle.exec_ledger.specs.Together.{Adds, Answered as RowAnswered, disk_each, failed}
+use Rattle.exec_ledger.specs.Together.{Adds, Answered as BatchAnswered, disk_each, failed}
 use Rattle.exec_ledger.proofs.Keeping.{command_keeps}
 use Rattle.exec_client.specs.Behind.{Behind, TellsOf, claims, nothing, says_else, tells, untold}
 use Rattle.exec_client.specs.Said.{Said, answered, noticed_by}
@@ -85,15 +85,15 @@ add_behind s now c (Ok e) r es is (inr (refused, registers, none)) =
     (subst (λ (fs : List Event). Behind (answered (reply.Refused Memory) ∷ []) fs) (sym none) (says_none (answered (reply.Refused Memory)) refl))
 
 -- commands in a batch
-pub row_behind : (now : ℕ) (s : State) (cs : List Command) (rs : List Reply) (es : List Event) → RowAnswered now s cs rs es
+pub batch_behind : (now : ℕ) (s : State) (cs : List Command) (rs : List Reply) (es : List Event) → BatchAnswered now s cs rs es
     → Behind (map answered rs) es
-row_behind now s [] [] es none = subst (λ (fs : List Event). Behind [] fs) (sym none) nothing
-row_behind now s (c ∷ cs) (r ∷ rs) es (first, later, adds, rest, is) =
+batch_behind now s [] [] es none = subst (λ (fs : List Event). Behind [] fs) (sym none) nothing
+batch_behind now s (c ∷ cs) (r ∷ rs) es (first, later, adds, rest, is) =
     subst (λ (fs : List Event). Behind (map answered (r ∷ rs)) fs) (sym is)
     (both_behind (answered r ∷ []) first (map answered rs) later (add_behind s now c (event_of s now c) r first refl adds)
-    (row_behind now (after_all s first) cs rs later rest))
-row_behind now s [] (r ∷ rs) es none = absurd none
-row_behind now s (c ∷ cs) [] es none = absurd none
+    (batch_behind now (after_all s first) cs rs later rest))
+batch_behind now s [] (r ∷ rs) es none = absurd none
+batch_behind now s (c ∷ cs) [] es none = absurd none
 
 -- refusals
 disk_behind : (rs : List Reply) → Behind (map answered (disk_each rs)) []

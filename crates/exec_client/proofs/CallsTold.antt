@@ -6,8 +6,8 @@ use Rattle.ocf_types.specs.Kinds.{Event}
 use Rattle.ocf_types.specs.declared.command.RequestOf.TheVariants as asked
 use Rattle.disk_model.specs.View.{View}
 use Rattle.executor.specs.CallLaws.{followed_by_assoc, followed_by_none}
-use Rattle.executor.specs.Lives.{Abandoned, Calls, Cleared, Does, Exchange, Finished, Row, Tidied, Took}
-use Rattle.executor.specs.Rows.{IsAt, replies_of}
+use Rattle.executor.specs.Lives.{Abandoned, Calls, Cleared, Does, Exchange, Finished, Batch, Tidied, Took}
+use Rattle.executor.specs.CommandBatches.{IsAt, replies_of}
 use Rattle.executor.specs.Sessions.{Effects, followed_by, no_effects}
 use Rattle.executor.specs.Sights.{Sight}
 use Rattle.executor.specs.declared.session.InputOf.TheVariants as input
@@ -82,7 +82,7 @@ module _ {D : Type 0} (look : D → View) where
   says_at now (Took (input.Request at (asked.Command c)) r) y is = refl
   says_at now (Took (input.Request at (asked.Question q)) r) y is = absurd is
   says_at now (Took (input.Turn at) r) y is = absurd is
-  says_at now (Row at cs rs) y is = refl
+  says_at now (Batch at cs rs) y is = refl
   says_at now (Finished at end) y is = absurd is
   says_at now (Tidied end) y is = absurd is
   says_at now Cleared y is = absurd is

@@ -14,13 +14,13 @@ use Rattle.disk_model.specs.View.{View}
 use Rattle.executor.specs.CallLaws.{followed_by_none, calls_behind}
 use Rattle.exec_ledger.specs.Commands.{Obeys}
 use Rattle.executor.specs.Commands.{Serves, ServesWhile}
-use Rattle.executor.specs.Lives.{Abandoned, Calls, Cleared, Does, Exchange, Finished, Row, Tidied, Took}
-use Rattle.executor.specs.RowCalls.{TakesRow}
-use Rattle.executor.specs.RowLaws.{commands_called}
-use Rattle.exec_ledger.specs.Together.{row_replies}
-use Rattle.executor.specs.Rows.{IsAt, TakesCommands, replies_of}
+use Rattle.executor.specs.Lives.{Abandoned, Calls, Cleared, Does, Exchange, Finished, Batch, Tidied, Took}
+use Rattle.executor.specs.BatchCalls.{TakesBatch}
+use Rattle.executor.specs.BatchLaws.{commands_called}
+use Rattle.exec_ledger.specs.Together.{batch_replies}
+use Rattle.executor.specs.CommandBatches.{IsAt, TakesCommands, replies_of}
 use Rattle.exec_ledger.specs.Laws.{while_open}
-use Rattle.exec_ledger.specs.Pieces.{Effects, followed_by, no_effects, row_effects}
+use Rattle.exec_ledger.specs.Pieces.{Effects, followed_by, no_effects, batch_effects}
 use Rattle.executor.specs.Sessions.{TakesWhile, command_effects}
 use Rattle.executor.specs.Sights.{Sight, ledger_of}
 use Rattle.executor.specs.TidyCalls.{Tidies, TidiesWhile}
@@ -34,7 +34,7 @@ use Rattle.exec_client.specs.Said.{Answered, Said, answered, said_in}
 use Rattle.exec_client.specs.Tells.{Says, TellsCalls, noticed}
 use Rattle.exec_client.specs.declared.told.Told.{Told}
 use Rattle.exec_commands.specs.declared.reply.LineReply.{LineReply}
-use Rattle.exec_client.proofs.Behinds.{both_behind, failed_behind, finish_behind, reply_behind, row_behind, says_none, turn_behind}
+use Rattle.exec_client.proofs.Behinds.{both_behind, failed_behind, finish_behind, reply_behind, batch_behind, says_none, turn_behind}
 use Rattle.exec_client.proofs.Saying.{no_claim}
 use Rattle.exec_client.proofs.CallsTold.{both_tell, claims_nothing, commands_tell, one_tells}
 
@@ -112,19 +112,19 @@ module _ {D : Type 0} (look : D → View) where
       one_stands x y (Took (input.Request now request) r) d (answered r ∷ []) takes refl behind
 
   -- commands in a batch
-  row_stands : (now : ℕ) (cs : List Command) (x y : Sight D) (rs : List Reply) (d : Effects) → TakesRow look now cs x y rs d
+  batch_stands : (now : ℕ) (cs : List Command) (x y : Sight D) (rs : List Reply) (d : Effects) → TakesBatch look now cs x y rs d
       → Behind (map answered rs) d.events
-  row_stands now cs x y rs d takes = by y.is_open refl
+  batch_stands now cs x y rs d takes = by y.is_open refl
     where
-      told_so : (b : Bool) → y.is_open ≡ b → Behind (map answered (row_replies b takes.takes.meant)) (row_effects b takes.takes.events).events
+      told_so : (b : Bool) → y.is_open ≡ b → Behind (map answered (batch_replies b takes.takes.meant)) (batch_effects b takes.takes.events).events
           → Behind (map answered rs) d.events
       told_so b is behind =
-          events_are (map answered rs) d (row_effects b takes.takes.events) (takes.does ∙ ap (λ (o : Bool). row_effects o takes.takes.events) is)
-          (subst (λ (ts : List Reply). Behind (map answered ts) (row_effects b takes.takes.events).events)
-          (sym (takes.takes.told ∙ ap (λ (o : Bool). row_replies o takes.takes.meant) is)) behind)
+          events_are (map answered rs) d (batch_effects b takes.takes.events) (takes.does ∙ ap (λ (o : Bool). batch_effects o takes.takes.events) is)
+          (subst (λ (ts : List Reply). Behind (map answered ts) (batch_effects b takes.takes.events).events)
+          (sym (takes.takes.told ∙ ap (λ (o : Bool). batch_replies o takes.takes.meant) is)) behind)
 
       by : (b : Bool) → y.is_open ≡ b → Behind (map answered rs) d.events
-      by true is = told_so true is (row_behind now x.state cs takes.takes.meant takes.takes.events takes.takes.answered)
+      by true is = told_so true is (batch_behind now x.state cs takes.takes.meant takes.takes.events takes.takes.answered)
       by false is = told_so false is (failed_behind takes.takes.meant)
 
   -- one of the calls by which commands are carried out
@@ -140,7 +140,7 @@ module _ {D : Type 0} (look : D → View) where
   one_behind now (Took (input.Request at (asked.Command c)) r) x y d is does = taken_behind x.is_open at c x y r d does
   one_behind now (Took (input.Request at (asked.Question q)) r) x y d is does = absurd is
   one_behind now (Took (input.Turn at) r) x y d is does = absurd is
-  one_behind now (Row at cs rs) x y d is does = row_stands at cs x y rs d does
+  one_behind now (Batch at cs rs) x y d is does = batch_stands at cs x y rs d does
   one_behind now (Finished at end) x y d is does = absurd is
   one_behind now (Tidied end) x y d is does = absurd is
   one_behind now Cleared x y d is does = absurd is

@@ -13,11 +13,11 @@ use Rattle.ocf_types.specs.declared.refusal.Refusal.TheVariants.{Disk}
 use Rattle.ocf_types.specs.declared.reply.ReplyOf.TheVariants as reply
 use Rattle.disk_model.specs.View.{View}
 use Rattle.exec_ledger.specs.Commands.{Obeys}
-use Rattle.executor.specs.Lives.{Abandoned, Calls, Cleared, Does, Exchange, Finished, Row, Tidied, Took}
+use Rattle.executor.specs.Lives.{Abandoned, Calls, Cleared, Does, Exchange, Finished, Batch, Tidied, Took}
 use Rattle.exec_ledger.specs.Replies.{IsReplyTo, acknowledged}
-use Rattle.exec_ledger.specs.Together.{Adds, Answered, disk_each, failed, row_replies}
-use Rattle.executor.specs.RowLaws.{commands_called}
-use Rattle.executor.specs.Rows.{IsAt, TakesCommands, replies_of}
+use Rattle.exec_ledger.specs.Together.{Adds, Answered, disk_each, failed, batch_replies}
+use Rattle.executor.specs.BatchLaws.{commands_called}
+use Rattle.executor.specs.CommandBatches.{IsAt, TakesCommands, replies_of}
 use Rattle.executor.specs.Sessions.{Effects, TakesWhile}
 use Rattle.executor.specs.Sights.{Sight, ledger_of}
 use Rattle.executor.specs.declared.session.InputOf.TheVariants as input
@@ -90,10 +90,10 @@ module _ {D : Type 0} (z : Sight D) where
   refused_plain zero = tt
   refused_plain (suc n) = (tt, refused_plain n)
 
-  row_plain : (b : Bool) (now : ℕ) (s : State) (cs : List Command) (meant : List Reply) (es : List Event) → Answered now s cs meant es
-      → AllByRecursion Plain (row_replies b meant)
-  row_plain true now s cs meant es given = answered_plain now s cs meant es given
-  row_plain false now s cs meant es given = failed_plain meant
+  batch_plain : (b : Bool) (now : ℕ) (s : State) (cs : List Command) (meant : List Reply) (es : List Event) → Answered now s cs meant es
+      → AllByRecursion Plain (batch_replies b meant)
+  batch_plain true now s cs meant es given = answered_plain now s cs meant es given
+  batch_plain false now s cs meant es given = failed_plain meant
 
   module _ (look : D → View) where
     taken_plain : (b : Bool) (at : ℕ) (c : Command) (x y : Sight D) (r : Reply) (d : Effects)
@@ -105,9 +105,9 @@ module _ {D : Type 0} (z : Sight D) where
     one_plain now (Took (input.Request at (asked.Command c)) r) x y d is does = (taken_plain x.is_open at c x y r d does, tt)
     one_plain now (Took (input.Request at (asked.Question q)) r) x y d is does = absurd is
     one_plain now (Took (input.Turn at) r) x y d is does = absurd is
-    one_plain now (Row at cs rs) x y d is does =
+    one_plain now (Batch at cs rs) x y d is does =
         subst (λ (ts : List Reply). AllByRecursion Plain ts) (sym does.takes.told)
-        (row_plain y.is_open at x.state cs does.takes.meant does.takes.events does.takes.answered)
+        (batch_plain y.is_open at x.state cs does.takes.meant does.takes.events does.takes.answered)
     one_plain now (Finished at end) x y d is does = absurd is
     one_plain now (Tidied end) x y d is does = absurd is
     one_plain now Cleared x y d is does = absurd is

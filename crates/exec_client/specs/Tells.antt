@@ -2,7 +2,7 @@
 use Rattle.std.specs.Prelude.{◌≡◌, false, List, [], ◌∷◌, ◌++◌, map}
 use Rattle.std.specs.List.{AllByRecursion}
 use Rattle.disk_model.specs.View.{View}
-use Rattle.executor.specs.Lives.{Does, Exchange, Finished, Row, Took}
+use Rattle.executor.specs.Lives.{Does, Exchange, Finished, Batch, Took}
 use Rattle.executor.specs.Sessions.{Effects, followed_by, no_effects}
 use Rattle.executor.specs.Sights.{Sight}
 use Rattle.executor.specs.declared.session.InputOf.TheVariants as input
@@ -18,7 +18,7 @@ noticed x = map (noticed_by x.children.book) x.told
 abbrev pub Says : {D : Type 0} → Exchange → Sight D → List Said → Type 0
 Says (Took (input.Request now request) reply) new said = said ≡ answered reply ∷ []
 Says (Took (input.Turn now) reply) new said = said ≡ noticed new
-Says (Row now commands replies) new said = said ≡ map answered replies
+Says (Batch now commands replies) new said = said ≡ map answered replies
 Says (Finished now end) new said = said ≡ noticed new
 Says _ new said = said ≡ []
 

@@ -32,7 +32,7 @@ use Rattle.exec_session.specs.Leaving.{WindsDown, at_first, further as more_wind
 use Rattle.exec_session.specs.Rules.{Rules, MakesRoom, is_tidy_due}
 use Rattle.exec_session.specs.Progress.{Answers}
 use Rattle.exec_session.specs.Looks.{Lines}
-use Rattle.exec_session.specs.Runs.{GoesByCalls, MakesOwnTurn, NewsSo, OwnTurn, Reaches, answers, here, looks, news, no_news, passes, reads, row, turn as one_turn, waits}
+use Rattle.exec_session.specs.Runs.{GoesByCalls, MakesOwnTurn, NewsSo, OwnTurn, Reaches, answers, here, looks, news, no_news, passes, reads, batch, turn as one_turn, waits}
 use Rattle.exec_session.specs.Spots.{Pauses, Position, Spot, Tells, behind}
 use Rattle.exec_session.specs.Together.{AnswersTogether}
 use Rattle.exec_session.specs.declared.drain.Terms.{Terms}
@@ -268,7 +268,7 @@ module _ {D : Type 0} (look : D → View) where
     lines_go source p _ _ _ _ (passes own n m left reaches goes_on may passed) = lines_go source p own n [] m reaches
     lines_go source p _ _ _ _ (answers own n found m q reaches goes_on may given) =
         both_go p.at m.at q (lines_go source p own n (found ∷ []) m reaches) (line_goes source m.at q found given)
-    lines_go source p _ _ _ _ (row own n first others lines m q reaches is_open may together) =
+    lines_go source p _ _ _ _ (batch own n first others lines m q reaches is_open may together) =
         both_go p.at m.at q (lines_go source p own n _ m reaches) (together_goes (first ∷ others) m.at q is_open together)
     lines_go source p _ _ _ _ (one_turn own n lines m q end now since reaches may made quiet) =
         both_go p.at m.at q (lines_go source p own n lines m reaches) (own_turn_goes own.end now m.at q end may.is_open made)

@@ -12,7 +12,7 @@ use Rattle.ocf_types.specs.declared.reply.ReplyOf.TheVariants.{Refused}
 use Rattle.ocf_types.specs.declared.reply.TurnEnd.{TurnEnd}
 use Rattle.disk_model.specs.View.{View}
 use Rattle.executor.specs.Commands.{Serves, ServesOpen, ServesWhile}
-use Rattle.executor.specs.Rows.{TakesCommands}
+use Rattle.executor.specs.CommandBatches.{TakesCommands}
 use Rattle.executor.specs.Sights.{Sight}
 use Rattle.executor.specs.TurnCalls.{TakesTurn, with_empty_book}
 use Rattle.exec_commands.specs.declared.line.Line.{Line}

@@ -15,15 +15,15 @@ use Rattle.exec_trace.specs.Events.{is_failure}
 use Rattle.exec_trace.specs.declared.event.IoEvent.{IoEvent}
 use Rattle.exec_trace.specs.declared.event.IoEvent.TheVariants.{Looked, Peeked, Read}
 use Rattle.exec_session.specs.Answers.{Source}
-use Rattle.exec_session.specs.Breaks.{BreaksOff, at_once, in_event, in_line, in_row}
-use Rattle.exec_session.specs.Broken.{RowBreaks}
+use Rattle.exec_session.specs.Breaks.{BreaksOff, at_once, in_event, in_line, in_batch}
+use Rattle.exec_session.specs.Broken.{BatchBreaks}
 use Rattle.exec_session.specs.Held.{asks, held_lines}
 use Rattle.exec_session.specs.Pending.{IsClear}
 use Rattle.exec_session.specs.Progress.{ReadsInput}
 use Rattle.exec_session.specs.Rules.{Rules}
 use Rattle.exec_session.specs.Looks.{IsThere, Lines, MayRead}
 use Rattle.exec_session.specs.Runs.{IsLook, IsWait, MakesTurns, MayGoOn, MayRest, MayTake, OwnTurn, Reaches, ReachesFault, of_command, turned}
-use Rattle.exec_session.specs.Runs.{answers, here, looks, passes, reads, row, waits}
+use Rattle.exec_session.specs.Runs.{answers, here, looks, passes, reads, batch, waits}
 use Rattle.exec_session.specs.Spots.{MayBreakOff, Position, Spot, behind, noted, position}
 use Rattle.exec_session.specs.Together.{AnswersAll}
 use Rattle.exec_session.specs.Waiting.{Comes, ComesOrEnds, HasCome, HasFound, IsFound, IsReadTo, IsTaken, MayStay, MayTakeBehind, MayWait, Midway, TakesFound, WaitsForThere, found_lines, midway}
@@ -330,45 +330,45 @@ module _ {D : Type 0} (look : D → View) (source : Source) (rules : Rules) (p :
           ∙ append-nil (map of_command (commands ++ command ∷ [])) ∙ map-append of_command commands (command ∷ [])
 
   -- all that wait are answered
-  row_reached : (count most : ℕ) → ((n : ℕ) → n + 1 ≤ most → MayTake rules.way n) → (commands : List Command) (lines : Lines)
+  batch_reached : (count most : ℕ) → ((n : ℕ) → n + 1 ≤ most → MayTake rules.way n) → (commands : List Command) (lines : Lines)
       (at at' : Spot D) (left : Option (List ℕ)) → count + length commands ≤ most → (commands ≢ [] → at.executor.is_open ≡ true)
       → At count (map of_command commands ++ lines) (position at left) → AnswersAll look rules commands at at'
       → (n : ℕ) × (n ≤ most) × At n lines (position at' left)
-  row_reached count most may [] lines at at' left few is_open reached same =
+  batch_reached count most may [] lines at at' left few is_open reached same =
       (count, omega (arith, few), subst (λ (s : Spot D). At count lines (position s left)) (sym same) reached)
-  row_reached count most may (first ∷ others) lines at at' left few is_open reached answered = (
+  batch_reached count most may (first ∷ others) lines at at' left few is_open reached answered = (
     count + length others + 1,
     omega (arith, few),
-    row own count first others lines (position at left) at' reached (is_open (λ none. cc))
+    batch own count first others lines (position at left) at' reached (is_open (λ none. cc))
         (may (count + length others) (omega (arith, few))) answered,
   )
 
   -- their answer broke off
-  row_broken : (count : ℕ) (commands : List Command) (lines : Lines) (at s : Spot D) (left : Option (List ℕ))
+  batch_broken : (count : ℕ) (commands : List Command) (lines : Lines) (at s : Spot D) (left : Option (List ℕ))
       → (commands ≢ [] → at.executor.is_open ≡ true) → At count (map of_command commands ++ lines) (position at left)
-      → RowBreaks look rules commands at s → MayBreakOff s.events → BreaksOff look source rules p s
-  row_broken count [] lines at s left is_open reached broke cause = absurd broke
-  row_broken count (first ∷ others) lines at s left is_open reached broke cause = record {
+      → BatchBreaks look rules commands at s → MayBreakOff s.events → BreaksOff look source rules p s
+  batch_broken count [] lines at s left is_open reached broke cause = absurd broke
+  batch_broken count (first ∷ others) lines at s left is_open reached broke cause = record {
     own = own;
     count = count;
     lines = map of_command (first ∷ others) ++ lines;
     last = position at left;
     reached = reached;
-    breaks = in_row (first ∷ others) lines refl (is_open (λ none. cc)) broke;
+    breaks = in_batch (first ∷ others) lines refl (is_open (λ none. cc)) broke;
     cause = cause;
   }
 
-  pub come_row_breaks : (most : ℕ) (commands : List Command) (held : Option Held) (kept : List ℕ) (place : Position D) (s : Spot D)
+  pub come_batch_breaks : (most : ℕ) (commands : List Command) (held : Option Held) (kept : List ℕ) (place : Position D) (s : Spot D)
       → (commands ≢ [] → place.at.executor.is_open ≡ true) → Come most place commands held kept
-      → RowBreaks look rules commands place.at s → MayBreakOff s.events → BreaksOff look source rules p s
-  come_row_breaks most commands held kept place s is_open come broke cause =
-      row_broken come.count commands (held_lines held) place.at s come.left is_open come.reached broke cause
+      → BatchBreaks look rules commands place.at s → MayBreakOff s.events → BreaksOff look source rules p s
+  come_batch_breaks most commands held kept place s is_open come broke cause =
+      batch_broken come.count commands (held_lines held) place.at s come.left is_open come.reached broke cause
 
-  pub found_row_breaks : (most : ℕ) (commands : List Command) (what : Found) (q : Position D) (s : Spot D)
+  pub found_batch_breaks : (most : ℕ) (commands : List Command) (what : Found) (q : Position D) (s : Spot D)
       → (commands ≢ [] → q.at.executor.is_open ≡ true) → Finds most commands what q
-      → RowBreaks look rules commands q.at s → MayBreakOff s.events → BreaksOff look source rules p s
-  found_row_breaks most commands what q s is_open finds broke cause =
-      row_broken finds.count commands (found_lines what) q.at s finds.left is_open finds.reached broke cause
+      → BatchBreaks look rules commands q.at s → MayBreakOff s.events → BreaksOff look source rules p s
+  found_batch_breaks most commands what q s is_open finds broke cause =
+      batch_broken finds.count commands (found_lines what) q.at s finds.left is_open finds.reached broke cause
 
   -- the session goes on after it
   pub come_answered : (most : ℕ) → ((n : ℕ) → n + 1 ≤ most → MayTake rules.way n) → (commands commands' : List Command)
@@ -378,7 +378,7 @@ module _ {D : Type 0} (look : D → View) (source : Source) (rules : Rules) (p :
       → ComesOrEnds look source rules p own most
       (record { place = place'; commands = commands'; held = held; kept = kept }) step
   come_answered most may commands commands' held kept place place' step is_open none same come answered is =
-      by step is (row_reached come.count most may commands (held_lines held) place.at place'.at come.left come.few is_open come.reached
+      by step is (batch_reached come.count most may commands (held_lines held) place.at place'.at come.left come.few is_open come.reached
       answered)
     where
       by : (s : Taken) → IsTaken rules.way place'.at.executor false s
@@ -412,7 +412,7 @@ module _ {D : Type 0} (look : D → View) (source : Source) (rules : Rules) (p :
       (q q' : Position D) → (commands ≢ [] → q.at.executor.is_open ≡ true) → q'.left ≡ q.left → Finds most commands what q
       → AnswersAll look rules commands q.at q'.at → MayGoOn rules.way q'.at.executor → Finds most [] what q'
   found_answered most may commands what q q' is_open same finds answered goes_on =
-      let (n, few, reached) = row_reached finds.count most may commands (found_lines what) q.at q'.at finds.left finds.few is_open
+      let (n, few, reached) = batch_reached finds.count most may commands (found_lines what) q.at q'.at finds.left finds.few is_open
       finds.reached answered in
       record {
         count = n;
@@ -428,7 +428,7 @@ module _ {D : Type 0} (look : D → View) (source : Source) (rules : Rules) (p :
       → AnswersAll look rules commands q.at q'.at → MakesTurns rules.way → q'.at.executor.is_open ≡ false
       → ReachesFault look source rules p q'.at
   found_closed most may commands what q q' is_open finds answered serves closed =
-      let (n, few, reached) = row_reached finds.count most may commands (found_lines what) q.at q'.at finds.left finds.few is_open
+      let (n, few, reached) = batch_reached finds.count most may commands (found_lines what) q.at q'.at finds.left finds.few is_open
       finds.reached answered in
       record {
         serves = serves;

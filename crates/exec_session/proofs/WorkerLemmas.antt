@@ -19,7 +19,7 @@ use Rattle.exec_session.specs.Pausing.{IsShort}
 use Rattle.exec_session.specs.Rules.{MakesRoom, Rules}
 use Rattle.exec_session.specs.Spots.{Pauses, Position, Spot, Telling, Tells, TellsPart, at_of, moved, noted, spot}
 use Rattle.exec_session.specs.Together.{AnswersAll, ServesTogether, TogetherHeard}
-use Rattle.exec_session.specs.Broken.{RowBreaks}
+use Rattle.exec_session.specs.Broken.{BatchBreaks}
 
 module _ {D : Type 0} where
   -- a fact about a worker's view, by its fields
@@ -122,10 +122,10 @@ module _ {D : Type 0} (look : D → View) (rules : Rules) where
   all_answered r [] p q some heard = absurd (some refl)
   all_answered r (first ∷ others) p q some heard = heard
 
-  pub row_broken : {T E : Type 0} (r : Result T E) (commands : List Command) (p q : Spot D) → (commands ≡ [] → ⊥)
-      → OnErr r (TogetherHeard (TellsPart rules.form) look rules commands p q) → OnErr r (RowBreaks look rules commands p q)
-  row_broken r [] p q some heard = absurd (some refl)
-  row_broken r (first ∷ others) p q some heard = heard
+  pub batch_broken : {T E : Type 0} (r : Result T E) (commands : List Command) (p q : Spot D) → (commands ≡ [] → ⊥)
+      → OnErr r (TogetherHeard (TellsPart rules.form) look rules commands p q) → OnErr r (BatchBreaks look rules commands p q)
+  batch_broken r [] p q some heard = absurd (some refl)
+  batch_broken r (first ∷ others) p q some heard = heard
 
   -- there was none
   pub none_answered : (commands : List Command) (p : Spot D) → (length commands == 0) ≡ true → AnswersAll look rules commands p p

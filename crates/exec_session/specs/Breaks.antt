@@ -13,7 +13,7 @@ use Rattle.exec_trace.specs.Events.{is_failure}
 use Rattle.exec_trace.specs.declared.event.IoEvent.{IoEvent}
 use Rattle.exec_trace.specs.declared.event.IoEvent.TheVariants.{Shown}
 use Rattle.exec_session.specs.Answers.{Source}
-use Rattle.exec_session.specs.Broken.{ReplyBreaks, RowBreaks}
+use Rattle.exec_session.specs.Broken.{ReplyBreaks, BatchBreaks}
 use Rattle.exec_session.specs.Drains.{MakesTurn, TurnHeard}
 use Rattle.exec_session.specs.Leaving.{LeaveBreaks}
 use Rattle.exec_session.specs.Progress.{Answers, AnswersSo}
@@ -52,8 +52,8 @@ pub data BreaksIn {D : Type 0} (look : D → View) (source : Source) (rules : Ru
   in_event : (event : IoEvent) → is_failure event ≡ true → q ≡ behind m.at event → BreaksIn look source rules own lines m q
   in_line : (found : Result Line Refusal) → lines ≡ found ∷ [] → MayGoOn rules.way m.at.executor
       → AnswerBreaks look source rules found m.at q → BreaksIn look source rules own lines m q
-  in_row : (commands : List Command) (others : Lines) → lines ≡ map of_command commands ++ others → m.at.executor.is_open ≡ true
-      → RowBreaks look rules commands m.at q → BreaksIn look source rules own lines m q
+  in_batch : (commands : List Command) (others : Lines) → lines ≡ map of_command commands ++ others → m.at.executor.is_open ≡ true
+      → BatchBreaks look rules commands m.at q → BreaksIn look source rules own lines m q
   in_own_turn : MayTurn rules.way own lines m.at → OwnTurnBreaks look rules own.end m.at q
       → BreaksIn look source rules own lines m q
   in_fault : MakesTurns rules.way → m.at.executor.is_open ≡ false → TellsPart rules.form m.at q (ended Disk ∷ [])

@@ -44,6 +44,6 @@ ReplyBreaks look rules p q (Ok (line.Watch limit)) = DrainBreaksFor look false l
 ReplyBreaks look rules p q _ = ⊥
 
 -- a group commit was answered, and a prefix of its replies was written
-abbrev pub RowBreaks : {D : Type 0} → (D → View) → Rules → List Command → Spot D → Spot D → Type 0
-RowBreaks look rules [] p q = ⊥
-RowBreaks look rules (first ∷ others) p q = TogetherHeard (TellsPart rules.form) look rules (first ∷ others) p q
+abbrev pub BatchBreaks : {D : Type 0} → (D → View) → Rules → List Command → Spot D → Spot D → Type 0
+BatchBreaks look rules [] p q = ⊥
+BatchBreaks look rules (first ∷ others) p q = TogetherHeard (TellsPart rules.form) look rules (first ∷ others) p q

@@ -151,7 +151,7 @@ pub data Reaches {D : Type 0} (look : D → View) (source : Source) (rules : Rul
   answers : (own : OwnTurn) (n : ℕ) (found : Result Line Refusal) (m : Position D) (q : Spot D)
       → Reaches look source rules p own n (found ∷ []) m → MayGoOn rules.way m.at.executor → MayTake rules.way n
       → Answers look source rules found m.at q → Reaches look source rules p own (n + 1) [] (position q m.left)
-  row : (own : OwnTurn) (n : ℕ) (first : Command) (others : List Command) (lines : Lines) (m : Position D) (q : Spot D)
+  batch : (own : OwnTurn) (n : ℕ) (first : Command) (others : List Command) (lines : Lines) (m : Position D) (q : Spot D)
       → Reaches look source rules p own n (map of_command (first ∷ others) ++ lines) m → m.at.executor.is_open ≡ true
       → MayTake rules.way (n + length others) → AnswersTogether look rules (first ∷ others) m.at q
       → Reaches look source rules p own (n + length others + 1) lines (position q m.left)

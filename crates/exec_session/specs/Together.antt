@@ -4,7 +4,7 @@ use Rattle.ocf_types.specs.Kinds.{Command, Reply}
 use Rattle.ocf_types.specs.declared.refusal.Refusal.TheVariants.{Disk}
 use Rattle.ocf_types.specs.declared.reply.ReplyOf.TheVariants.{Refused}
 use Rattle.disk_model.specs.View.{View}
-use Rattle.executor.specs.Rows.{TakesCommands}
+use Rattle.executor.specs.CommandBatches.{TakesCommands}
 use Rattle.executor.specs.Sights.{Sight}
 use Rattle.exec_client.specs.Said.{answered}
 use Rattle.exec_trace.specs.declared.event.IoEvent.TheVariants.{Shown}

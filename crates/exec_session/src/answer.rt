@@ -4,7 +4,7 @@ ghost use Rattle.std.specs.List.{AllByRecursion};
 ghost use Rattle.ocf_types.specs.declared.refusal.Refusal.TheVariants as refusal;
 ghost use Rattle.ocf_types.specs.declared.reply.ReplyOf.TheVariants.{Refused};
 ghost use Rattle.executor.specs.Commands.{Serves};
-ghost use Rattle.executor.specs.Rows.{TakesCommands};
+ghost use Rattle.executor.specs.CommandBatches.{TakesCommands};
 ghost use Rattle.exec_commands.specs.declared.line.Line.TheVariants as line;
 ghost use Rattle.exec_commands.specs.declared.reply.LineReply.TheVariants as answer;
 ghost use Rattle.exec_client.specs.MayTell.{MayAnswer, StandsBehind};
@@ -12,7 +12,7 @@ ghost use Rattle.exec_client.specs.Said.{Answered, answered};
 ghost use Rattle.exec_session.specs.Answers.{IsClosedReply, IsMetaReply, IsStatusReply, TidiesNow};
 ghost use Rattle.exec_session.specs.Answers.{closed_drain, closed_tidy, refused};
 ghost use Rattle.exec_session.specs.Breaks.{AnswersLine};
-ghost use Rattle.exec_session.specs.Broken.{RowBreaks};
+ghost use Rattle.exec_session.specs.Broken.{BatchBreaks};
 ghost use Rattle.exec_session.specs.Gathered.{replied, waiting};
 ghost use Rattle.exec_session.specs.Held.{AnswersHeld, MayAnswerAtOnce, MayTakeAtOnce};
 ghost use Rattle.exec_session.specs.Progress.{Answers, AnswersSo};
@@ -370,7 +370,7 @@ impl<'a, R: Input, D: Disk + Drop, C: Children + Drop, T: Client<D, C>, K: Clock
         requires open { waiting gathered.old ≢ [] → self.old.at.executor.is_open ≡ true }
         ensures none { waiting gathered.new ≡ [] }
         ensures answers { Steps (AnswersAll D.view (rules_of context.now) (waiting gathered.old) self.old.at)
-            (RowBreaks D.view (rules_of context.now) (waiting gathered.old) self.old.at)
+            (BatchBreaks D.view (rules_of context.now) (waiting gathered.old) self.old.at)
             self.old self.new result }
     {
         if gathered.is_empty() {

@@ -2,7 +2,7 @@
 ghost use Rattle.std.specs.Prelude.{◌≡◌, ◌≤◌, ◌<◌, ◌==◌, [], ◌∷◌, ◌++◌, length, replicate, vec_len, vec_capacity, IfOk, IsTrue, OnErr};
 ghost use Rattle.ocf_types.specs.declared.refusal.Refusal.TheVariants.{Disk};
 ghost use Rattle.ocf_types.specs.declared.reply.ReplyOf.TheVariants.{Refused};
-ghost use Rattle.executor.specs.Rows.{TakesCommands};
+ghost use Rattle.executor.specs.CommandBatches.{TakesCommands};
 ghost use Rattle.exec_session.specs.Limits.{most_together};
 
 use child_model::Children;

@@ -21,7 +21,7 @@ use Rattle.exec_turn.specs.Polls.{polls, results}
 use Rattle.exec_turn.specs.Starts.{Started, refusal_notices, refusals, starts}
 use Rattle.exec_turn.specs.Turn.{IsFinish, IsTurn, PickedAt, Told, TurnKind, Whole}
 use Rattle.exec_ledger.specs.Scenes.{Scene, behind, due_after_all, scene}
-use Rattle.exec_turn.specs.Turns.{BeginsRow, Finishes, PollsRow, StartsRow, Turns, TurnsAs, end_of}
+use Rattle.exec_turn.specs.Turns.{BeginsBatch, Finishes, PollsBatch, StartsBatch, Turns, TurnsAs, end_of}
 
 -- a turn that did nothing
 pub book_full : {D : Type 0} (kind : TurnKind) (look : D → View) (k : D) (x : Scene) (from : ChildrenView)
@@ -46,7 +46,7 @@ both_entries was first second one two = two ∙ ap (λ (l : List Entry). l ++ se
 module _ {D : Type 0} {look : D → View} {at : ℕ} {k0 k1 : D} {s0 s1 : State} {d0 d1 : Due} {p0 p1 : Place} {a0 a1 : Bool} {from c1 : ChildrenView}
     {n1 : List Notice} where
   -- the batch of results failed
-  results_failed : (kind : TurnKind) {f : DiskFault} (p : PollsRow look k0 k1 (scene s0 d0 p0 at a0) (scene s1 d1 p1 at a1) from c1 n1 (Err f))
+  results_failed : (kind : TurnKind) {f : DiskFault} (p : PollsBatch look k0 k1 (scene s0 d0 p0 at a0) (scene s1 d1 p1 at a1) from c1 n1 (Err f))
       → kind turn_end.Disk (scene s0 d0 p0 at a0) (record { entries = polls at p.answers; events = []; pending = results at p.answers }) n1
       → TurnsAs kind look k0 k1 (scene s0 d0 p0 at a0) s1 d1 from c1 n1 turn_end.Disk
   results_failed kind p does = record {
@@ -61,16 +61,16 @@ module _ {D : Type 0} {look : D → View} {at : ℕ} {k0 k1 : D} {s0 s1 : State}
     cause = λ _. p.cause;
   }
 
-  pub no_results : {f : DiskFault} → PollsRow look k0 k1 (scene s0 d0 p0 at a0) (scene s1 d1 p1 at a1) from c1 n1 (Err f)
+  pub no_results : {f : DiskFault} → PollsBatch look k0 k1 (scene s0 d0 p0 at a0) (scene s1 d1 p1 at a1) from c1 n1 (Err f)
       → Turns look k0 k1 (scene s0 d0 p0 at a0) s1 d1 from c1 n1 turn_end.Disk
   no_results p = results_failed IsTurn p (inl (p.answers, p.each, refl, p.told_is))
 
-  pub finish_failed : {f : DiskFault} → PollsRow look k0 k1 (scene s0 d0 p0 at a0) (scene s1 d1 p1 at a1) from c1 n1 (Err f)
+  pub finish_failed : {f : DiskFault} → PollsBatch look k0 k1 (scene s0 d0 p0 at a0) (scene s1 d1 p1 at a1) from c1 n1 (Err f)
       → Finishes look k0 k1 (scene s0 d0 p0 at a0) s1 d1 from c1 n1 turn_end.Disk
   finish_failed p = results_failed IsFinish p (p.answers, p.each, refl, p.told_is)
 
   -- the batch of results was recorded, and nothing begins
-  pub finish_done : {u : Unit} → PollsRow look k0 k1 (scene s0 d0 p0 at a0) (scene s1 d1 p1 at a1) from c1 n1 (Ok u)
+  pub finish_done : {u : Unit} → PollsBatch look k0 k1 (scene s0 d0 p0 at a0) (scene s1 d1 p1 at a1) from c1 n1 (Ok u)
       → Finishes look k0 k1 (scene s0 d0 p0 at a0) s1 d1 from c1 n1 turn_end.Done
   finish_done p = record {
     effects = record { entries = polls at p.answers; events = results at p.answers; pending = [] };
@@ -84,7 +84,7 @@ module _ {D : Type 0} {look : D → View} {at : ℕ} {k0 k1 : D} {s0 s1 : State}
     cause = λ bad. let none : ⊥ = cc in absurd none;
   }
 
-  module _ {u : Unit} (p : PollsRow look k0 k1 (scene s0 d0 p0 at a0) (scene s1 d1 p1 at a1) from c1 n1 (Ok u)) where
+  module _ {u : Unit} (p : PollsBatch look k0 k1 (scene s0 d0 p0 at a0) (scene s1 d1 p1 at a1) from c1 n1 (Ok u)) where
     due1 : d1 ≡ due_after_all s0 d0 (results at p.answers)
     due1 = ap (λ (x : Scene). x.due) p.moves
 
@@ -94,12 +94,12 @@ module _ {D : Type 0} {look : D → View} {at : ℕ} {k0 k1 : D} {s0 s1 : State}
 
     -- the batch of begins failed
     pub no_begins : {k2 : D} {s2 : State} {d2 : Due} {p2 : Place} {a2 : Bool} {begun : List Active} {f : DiskFault}
-        → BeginsRow look k1 k2 (scene s1 d1 p1 at a1) (scene s2 d2 p2 at a2) begun (Err f)
+        → BeginsBatch look k1 k2 (scene s1 d1 p1 at a1) (scene s2 d2 p2 at a2) begun (Err f)
         → Turns look k0 k2 (scene s0 d0 p0 at a0) s2 d2 from c1 n1 turn_end.Disk
     no_begins {k2 = k2} {s2 = s2} {begun = begun} b =
-        let row = b.recorded in
+        let batch = b.recorded in
         let both = joined look k0 k1 k2 s0 s1 s2 (record { entries = polls at p.answers; events = results at p.answers; pending = [] })
-        (record { entries = []; events = []; pending = begins at begun }) refl p.crash row.crash in
+        (record { entries = []; events = []; pending = begins at begun }) refl p.crash batch.crash in
         record {
           effects = record { entries = polls at p.answers; events = results at p.answers; pending = begins at begun };
           book = p.book;
@@ -112,13 +112,13 @@ module _ {D : Type 0} {look : D → View} {at : ℕ} {k0 k1 : D} {s0 s1 : State}
                 events = append-nil (results at p.answers) i;
                 pending = begins at begun;
               }) both;
-          due_is = row.moves.1 ∙ due1;
+          due_is = batch.moves.1 ∙ due1;
           whole = λ not. absurd (not refl);
-          cause = λ _. let increased = row.cause in let older = p.crash.roomy.passed.failures in omega (arith, increased, older);
+          cause = λ _. let increased = batch.cause in let older = p.crash.roomy.passed.failures in omega (arith, increased, older);
         }
 
     module _ {k2 : D} {s2 : State} {d2 : Due} {p2 : Place} {a2 : Bool} {begun : List Active} {end : TurnEnd}
-        (b : BeginsRow look k1 k2 (scene s1 d1 p1 at a1) (scene s2 d2 p2 at a2) begun (Ok end))
+        (b : BeginsBatch look k1 k2 (scene s1 d1 p1 at a1) (scene s2 d2 p2 at a2) begun (Ok end))
         (lawful : (look k2).honest → Lawful (look k2)) where
       abbrev before : List Event
       before = results at p.answers ++ begins at begun
@@ -170,9 +170,9 @@ module _ {D : Type 0} {look : D → View} {at : ℕ} {k0 k1 : D} {s0 s1 : State}
 
       -- the batch of refused starts failed
       pub no_refusals : {k3 : D} {s3 : State} {d3 : Due} {p3 : Place} {a3 : Bool} {c2 : ChildrenView} {n3 : List Notice} {f : DiskFault}
-          → StartsRow look k2 k3 (scene s2 d2 p2 at a2) (scene s3 d3 p3 at a3) begun c1 c2 n1 n3 (Err f)
+          → StartsBatch look k2 k3 (scene s2 d2 p2 at a2) (scene s3 d3 p3 at a3) begun c1 c2 n1 n3 (Err f)
           → Turns look k0 k3 (scene s0 d0 p0 at a0) s3 d3 from c2 n3 turn_end.Disk
-      no_refusals {k3 = k3} {s3 = s3} x = let row = x.recorded in record {
+      no_refusals {k3 = k3} {s3 = s3} x = let batch = x.recorded in record {
         effects = record { entries = entries x.answers x.each; events = before; pending = refusals at x.answers };
         book = both_entries from.book (polls at p.answers) (starts (look k2).clock x.answers) p.book x.book;
         log = both_entries from.log (polls at p.answers) (starts (look k2).clock x.answers) p.log x.log;
@@ -181,11 +181,11 @@ module _ {D : Type 0} {look : D → View} {at : ℕ} {k0 k1 : D} {s0 s1 : State}
         crash =
             subst (λ (l : List Event). Leaves look k0 k3 s0 s3
             (record { entries = entries x.answers x.each; events = l; pending = refusals at x.answers })) (append-nil before)
-            (ended x.answers x.each k3 s3 [] (refusals at x.answers) row.crash);
-        due_is = row.moves.1 ∙ due2;
+            (ended x.answers x.each k3 s3 [] (refusals at x.answers) batch.crash);
+        due_is = batch.moves.1 ∙ due2;
         whole = λ not. absurd (not refl);
         cause = λ _.
-            let increased = row.cause in
+            let increased = batch.cause in
             let old = b.recorded.crash.roomy.passed.failures in
             let older = p.crash.roomy.passed.failures in
             omega (arith, increased, old, older);
@@ -212,11 +212,11 @@ module _ {D : Type 0} {look : D → View} {at : ℕ} {k0 k1 : D} {s0 s1 : State}
 
       -- all batches were recorded
       pub whole_turn : {k3 : D} {s3 : State} {d3 : Due} {p3 : Place} {a3 : Bool} {c2 : ChildrenView} {n3 : List Notice} {z : Unit}
-          → StartsRow look k2 k3 (scene s2 d2 p2 at a2) (scene s3 d3 p3 at a3) begun c1 c2 n1 n3 (Ok z)
+          → StartsBatch look k2 k3 (scene s2 d2 p2 at a2) (scene s3 d3 p3 at a3) begun c1 c2 n1 n3 (Ok z)
           → Turns look k0 k3 (scene s0 d0 p0 at a0) s3 d3 from c2 n3 end
       whole_turn {k3 = k3} {s3 = s3} {d3 = d3} {n3 = n3} x =
-          let row = x.recorded in
-          let due3 : d3 ≡ due_after_all s0 d0 (before ++ refusals at x.answers) = ap (λ (y : Scene). y.due) row.moves
+          let batch = x.recorded in
+          let due3 : d3 ≡ due_after_all s0 d0 (before ++ refusals at x.answers) = ap (λ (y : Scene). y.due) batch.moves
           ∙ ap (λ (s : State). due_after_all s d2 (refusals at x.answers))
           (state2 ∙ ap (λ (s : State). after_all s (begins at begun)) state1
           ∙ sym (after_all-append s0 (results at p.answers) (begins at begun)))
@@ -234,7 +234,7 @@ module _ {D : Type 0} {look : D → View} {at : ℕ} {k0 k1 : D} {s0 s1 : State}
               x.told_is
                   ∙ ap (λ (l : List Notice). l ++ refusal_notices at x.answers) p.told_is,
             );
-            crash = ended x.answers x.each k3 s3 (refusals at x.answers) [] row.crash;
+            crash = ended x.answers x.each k3 s3 (refusals at x.answers) [] batch.crash;
             due_is = due3;
             whole = λ _. refl;
             cause = λ is. absurd (not_disk end picked is);
@@ -242,9 +242,9 @@ module _ {D : Type 0} {look : D → View} {at : ℕ} {k0 k1 : D} {s0 s1 : State}
 
 -- the same with other notices
 pub polled_told : {D : Type 0} {look : D → View} {k l : D} {x y : Scene} {from to : ChildrenView} {n m : List Notice} {r : Result Unit DiskFault}
-    → m ≡ n → PollsRow look k l x y from to n r → PollsRow look k l x y from to m r
+    → m ≡ n → PollsBatch look k l x y from to n r → PollsBatch look k l x y from to m r
 polled_told {look = look} {k = k} {l = l} {x = x} {y = y} {from = from} {to = to} {r = r} same polled =
-    subst (λ (told : List Notice). PollsRow look k l x y from to told r) (sym same) polled
+    subst (λ (told : List Notice). PollsBatch look k l x y from to told r) (sym same) polled
 
 -- a disk fault ends a turn as such
 pub failed_end : {D : Type 0} {look : D → View} {old new : D} {x : Scene} {t : State} {due : Due} {from to : ChildrenView} {told : List Notice}
@@ -254,7 +254,7 @@ failed_end (Err f) bad turns = turns
 
 -- picks end neither with a full book nor with a disk fault
 pub picks_ended : {D : Type 0} {look : D → View} {k l : D} {x y : Scene} {begun : List Active} {end : TurnEnd}
-    → BeginsRow look k l x y begun (Ok end) → (end ≡ turn_end.BookFull → ⊥) × (end ≡ turn_end.Disk → ⊥)
+    → BeginsBatch look k l x y begun (Ok end) → (end ≡ turn_end.BookFull → ⊥) × (end ≡ turn_end.Disk → ⊥)
 picks_ended {x = x} {begun = begun} {end = end} b = (λ is. (so is).0.0, λ is. (so is).0.0)
   where
     so : {told : TurnEnd} → end ≡ told → PickedAt told x begun

@@ -14,8 +14,8 @@ use Rattle.ocf_types.specs.State.{State}
 use Rattle.ocf_types.specs.declared.operation.Running.{Running}
 use Rattle.ocf_types.specs.declared.reply.TurnEnd.TheVariants as turn_end
 use Rattle.ocf_env.specs.Places.{Call, SiteView}
-use Rattle.exec_journal.specs.PartPrefix.{encoded_row}
-use Rattle.exec_journal.specs.Rows.{IsTooLong, kept_free}
+use Rattle.exec_journal.specs.PartPrefix.{encoded_batch}
+use Rattle.exec_journal.specs.Batches.{IsTooLong, kept_free}
 use Rattle.exec_ledger.specs.Actives.{Active}
 use Rattle.ocf_env.specs.Instances.{registration_of}
 use Rattle.ocf_env.specs.Invocations.{IsInvocation}
@@ -37,12 +37,12 @@ invoked site id r running call own provider agent params id_is provider_is agent
     subst (λ (x : Registration). IsInvocation site x running call) same is
 
 -- one more begin makes the batch longer by its encoding
-pub row_longer : (es : List Event) (e : Event) → length (encoded_row (es ++ e ∷ [])) ≡ length (encoded_row es) + length (encoded_event e)
-row_longer [] e = let size = length-append (encoded_event e) [] in omega (arith, size)
-row_longer (x ∷ xs) e =
-    let size = length-append (encoded_event x) (encoded_row (xs ++ e ∷ [])) in
-    let size2 = length-append (encoded_event x) (encoded_row xs) in
-    omega (arith, size, size2, row_longer xs e)
+pub batch_longer : (es : List Event) (e : Event) → length (encoded_batch (es ++ e ∷ [])) ≡ length (encoded_batch es) + length (encoded_event e)
+batch_longer [] e = let size = length-append (encoded_event e) [] in omega (arith, size)
+batch_longer (x ∷ xs) e =
+    let size = length-append (encoded_event x) (encoded_batch (xs ++ e ∷ [])) in
+    let size2 = length-append (encoded_event x) (encoded_batch xs) in
+    omega (arith, size, size2, batch_longer xs e)
 
 pub begins_push : (at : ℕ) (bs : List Active) (a : Active) → begins at (bs ++ a ∷ []) ≡ begins at bs ++ begin_of at a ∷ []
 begins_push at bs a = map-append (begin_of at) bs (a ∷ [])
@@ -57,13 +57,13 @@ kept at [] a = kept_behind at a []
 kept at (b ∷ bs) a = kept_behind at b (bs ++ a ∷ [])
 
 -- the encoding of the batch with one more begin
-pub encoded_more : (at len more : ℕ) (bs : List Active) (a : Active) (row : List Event) (e : Event) → row ≡ begins at bs → e ≡ begin_of at a
-    → len ≡ length (encoded_row row) → more ≡ length (encoded_event e) → length (encoded_row (begins at (bs ++ a ∷ []))) ≡ len + more
-encoded_more at len more bs a row e row_is e_is len_is more_is =
-    let grown : begins at (bs ++ a ∷ []) ≡ row ++ e ∷ [] = begins_push at bs a ∙ (λ k. sym row_is k ++ sym e_is k ∷ []) in
-    let size : length (encoded_row (begins at (bs ++ a ∷ []))) ≡ length (encoded_row (row ++ e ∷ [])) = ap
-    (λ (l : List Event). length (encoded_row l)) grown in
-    omega (arith, size, row_longer row e, len_is, more_is)
+pub encoded_more : (at len more : ℕ) (bs : List Active) (a : Active) (batch : List Event) (e : Event) → batch ≡ begins at bs → e ≡ begin_of at a
+    → len ≡ length (encoded_batch batch) → more ≡ length (encoded_event e) → length (encoded_batch (begins at (bs ++ a ∷ []))) ≡ len + more
+encoded_more at len more bs a batch e batch_is e_is len_is more_is =
+    let grown : begins at (bs ++ a ∷ []) ≡ batch ++ e ∷ [] = begins_push at bs a ∙ (λ k. sym batch_is k ++ sym e_is k ∷ []) in
+    let size : length (encoded_batch (begins at (bs ++ a ∷ []))) ≡ length (encoded_batch (batch ++ e ∷ [])) = ap
+    (λ (l : List Event). length (encoded_batch l)) grown in
+    omega (arith, size, batch_longer batch e, len_is, more_is)
 
 pub longer : {A : Type 0} (bs : List A) (a : A) → length (bs ++ a ∷ []) ≡ length bs + 1
 longer bs a = length-append bs (a ∷ [])
@@ -71,7 +71,7 @@ longer bs a = length-append bs (a ∷ [])
 -- where a longer batch does not fit
 pub too_long : (s : State) (tail at run size : ℕ) (bs : List Active) (a : Active) → run ≡ s.next_run + length bs
     → run + 1 ≤ 9007199254740991
-    → length (encoded_row (begins at (bs ++ a ∷ []))) ≡ size → 8388608 < tail + 5 + size + 1 + 32768
+    → length (encoded_batch (begins at (bs ++ a ∷ []))) ≡ size → 8388608 < tail + 5 + size + 1 + 32768
     → (s.next_run + length (bs ++ a ∷ []) ≤ 9007199254740991) × IsTooLong tail (begins at (bs ++ a ∷ []))
 too_long s tail at run size bs a run_is drawn size_is over =
     (omega (arith, run_is, drawn, longer bs a), omega (arith, kept at bs a, size_is, over))
@@ -79,12 +79,12 @@ too_long s tail at run size bs a run_is drawn size_is over =
 -- where a longer batch fits
 pub may_more : (s : State) (tail at run size : ℕ) (bs : List Active) (a : Active) → run ≡ s.next_run + length bs
     → run + 1 ≤ 9007199254740991
-    → length (encoded_row (begins at (bs ++ a ∷ []))) ≡ size → tail + 5 + size + 1 + 32768 ≤ 8388608 → MayBegin s tail at (bs ++ a ∷ [])
+    → length (encoded_batch (begins at (bs ++ a ∷ []))) ≡ size → tail + 5 + size + 1 + 32768 ≤ 8388608 → MayBegin s tail at (bs ++ a ∷ [])
 may_more s tail at run size bs a run_is drawn size_is fit = record {
   runs = omega (arith, run_is, drawn, longer bs a);
   room =
       λ some over. let over2 : 8388608
-      < tail + 5 + length (encoded_row (begins at (bs ++ a ∷ []))) + 1 + kept_free (begins at (bs ++ a ∷ [])) = over in
+      < tail + 5 + length (encoded_batch (begins at (bs ++ a ∷ []))) + 1 + kept_free (begins at (bs ++ a ∷ [])) = over in
       absurd (omega (arith, kept at bs a, size_is, fit, over2));
 }
 
@@ -126,7 +126,7 @@ module _ {s : State} {due : Due} {tail at place next : ℕ} {bs : List Active} (
     pub spent_here : num_max < next + 1 → Picked turn_end.RunsSpent s due tail at bs
     spent_here spent = (cut_here (λ more. num_max < s.next_run + length more) (omega (arith, p.next_is, longer bs here, spent)), p.may)
 
-    module _ (drawn : next + 1 ≤ num_max) {size : ℕ} (size_is : length (encoded_row (begins at (bs ++ here ∷ []))) ≡ size) where
+    module _ (drawn : next + 1 ≤ num_max) {size : ℕ} (size_is : length (encoded_batch (begins at (bs ++ here ∷ []))) ≡ size) where
       pub full_here : 8388608 < tail + 5 + size + 1 + 32768 → Picked turn_end.Full s due tail at bs
       full_here over = (
         cut_here (λ more. (s.next_run + length more ≤ num_max) × IsTooLong tail (begins at more))
@@ -146,10 +146,10 @@ module _ {s : State} {due : Due} {tail at place next : ℕ} {bs : List Active} (
       }
 
 -- the batch with one more begin
-pub row_more : (at : ℕ) (bs : List Active) (a : Active) (row longer_row : List Event) (e : Event) → longer_row ≡ row ++ e ∷ []
-    → row ≡ begins at bs → e ≡ begin_of at a
-    → longer_row ≡ begins at (bs ++ a ∷ [])
-row_more at bs a row longer_row e grown row_is e_is = grown ∙ (λ k. row_is k ++ e_is k ∷ []) ∙ sym (begins_push at bs a)
+pub batch_more : (at : ℕ) (bs : List Active) (a : Active) (batch longer_batch : List Event) (e : Event) → longer_batch ≡ batch ++ e ∷ []
+    → batch ≡ begins at bs → e ≡ begin_of at a
+    → longer_batch ≡ begins at (bs ++ a ∷ [])
+batch_more at bs a batch longer_batch e grown batch_is e_is = grown ∙ (λ k. batch_is k ++ e_is k ∷ []) ∙ sym (begins_push at bs a)
 
 -- one more start
 pub starting_more : (xs ys : List (StartOf Call)) (x : StartOf Call) (a : Active) → ys ≡ xs ++ x ∷ [] → what_starts x ≡ a

@@ -29,7 +29,7 @@ use Rattle.child_model.specs.Laws.{asked_polls, fewer, kept}
 use Rattle.child_model.specs.declared.answer.Entry.{Entry}
 use Rattle.exec_turn.specs.AgentsLive.{AgentsLive}
 use Rattle.exec_turn.specs.Starts.{AllRun}
-use Rattle.exec_ledger.specs.Rows.{MayRecord}
+use Rattle.exec_ledger.specs.Batches.{MayRecord}
 use Rattle.exec_turn.proofs.Results.{AtMostOne, ResultsFit, agents_result, all_run, each_ended, each_second, ended_may_record, few_active, never_itself, run_on, same_keys, distinct_second}
 
 abbrev pub whos : List Polled → List Active
@@ -146,7 +146,7 @@ polled_one at id x o answer kill old new end is byte children ended =
       each = ap (active_of id) (sym is);
       bytes = (byte, tt);
       children = children;
-      row_is = ap (λ e. map (result_of at who) (option_to_list e)) ended ∙ sym (append-nil _);
+      batch_is = ap (λ e. map (result_of at who) (option_to_list e)) ended ∙ sym (append-nil _);
       told_is = ap (λ e. map (notice_of at who) (option_to_list e)) ended ∙ sym (append-nil _);
     }
 
@@ -156,7 +156,7 @@ polled_none at id o v is = record {
   each = ap (active_of id) (sym is);
   bytes = tt;
   children = refl;
-  row_is = refl;
+  batch_is = refl;
   told_is = refl;
 }
 
@@ -166,16 +166,16 @@ after_polls-append at v [] qs = refl
 after_polls-append at v (p ∷ ps) qs = after_polls-append at (polled_on at p.who.running p.poll p.kill v) ps qs
 
 -- polls of some actions, and then of others
-pub polls_more : (at : ℕ) (xs ys : List Active) (v v1 v2 : ChildrenView) (row more : List Event) (told later : List Notice)
-    → Polls at xs v v1 row told → Polls at ys v1 v2 more later → Polls at (xs ++ ys) v v2 (row ++ more) (told ++ later)
-polls_more at xs ys v v1 v2 row more told later f g = record {
+pub polls_more : (at : ℕ) (xs ys : List Active) (v v1 v2 : ChildrenView) (batch more : List Event) (told later : List Notice)
+    → Polls at xs v v1 batch told → Polls at ys v1 v2 more later → Polls at (xs ++ ys) v v2 (batch ++ more) (told ++ later)
+polls_more at xs ys v v1 v2 batch more told later f g = record {
   answers = f.answers ++ g.answers;
   each = map-append _ f.answers g.answers ∙ ap (λ (l : List Active). l ++ whos g.answers) f.each ∙ ap (λ (l : List Active). xs ++ l) g.each;
   bytes = each_append _ f.answers g.answers f.bytes g.bytes;
   children =
       g.children ∙ ap (λ (w : ChildrenView). after_polls at w g.answers) f.children ∙ sym (after_polls-append at v f.answers g.answers);
-  row_is =
-      ap (λ (l : List Event). l ++ more) f.row_is ∙ ap (λ (l : List Event). results at f.answers ++ l) g.row_is
+  batch_is =
+      ap (λ (l : List Event). l ++ more) f.batch_is ∙ ap (λ (l : List Event). results at f.answers ++ l) g.batch_is
       ∙ sym (flat_map-append _ f.answers g.answers);
   told_is =
       ap (λ (l : List Notice). l ++ later) f.told_is ∙ ap (λ (l : List Notice). result_notices at f.answers ++ l) g.told_is
@@ -209,10 +209,10 @@ live_on at (p ∷ ps) v runs distinct has =
     (subst (λ (live : List ℕ). Live live runs) (sym (polled_as at p.who.running p.poll p.kill v).live)
     (all_live_after end p.who.running.run v.live runs apart has))
 
-pub others_live : (at : ℕ) (all rest : List Active) (old new : ChildrenView) (row : List Event) (told : List Notice)
-    → Polls at all old new row told
+pub others_live : (at : ℕ) (all rest : List Active) (old new : ChildrenView) (batch : List Event) (told : List Notice)
+    → Polls at all old new batch told
     → IsDistinct nat_eq (runs_of (all ++ rest)) → Live old.live (runs_of (all ++ rest)) → Live new.live (runs_of rest)
-others_live at all rest old new row told h distinct has =
+others_live at all rest old new batch told h distinct has =
     let both : runs_of (all ++ rest) ≡ runs_of all ++ runs_of rest = map-append _ all rest in
     let distinct_polled : IsDistinct nat_eq (runs_of (whos h.answers) ++ runs_of rest) =
     subst (λ (l : List Active). IsDistinct nat_eq (runs_of l ++ runs_of rest)) (sym h.each) (subst (IsDistinct nat_eq) both distinct) in
@@ -238,9 +238,9 @@ pub active_rest : (s : State) (place : ℕ) → place < length s.resources
 active_rest s place within = ap (flat_map active_in) (drop_more s.resources place no_entry within)
 
 -- the book's capacity after polls
-pub room_behind : (at : ℕ) (all : List Active) (old new : ChildrenView) (row : List Event) (told : List Notice)
-    → Polls at all old new row told → old.room ≤ new.room + 2 * length all
-room_behind at all old new row told h =
+pub room_behind : (at : ℕ) (all : List Active) (old new : ChildrenView) (batch : List Event) (told : List Notice)
+    → Polls at all old new batch told → old.room ≤ new.room + 2 * length all
+room_behind at all old new batch told h =
     let many : length h.answers ≡ length all = sym (length-map h.answers _) ∙ ap (λ (l : List Active). length l) h.each in
     let room : new.room ≡ (after_polls at old h.answers).room = ap (λ (w : ChildrenView). w.room) h.children in
     omega (arith, many, room, (polls_as at old h.answers).4)

@@ -26,10 +26,10 @@ use Rattle.ocf_types.specs.Kinds.{Event, Step}
 use Rattle.ocf_types.specs.Limits.{longest_result, resources_limit}
 use Rattle.ocf_types.specs.Encoding.{encoded_event}
 use Rattle.ocf_types.specs.declared.event.Change.TheVariants as change
-use Rattle.exec_journal.specs.PartPrefix.{AllApply, encoded_row}
-use Rattle.exec_journal.specs.Rows.{are_results}
+use Rattle.exec_journal.specs.PartPrefix.{AllApply, encoded_batch}
+use Rattle.exec_journal.specs.Batches.{are_results}
 use Rattle.exec_turn.specs.AgentsLive.{AgentsLive}
-use Rattle.exec_ledger.specs.Rows.{MayRecord}
+use Rattle.exec_ledger.specs.Batches.{MayRecord}
 use Rattle.std.proofs.lemmas.Cmp.{nat_eq_equiv}
 use Rattle.exec_turn.proofs.Choosing.{own_found}
 use Rattle.std.proofs.lemmas.List.Sorted.{All-permutation, IsPermutation-append_comm, IsPermutation-append_left, IsPermutation-sym, length_permutation}
@@ -352,17 +352,17 @@ module _ {X : Type 0} (who : X → Active) (ends : X → List RunEnd) (one : (x 
       can.0.1
 
   ended_fit : ResultsFit → (at : ℕ) (xs : List X) → AllByRecursion CanEnd xs
-      → length (encoded_row (ended at xs)) ≤ longest_result * length xs
+      → length (encoded_batch (ended at xs)) ≤ longest_result * length xs
   ended_fit fit at [] can = omega arith
   ended_fit fit at (x ∷ xs) can =
       let rest = ended_fit fit at xs can.1 in
-      by_end (λ es. length (encoded_row (map (result_of at (who x)) es ++ ended at xs)) ≤ longest_result * length (x ∷ xs)) (ends x) (one x)
+      by_end (λ es. length (encoded_batch (map (result_of at (who x)) es ++ ended at xs)) ≤ longest_result * length (x ∷ xs)) (ends x) (one x)
       (omega (arith, rest))
       (λ e. omega (
         arith,
         rest,
         fit at (who x).running.run (who x).id e can.0.0.0,
-        length-append (encoded_event (result_of at (who x) e)) (encoded_row (ended at xs)),
+        length-append (encoded_event (result_of at (who x) e)) (encoded_batch (ended at xs)),
       ))
 
   ended_results : (at : ℕ) (xs : List X) → IsTrue (are_results (ended at xs))

@@ -20,7 +20,7 @@ use Rattle.child_model.specs.Children.{ChildrenView, after_start, live_started, 
 use Rattle.exec_ledger.specs.Actives.{Active, runs_of}
 use Rattle.exec_turn.specs.Actives.{notice_of, result_of}
 use Rattle.exec_turn.specs.AgentsLive.{AgentsLive, AgentsLiveBut}
-use Rattle.exec_ledger.specs.Rows.{MayRecord}
+use Rattle.exec_ledger.specs.Batches.{MayRecord}
 use Rattle.exec_turn.specs.Starts.{AllRun, Rising, Started, Starts, after_starts, refusals, refused_end, starts}
 use Rattle.exec_turn.proofs.Results.{AtMostOne, ResultsFit, agents_result, differs, each_of_all, ended_may_record, never_itself, run_on, same_keys}
 use Rattle.std.proofs.lemmas.List.Sorted.{Contains-permutation, IsPermutation-middle}
@@ -40,12 +40,12 @@ one_more : {X : Type 0} (f : Started → List X) (xs : List Started) (x : Starte
 one_more f xs x = flat_map-append f xs (x ∷ []) ∙ ap (λ l. flat_map f xs ++ l) (append-nil (f x))
 
 -- these starts, and one more
-pub starts_more : (at clock : ℕ) (all : List Active) (a : Active) (v w x : ChildrenView) (row row2 : List Event) (told told2 : List Notice)
+pub starts_more : (at clock : ℕ) (all : List Active) (a : Active) (v w x : ChildrenView) (batch batch2 : List Event) (told told2 : List Notice)
     (answer : Result Unit StartFault)
-    → Starts at clock all v w row told → x ≡ after_start w a.running.run clock answer
-    → row2 ≡ row ++ map (result_of at a) (refused_end answer) → told2 ≡ told ++ map (notice_of at a) (refused_end answer)
-    → Starts at clock (all ++ a ∷ []) v x row2 told2
-starts_more at clock all a v w x row row2 told told2 answer so_far view row_is told_is =
+    → Starts at clock all v w batch told → x ≡ after_start w a.running.run clock answer
+    → batch2 ≡ batch ++ map (result_of at a) (refused_end answer) → told2 ≡ told ++ map (notice_of at a) (refused_end answer)
+    → Starts at clock (all ++ a ∷ []) v x batch2 told2
+starts_more at clock all a v w x batch batch2 told told2 answer so_far view batch_is told_is =
     let xs = so_far.answers in
     let y : Started = record { what = a; answer = answer } in
     record {
@@ -53,7 +53,7 @@ starts_more at clock all a v w x row row2 told told2 answer so_far view row_is t
       each = map-append (λ (z : Started). z.what) xs (y ∷ []) ∙ ap (λ (l : List Active). l ++ a ∷ []) so_far.each;
       children = view ∙ ap (λ (u : ChildrenView). after_start u a.running.run clock answer) so_far.children
           ∙ sym (fold-append (λ (u : ChildrenView) (z : Started). after_start u z.what.running.run clock z.answer) v xs (y ∷ []));
-      row_is = row_is ∙ ap (λ (l : List Event). l ++ map (result_of at a) (refused_end answer)) so_far.row_is
+      batch_is = batch_is ∙ ap (λ (l : List Event). l ++ map (result_of at a) (refused_end answer)) so_far.batch_is
           ∙ sym (one_more (λ z. map (result_of at z.what) (refused_end z.answer)) xs y);
       told_is = told_is ∙ ap (λ (l : List Notice). l ++ map (notice_of at a) (refused_end answer)) so_far.told_is
           ∙ sym (one_more (λ z. map (notice_of at z.what) (refused_end z.answer)) xs y);

@@ -9,7 +9,7 @@ use Rattle.ocf_types.specs.declared.event.Change.TheVariants as change
 use Rattle.ocf_types.specs.declared.event.Step.TheVariants as step
 use Rattle.ocf_types.specs.declared.reply.TurnEnd.{TurnEnd}
 use Rattle.ocf_types.specs.declared.reply.TurnEnd.TheVariants as turn_end
-use Rattle.exec_journal.specs.Rows.{IsTooLong}
+use Rattle.exec_journal.specs.Batches.{IsTooLong}
 use Rattle.exec_ledger.specs.Actives.{Active, active_in}
 
 -- the running action of a resource after it has begun this call under this run

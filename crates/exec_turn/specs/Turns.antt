@@ -14,11 +14,11 @@ use Rattle.exec_ledger.specs.Actives.{Active}
 use Rattle.exec_turn.specs.AgentsLive.{AgentsLive, AgentsLiveBut}
 use Rattle.exec_turn.specs.Launches.{AllLaunch, IsOfOne, all_starting}
 use Rattle.exec_turn.specs.Picks.{begins}
-use Rattle.exec_ledger.specs.Pieces.{Effects, Leaves, row_effects}
+use Rattle.exec_ledger.specs.Pieces.{Effects, Leaves, batch_effects}
 use Rattle.exec_turn.specs.Polls.{Polled, polls, result_notices, results}
 use Rattle.exec_turn.specs.Starts.{AllRun, Rising, Started, refusal_notices, refusals, starts}
 use Rattle.exec_turn.specs.Turn.{EachPolled, IsFinish, IsTurn, PickedAt, TurnKind}
-use Rattle.exec_ledger.specs.Scenes.{Moves, RecordsRow, Scene, due_after_all}
+use Rattle.exec_ledger.specs.Scenes.{Moves, RecordsBatch, Scene, due_after_all}
 use Rattle.exec_turn.specs.declared.buffers.TurnBuffers.{TurnBuffers}
 use Rattle.exec_turn.specs.declared.picks.StartOf.{StartOf}
 
@@ -28,7 +28,7 @@ pub record ChildrenMatch (s : State) (v : ChildrenView) : Type 0 where
   pub rising : v.last_run < s.next_run
 
 -- The first step: polls, and the batch of their results.
-pub record PollsRow {D : Type 0} (look : D → View) (k l : D) (x y : Scene) (from to : ChildrenView) (told : List Notice)
+pub record PollsBatch {D : Type 0} (look : D → View) (k l : D) (x y : Scene) (from to : ChildrenView) (told : List Notice)
     (result : Result Unit DiskFault) : Type 0 where
   pub answers : List Polled
   pub each : EachPolled x answers
@@ -37,16 +37,16 @@ pub record PollsRow {D : Type 0} (look : D → View) (k l : D) (x y : Scene) (fr
   pub site : to.site ≡ from.site
   pub left : from.room ≤ to.room + 2 * length x.state.resources
   pub moves : Moves x y (results x.at answers) result
-  pub crash : Leaves look k l x.state y.state (record (row_effects (is_ok result) (results x.at answers)) { entries = polls x.at answers })
+  pub crash : Leaves look k l x.state y.state (record (batch_effects (is_ok result) (results x.at answers)) { entries = polls x.at answers })
   pub cause : OnErr result (Increased (look k).failures (look l).failures)
   pub told_is : told ≡ (if is_ok result then result_notices x.at answers else [])
 
 -- The second: the actions begun, by what ended the picks, and the batch of begins.
-pub record BeginsRow {D : Type 0} (look : D → View) (k l : D) (x y : Scene) (begun : List Active) (result : Result TurnEnd DiskFault) : Type 0 where
+pub record BeginsBatch {D : Type 0} (look : D → View) (k l : D) (x y : Scene) (begun : List Active) (result : Result TurnEnd DiskFault) : Type 0 where
   pub end : TurnEnd
   pub ended : IfOk result (λ told. told ≡ end)
   pub picked : PickedAt end x begun
-  pub recorded : RecordsRow look k l x y (begins x.at begun) result
+  pub recorded : RecordsBatch look k l x y (begins x.at begun) result
 
 -- These may be started: each runs, has the launch of its action, and its run is above all whose start was asked; the agent
 -- processes of all other running actions live.
@@ -59,14 +59,14 @@ pub record Startable (s : State) (v : ChildrenView) (begun : List (StartOf Call)
   pub agents_live : AgentsLiveBut s v.live (all_starting begun)
 
 -- The third: starts, and the batch of results of those that were refused.
-pub record StartsRow {D : Type 0} (look : D → View) (k l : D) (x y : Scene) (begun : List Active) (from to : ChildrenView)
+pub record StartsBatch {D : Type 0} (look : D → View) (k l : D) (x y : Scene) (begun : List Active) (from to : ChildrenView)
     (was told : List Notice) (result : Result Unit DiskFault) : Type 0 where
   pub answers : List Started
   pub each : map (λ a. a.what) answers ≡ begun
   pub book : to.book ≡ from.book ++ starts (look k).clock answers
   pub log : to.log ≡ from.log ++ starts (look k).clock answers
   pub site : to.site ≡ from.site
-  pub recorded : RecordsRow look k l x y (refusals x.at answers) result
+  pub recorded : RecordsBatch look k l x y (refusals x.at answers) result
   pub told_is : told ≡ (if is_ok result then was ++ refusal_notices x.at answers else was)
 
 -- the end of a turn whose batches were recorded, or one of which met a disk fault
@@ -100,4 +100,4 @@ Finishes look old new x t due from to told end = TurnsAs IsFinish look old new x
 
 -- the notices of the last turn
 abbrev pub told_of : {M : Type 0} → TurnBuffers M → List Notice
-told_of rows = rows.notices.items
+told_of batches = batches.notices.items

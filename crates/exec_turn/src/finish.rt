@@ -37,7 +37,7 @@ pub fn runs_any<A: Grows>(state: &State<A>) -> bool
 pub fn finish_turn<D: Disk + Drop, C: Children, A: Grows>(
     ledger: &mut Ledger<D, A>,
     children: &mut C,
-    rows: &mut TurnBuffers<A>,
+    batches: &mut TurnBuffers<A>,
     now: u64,
 ) -> TurnEnd
     requires open { ledger.old.is_open ≡ true }
@@ -45,7 +45,7 @@ pub fn finish_turn<D: Disk + Drop, C: Children, A: Grows>(
     ensures finishes { Finishes D.view ledger.old.disk ledger.new.disk
         (scene_of ledger.old (moment ledger.old.state now)) ledger.new.state
         (due_in ledger.new)
-        (C.view children.old) (C.view children.new) (told_of rows.new) result }
+        (C.view children.old) (C.view children.new) (told_of batches.new) result }
     ensures full { result ≡ TurnEnd.BookFull
         ↔ (C.view children.old).room < 2 * length ledger.old.state.resources }
     ensures unchanged { result ≡ TurnEnd.BookFull
@@ -57,11 +57,11 @@ pub fn finish_turn<D: Disk + Drop, C: Children, A: Grows>(
     ledger.known();
     let state = ledger.state();
     if children.room() / 2 < state.len() {
-        rows.notices.clear();
+        batches.notices.clear();
         return TurnEnd::BookFull;
     }
     let at = state.moment(now);
-    match record_polls(ledger, children, rows, at) {
+    match record_polls(ledger, children, batches, at) {
         Ok(()) => TurnEnd::Done,
         Err(DiskFault) => TurnEnd::Disk,
     }

@@ -84,21 +84,21 @@ pub(crate) fn pick_all<D: Disk + Drop, A: Grows, S: Allocator>(
     state: &State<A>,
     journal: &Journal<D, A>,
     at: Moment,
-    row: &mut Vec<Event<A>, A>,
+    batch: &mut Vec<Event<A>, A>,
     starts: &mut Vec<Start<A>, A>,
 ) -> TurnEnd
-    requires row_room { length state.now.state.resources ≤ vec_capacity row.old }
+    requires batch_room { length state.now.state.resources ≤ vec_capacity batch.old }
     requires start_room { length state.now.state.resources ≤ vec_capacity starts.old }
     ensures picked { Picked result state.now.state (dues state.now)
         (journal_place journal.now).tail at (all_starting starts.new.items) }
     ensures memory { result ≡ TurnEnd.Memory → IsTrue A.refuses }
-    ensures row { row.new.items ≡ begins at (all_starting starts.new.items) }
+    ensures batch { batch.new.items ≡ begins at (all_starting starts.new.items) }
     ensures are_starts { AllByRecursion (IsStart site.now state.now.state) starts.new.items }
     ensures few { vec_len starts.new ≤ length state.now.state.resources }
-    ensures row_room { vec_capacity row.new ≡ vec_capacity row.old }
+    ensures batch_room { vec_capacity batch.new ≡ vec_capacity batch.old }
     ensures start_room { vec_capacity starts.new ≡ vec_capacity starts.old }
 {
-    row.clear();
+    batch.clear();
     starts.clear();
     state.known();
     if state.rests(at) {
@@ -121,7 +121,7 @@ pub(crate) fn pick_all<D: Disk + Drop, A: Grows, S: Allocator>(
         let Ok(start) = start_of(alloc, site, state, place, running) else {
             return TurnEnd::Memory;
         };
-        row.push_reserved(begin);
+        batch.push_reserved(begin);
         starts.push_reserved(start);
         run = next;
     }

@@ -56,7 +56,7 @@ fn poll_at<C: Children, A: Grows>(
     place: usize,
     children: &mut C,
     at: Moment,
-    row: &mut Vec<Event<A>, A>,
+    batch: &mut Vec<Event<A>, A>,
     notices: &mut Vec<Notice, A>,
 )
     requires place { place < length state.now.state.resources }
@@ -64,14 +64,14 @@ fn poll_at<C: Children, A: Grows>(
         (runs_of (active_in (entry_at state.now.state place))) }
     requires room { 2 * length (active_in (entry_at state.now.state place))
         ≤ (C.view children.old).room }
-    requires row_room { vec_len row.old < vec_capacity row.old }
+    requires batch_room { vec_len batch.old < vec_capacity batch.old }
     requires notice_room { vec_len notices.old < vec_capacity notices.old }
     ensures polled { (more : List Event) × (told : List Notice)
         × Polls at (active_in (entry_at state.now.state place)) (C.view children.old)
         (C.view children.new) more told
-        × (row.new.items ≡ row.old.items ++ more)
+        × (batch.new.items ≡ batch.old.items ++ more)
         × (notices.new.items ≡ notices.old.items ++ told) }
-    ensures row { GrowsInRoom 1 row.old row.new }
+    ensures batch { GrowsInRoom 1 batch.old batch.new }
     ensures notices { GrowsInRoom 1 notices.old notices.new }
 {
     let Some(running) = state.running_at(place) else {
@@ -83,7 +83,7 @@ fn poll_at<C: Children, A: Grows>(
     let id = state.id_at(place).copied();
     let run = running.run;
     let change = Change::Step(id, Step::Result { run, end });
-    row.push_reserved(EventOf { at, change });
+    batch.push_reserved(EventOf { at, change });
     let id = state.id_at(place).copied();
     let notice = run_notice(id, running, Outcome::Run(end), at);
     notices.push_reserved(notice);
@@ -95,23 +95,23 @@ pub(crate) fn poll_all<C: Children, A: Grows>(
     state: &State<A>,
     children: &mut C,
     at: Moment,
-    row: &mut Vec<Event<A>, A>,
+    batch: &mut Vec<Event<A>, A>,
     notices: &mut Vec<Notice, A>,
 )
     requires agents_live { AgentsLive state.now.state (C.view children.old).live }
     requires room { 2 * length (active state.now.state) ≤ (C.view children.old).room }
-    requires row_room { length state.now.state.resources ≤ vec_capacity row.old }
+    requires batch_room { length state.now.state.resources ≤ vec_capacity batch.old }
     requires notice_room { length state.now.state.resources ≤ vec_capacity notices.old }
     ensures polled { Polls at (active state.now.state) (C.view children.old)
-        (C.view children.new) row.new.items notices.new.items }
+        (C.view children.new) batch.new.items notices.new.items }
     ensures few { vec_len notices.new ≤ length state.now.state.resources }
-    ensures row_room { vec_capacity row.new ≡ vec_capacity row.old }
+    ensures batch_room { vec_capacity batch.new ≡ vec_capacity batch.old }
     ensures notice_room { vec_capacity notices.new ≡ vec_capacity notices.old }
 {
-    row.clear();
+    batch.clear();
     notices.clear();
     for place in 0..state.len() {
-        poll_at(state, place, children, at, row, notices);
+        poll_at(state, place, children, at, batch, notices);
     }
     children.end_killed();
 }

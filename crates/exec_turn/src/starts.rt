@@ -28,7 +28,7 @@ fn start_one<D: Disk + Drop, C: Children, A: Grows>(
     children: &mut C,
     start: &Start<A>,
     at: Moment,
-    row: &mut Vec<Event<A>, A>,
+    batch: &mut Vec<Event<A>, A>,
     notices: &mut Vec<Notice, A>,
 )
     requires settled { Settled journal.now (D.view (journal_disk journal.now)) state.now.state }
@@ -37,17 +37,17 @@ fn start_one<D: Disk + Drop, C: Children, A: Grows>(
     requires rising { (C.view children.old).last_run < start.now.running.run }
     requires few { length (C.view children.old).live < live_limit }
     requires room { 0 < (C.view children.old).room }
-    requires row_room { vec_len row.old < vec_capacity row.old }
+    requires batch_room { vec_len batch.old < vec_capacity batch.old }
     requires notice_room { vec_len notices.old < vec_capacity notices.old }
     ensures started { (answer : Result Unit StartFault)
         × (C.view children.new
         ≡ after_start (C.view children.old) start.now.running.run
         (D.view (journal_disk journal.now)).clock answer)
-        × (row.new.items ≡ row.old.items ++ map (result_of at (what_starts start.now))
+        × (batch.new.items ≡ batch.old.items ++ map (result_of at (what_starts start.now))
         (refused_end answer))
         × (notices.new.items ≡ notices.old.items ++ map (notice_of at (what_starts start.now))
         (refused_end answer)) }
-    ensures row { GrowsInRoom 1 row.old row.new }
+    ensures batch { GrowsInRoom 1 batch.old batch.new }
     ensures notices { GrowsInRoom 1 notices.old notices.new }
 {
     let Err(fault) = children.start(journal, &start.launch) else {
@@ -55,7 +55,7 @@ fn start_one<D: Disk + Drop, C: Children, A: Grows>(
     };
     let (run, end) = (start.running.run, RunEnd::NotStarted(fault));
     let change = Change::Step(start.launch.id.copied(), Step::Result { run, end });
-    row.push_reserved(EventOf { at, change });
+    batch.push_reserved(EventOf { at, change });
     let id = start.launch.id.copied();
     let notice = run_notice(id, start.running, Outcome::Run(end), at);
     notices.push_reserved(notice);
@@ -69,7 +69,7 @@ pub(crate) fn start_all<D: Disk + Drop, C: Children, A: Grows>(
     children: &mut C,
     starts: &[Start<A>],
     at: Moment,
-    row: &mut Vec<Event<A>, A>,
+    batch: &mut Vec<Event<A>, A>,
     notices: &mut Vec<Notice, A>,
 )
     requires settled { Settled journal.now (D.view (journal_disk journal.now)) state.now.state }
@@ -78,18 +78,18 @@ pub(crate) fn start_all<D: Disk + Drop, C: Children, A: Grows>(
     requires rising { Rising (C.view children.old).last_run (all_starting starts.now) }
     requires few { length (C.view children.old).live + length starts.now ≤ live_limit }
     requires room { length starts.now ≤ (C.view children.old).room }
-    requires row_room { length starts.now ≤ vec_capacity row.old }
+    requires batch_room { length starts.now ≤ vec_capacity batch.old }
     requires notice_room { vec_len notices.old + length starts.now ≤ vec_capacity notices.old }
     ensures started { (told : List Notice)
         × Starts at (D.view (journal_disk journal.now)).clock (all_starting starts.now)
         (C.view children.old)
-        (C.view children.new) row.new.items told
+        (C.view children.new) batch.new.items told
         × (notices.new.items ≡ notices.old.items ++ told) }
-    ensures row_room { vec_capacity row.new ≡ vec_capacity row.old }
+    ensures batch_room { vec_capacity batch.new ≡ vec_capacity batch.old }
     ensures notice_room { vec_capacity notices.new ≡ vec_capacity notices.old }
 {
-    row.clear();
+    batch.clear();
     for start in starts {
-        start_one(state, journal, children, start, at, row, notices);
+        start_one(state, journal, children, start, at, batch, notices);
     }
 }

@@ -4,7 +4,7 @@ pub mod Changes
 pub mod Requests
 pub mod Replies
 pub mod Picks
-pub mod Rows
+pub mod CommandBatches
 pub mod Begins
 pub mod Turns
 pub mod Runs

@@ -12,7 +12,7 @@ use Rattle.exec_ledger.specs.Held.{Held}
 use Rattle.exec_ledger.specs.Pieces.{Effects}
 use Rattle.executor.specs.Commands.{ServesOpen}
 use Rattle.executor.specs.FinishCalls.{FinishedWhile}
-use Rattle.executor.specs.Lives.{Abandoned, Calls, Cleared, Does, Exchange, Finished, Row, Tidied, Took}
+use Rattle.executor.specs.Lives.{Abandoned, Calls, Cleared, Does, Exchange, Finished, Batch, Tidied, Took}
 use Rattle.executor.specs.Sessions.{Input, TakesWhile}
 use Rattle.executor.specs.Sights.{Sight, ledger_of}
 use Rattle.executor.specs.TidyCalls.{TidiesWhile}
@@ -51,7 +51,7 @@ module _ {D : Type 0} (look : D → View) where
 
   pub call_lasts : (e : Exchange) (x y : Sight D) (d : Effects) → Does look e x y d → Lasts x y
   call_lasts (Took i r) x y d does = taken x.is_open i x y r d does
-  call_lasts (Row now cs rs) x y d does =
+  call_lasts (Batch now cs rs) x y d does =
       record { reported = does.beside.reported; refuses = ap (λ (h : Held D). h.refuses) does.takes.records.went.same }
   call_lasts (Finished now end) x y d does = finished x.is_open now x y end d does
   call_lasts (Tidied end) x y d does = tidied x.is_open x y end does.0

@@ -14,11 +14,11 @@ use Rattle.disk_model.specs.View.{View}
 use Rattle.exec_ledger.specs.Commands.{Obeys}
 use Rattle.exec_ledger.specs.Replies.{MemoryOnlyIf}
 use Rattle.exec_ledger.specs.Scenes.{scene}
-use Rattle.exec_ledger.specs.Together.{disk_each, failed, row_replies}
+use Rattle.exec_ledger.specs.Together.{disk_each, failed, batch_replies}
 use Rattle.exec_ledger.proofs.Recording.{no_memory}
 use Rattle.exec_turn.specs.Turn.{IsTurn}
 use Rattle.executor.specs.Commands.{ServesOpen}
-use Rattle.executor.specs.Lives.{Abandoned, Calls, Cleared, Does, Exchange, Finished, Row, Tidied, Took}
+use Rattle.executor.specs.Lives.{Abandoned, Calls, Cleared, Does, Exchange, Finished, Batch, Tidied, Took}
 use Rattle.executor.specs.Machine.{LacksMemory}
 use Rattle.exec_ledger.specs.Pieces.{Effects}
 use Rattle.executor.specs.Sessions.{Input, TakesATurn, TakesWhile}
@@ -36,9 +36,9 @@ failed_keeps b [] all = tt
 failed_keeps b (reply.Refused refusal ∷ rs) all = (all.0, failed_keeps b rs all.1)
 failed_keeps b (r ∷ rs) all = ((λ bad. let no : ⊥ = cc in absurd no), disk_keeps b rs)
 
-row_keeps : (b o : Bool) (rs : List Reply) → AllByRecursion (MemoryOnlyIf b) rs → AllByRecursion (MemoryOnlyIf b) (row_replies o rs)
-row_keeps b true rs all = all
-row_keeps b false rs all = failed_keeps b rs all
+batch_keeps : (b o : Bool) (rs : List Reply) → AllByRecursion (MemoryOnlyIf b) rs → AllByRecursion (MemoryOnlyIf b) (batch_replies o rs)
+batch_keeps b true rs all = all
+batch_keeps b false rs all = failed_keeps b rs all
 
 among : (b : Bool) (rs : List Reply) → AllByRecursion (MemoryOnlyIf b) rs → Contains rs (reply.Refused Memory) → IsTrue b
 among b rs all (k, lt, is) =
@@ -81,10 +81,10 @@ module _ {D : Type 0} (look : D → View) where
 
   pub memory_told : (e : Exchange) (x y : Sight D) (d : Effects) → Does look e x y d → LacksMemory e → IsTrue x.refuses
   memory_told (Took i r) x y d does lacks = taken x.is_open i x y r d does lacks
-  memory_told (Row now cs rs) x y d does lacks =
+  memory_told (Batch now cs rs) x y d does lacks =
       let told = does.takes.told in
       among x.refuses rs
-      (subst (AllByRecursion (MemoryOnlyIf x.refuses)) (sym told) (row_keeps x.refuses y.is_open does.takes.meant does.takes.memory)) lacks
+      (subst (AllByRecursion (MemoryOnlyIf x.refuses)) (sym told) (batch_keeps x.refuses y.is_open does.takes.meant does.takes.memory)) lacks
   memory_told (Finished now end) x y d does lacks = absurd lacks
   memory_told (Tidied end) x y d does lacks = absurd lacks
   memory_told Cleared x y d does lacks = absurd lacks

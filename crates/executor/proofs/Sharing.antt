@@ -16,11 +16,11 @@ use Rattle.exec_state.specs.Answers.{IsReplyOrMemory}
 use Rattle.exec_ledger.specs.Commands.{TakesCommand}
 use Rattle.exec_ledger.specs.Held.{Held, While}
 use Rattle.exec_ledger.specs.Laws.{of_closed}
-use Rattle.exec_ledger.specs.Shares.{Row as SharedRow, Share, Single, TakesCommands as LedgerTakesCommands, TakesShare, TakesShares}
+use Rattle.exec_ledger.specs.Shares.{Batch as SharedBatch, Share, Single, TakesCommands as LedgerTakesCommands, TakesShare, TakesShares}
 use Rattle.exec_ledger.specs.Tidying.{Tidies as LedgerTidies}
 use Rattle.exec_ledger.proofs.Keeping.{same_runs}
 use Rattle.executor.specs.CallLaws.{same_sight}
-use Rattle.executor.specs.RowLaws.{still_beside, with_ledger}
+use Rattle.executor.specs.BatchLaws.{still_beside, with_ledger}
 use Rattle.executor.specs.Sights.{IsTended, Sight, ledger_of}
 use Rattle.executor.specs.TidyCalls.{TidiesWhile}
 use Rattle.executor.proofs.Keeping.{kept_tends}
@@ -34,7 +34,7 @@ module _ {D : Type 0} (look : D → View) (now : ℕ) where
 
   share_open : (s : Share) (h k : Held D) → TakesShare look now s h k → k.is_open ≡ true → h.is_open ≡ true
   share_open (Single c r) h k takes is = command_open h.is_open c r h k takes is refl
-  share_open (SharedRow cs rs) h k takes is = takes.was_open
+  share_open (SharedBatch cs rs) h k takes is = takes.was_open
 
   shares_open : (ss : List Share) (h k : Held D) → TakesShares look now ss h k → k.is_open ≡ true → h.is_open ≡ true
   shares_open [] h k same is = sym (ap (λ (x : Held D). x.is_open) same) ∙ is

@@ -6,14 +6,14 @@ pub mod Openings
 pub mod TurnCalls
 pub mod TidyCalls
 pub mod Sessions
-pub mod RowCalls
+pub mod BatchCalls
 pub mod FinishCalls
 pub mod Lives
 pub mod Isolated
 pub mod Parts
-pub mod Rows
+pub mod CommandBatches
 pub mod CallLaws
-pub mod RowLaws
+pub mod BatchLaws
 pub mod Histories
 pub mod Joins
 pub mod Machine

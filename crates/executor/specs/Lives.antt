@@ -21,7 +21,7 @@ use Rattle.executor.specs.declared.opening.OpenError.{OpenError}
 use Rattle.executor.specs.declared.opening.OpenError.TheVariants.{Disk}
 use Rattle.executor.specs.Interruptions.{dropped, interrupted}
 use Rattle.executor.specs.FinishCalls.{FinishedWhile}
-use Rattle.executor.specs.RowCalls.{TakesRow}
+use Rattle.executor.specs.BatchCalls.{TakesBatch}
 use Rattle.executor.specs.Sessions.{Input, TakesWhile}
 use Rattle.executor.specs.Sights.{Sight}
 use Rattle.executor.specs.TidyCalls.{TidiesWhile}
@@ -32,7 +32,7 @@ use Rattle.executor.specs.TurnCalls.{abandoned, with_empty_book}
 -- gives up the children
 pub data Exchange : Type 0 where
   Took : Input → Reply → Exchange
-  Row : ℕ → List Command → List Reply → Exchange
+  Batch : ℕ → List Command → List Reply → Exchange
   Finished : ℕ → TurnEnd → Exchange
   Tidied : TidyEnd → Exchange
   Cleared : Exchange
@@ -41,7 +41,7 @@ pub data Exchange : Type 0 where
 -- what a call does, from one view of the executor to another
 abbrev pub Does : {D : Type 0} → (D → View) → Exchange → Sight D → Sight D → Effects → Type 0
 Does look (Took i reply) old new effects = TakesWhile old.is_open look i old new reply effects
-Does look (Row now commands replies) old new effects = TakesRow look now commands old new replies effects
+Does look (Batch now commands replies) old new effects = TakesBatch look now commands old new replies effects
 Does look (Finished now end) old new effects = FinishedWhile old.is_open look now old new end effects
 Does look (Tidied end) old new effects = TidiesWhile old.is_open look old new end × (effects ≡ no_effects)
 Does look Cleared old new effects = (new ≡ with_empty_book old) × (effects ≡ no_effects)

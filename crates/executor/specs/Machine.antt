@@ -18,13 +18,13 @@ use Rattle.child_model.specs.declared.answer.Entry.{Entry}
 use Rattle.exec_state.specs.Answers.{IsReplyOrMemory}
 use Rattle.two_parts.specs.Head.{last_epoch}
 use Rattle.exec_journal.specs.Place.{Place}
-use Rattle.exec_journal.specs.Rows.{IsTooLong}
+use Rattle.exec_journal.specs.Batches.{IsTooLong}
 use Rattle.exec_ledger.specs.Held.{While}
-use Rattle.exec_ledger.specs.Pieces.{Effects, followed_by, no_effects, row_effects}
+use Rattle.exec_ledger.specs.Pieces.{Effects, followed_by, no_effects, batch_effects}
 use Rattle.exec_ledger.specs.Scenes.{due_after_all, scene}
 use Rattle.exec_ledger.specs.Together.{Answered, failed}
 use Rattle.exec_turn.specs.Turn.{IsFinish, IsTurn, TurnKind}
-use Rattle.executor.specs.Lives.{Abandoned, Cleared, Exchange, Finished, Row, Tidied, Took}
+use Rattle.executor.specs.Lives.{Abandoned, Cleared, Exchange, Finished, Batch, Tidied, Took}
 use Rattle.executor.specs.Sessions.{closed_reply}
 use Rattle.executor.specs.declared.session.InputOf.TheVariants as input
 
@@ -53,7 +53,7 @@ pub record Label : Type 0 where
 abbrev pub LacksMemory : Exchange → Type 0
 LacksMemory (Took (input.Request now request) reply) = reply ≡ Refused Memory
 LacksMemory (Took (input.Turn now) reply) = reply ≡ Turn turn_end.Memory
-LacksMemory (Row now commands replies) = Contains replies (Refused Memory)
+LacksMemory (Batch now commands replies) = Contains replies (Refused Memory)
 LacksMemory _ = ⊥
 
 -- a call reports it only where the allocator refuses growths
@@ -70,7 +70,7 @@ LacksBook l each m = l.room < each * length m.state.resources
 
 -- The device. Where it failed a call the machine may close, with these events pending: recorded, or not.
 abbrev pub Closes : List Event → Machine → Effects → Type 0
-Closes es n did = (n.is_open ≡ false) × (did ≡ row_effects false es)
+Closes es n did = (n.is_open ≡ false) × (did ≡ batch_effects false es)
 
 abbrev pub HasFailed : Label → Type 0
 HasFailed l = Increased l.faults.0 l.faults.1
@@ -84,7 +84,7 @@ after_events m es = record m { state = after_all m.state es; due = due_after_all
 
 -- it goes on by these events, which are recorded
 abbrev pub GoesOn : List Event → Machine → Machine → Effects → Type 0
-GoesOn es m n did = (n ≡ after_events m es) × (did ≡ row_effects true es)
+GoesOn es m n did = (n ≡ after_events m es) × (did ≡ batch_effects true es)
 
 -- commands at one moment: each is answered by the state after the events of those before it; all events are recorded, or the disk fails
 abbrev pub TakesAll : Label → ℕ → List Command → List Reply → Machine → Machine → Effects → Type 0
@@ -125,7 +125,7 @@ MovesOpen (Took (input.Request now (asked.Question q)) reply) l m n did =
 MovesOpen (Took (input.Request now (asked.Command c)) reply) l m n did = IsQuiet l × TakesOne l now c reply m n did
 MovesOpen (Took (input.Turn now) reply) l m n did =
     (end : TurnEnd) × (reply ≡ Turn end) × MovesTurn IsTurn 3 end (moment m.state now) l m n did
-MovesOpen (Row now commands replies) l m n did = IsQuiet l × TakesAll l now commands replies m n did
+MovesOpen (Batch now commands replies) l m n did = IsQuiet l × TakesAll l now commands replies m n did
 MovesOpen (Finished now end) l m n did = MovesTurn IsFinish 2 end (moment m.state now) l m n did
 MovesOpen (Tidied end) l m n did = IsQuiet l × TidyEnds end l m n did
 MovesOpen Cleared l m n did = IsQuiet l × GoesOn [] m n did
@@ -134,7 +134,7 @@ MovesOpen Abandoned l m n did = IsQuiet l × Closes [] n did
 -- the answers of a closed one
 abbrev pub AnswersClosed : Exchange → Type 0
 AnswersClosed (Took i reply) = reply ≡ closed_reply i
-AnswersClosed (Row now commands replies) = ⊥
+AnswersClosed (Batch now commands replies) = ⊥
 AnswersClosed (Finished now end) = end ≡ turn_end.Closed
 AnswersClosed (Tidied end) = end ≡ tidy.Closed
 AnswersClosed _ = ⊤

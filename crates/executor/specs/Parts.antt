@@ -16,7 +16,7 @@ use Rattle.ocf_types.specs.declared.reply.ReplyOf.TheVariants as reply
 use Rattle.ocf_types.specs.declared.reply.TurnEnd.TheVariants.{Done}
 use Rattle.child_model.specs.declared.answer.Entry.{Entry}
 use Rattle.exec_ledger.specs.Actives.{active, runs_of}
-use Rattle.executor.specs.Lives.{Exchange, Finished, Row, Took}
+use Rattle.executor.specs.Lives.{Exchange, Finished, Batch, Took}
 use Rattle.executor.specs.Isolated.{cut}
 use Rattle.executor.specs.declared.session.InputOf.TheVariants as input
 
@@ -53,7 +53,7 @@ one_by_one now _ _ = []
 
 -- a batch as these calls, and any other call as it is
 abbrev pub unrolled : Exchange → List Exchange
-unrolled (Row now commands replies) = one_by_one now commands replies
+unrolled (Batch now commands replies) = one_by_one now commands replies
 unrolled e = e ∷ []
 
 -- a resource's part of a call, and of calls: of a batch of commands those that concern it
@@ -83,7 +83,7 @@ entries_of_runs runs entries = filter (λ e. list_any (nat_eq e.run) runs) entri
 abbrev pub moment_in : ℕ → Exchange → ℕ
 moment_in from (Took (input.Request now request) reply) = cut now
 moment_in from (Took (input.Turn now) reply) = cut now
-moment_in from (Row now commands replies) = cut now
+moment_in from (Batch now commands replies) = cut now
 moment_in from (Finished now end) = cut now
 moment_in from _ = from
 

@@ -13,7 +13,7 @@ use Rattle.ocf_types.specs.declared.reply.Notice.{Notice}
 use Rattle.exec_ledger.specs.Replies.{acknowledged}
 use Rattle.exec_ledger.specs.Together.{is_kept}
 use Rattle.executor.specs.Histories.{IsInOrder, IsWithin, interruptions}
-use Rattle.executor.specs.Lives.{Exchange, Row, Took}
+use Rattle.executor.specs.Lives.{Exchange, Batch, Took}
 use Rattle.executor.specs.Machine.{Label}
 use Rattle.executor.specs.Runs.{HasBegins, Opening, Seen, Serving}
 use Rattle.executor.specs.SeenLives.{reports}
@@ -33,7 +33,7 @@ acknowledgements now _ _ = []
 
 abbrev pub acknowledged_in : Exchange → List Claim
 acknowledged_in (Took (input.Request now (asked.Command c)) reply) = acknowledgements now (c ∷ []) (reply ∷ [])
-acknowledged_in (Row now commands replies) = acknowledgements now commands replies
+acknowledged_in (Batch now commands replies) = acknowledgements now commands replies
 acknowledged_in _ = []
 
 -- the claims of a step, and of all calls that returned, in their order

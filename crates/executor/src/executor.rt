@@ -19,7 +19,7 @@ pub struct Executor<D: Disk + Drop, C: Children + Drop, A: Grows = Global> {
     pub(crate) ledger: Ledger<D, A>,
     pub(crate) children: C,
     pub(crate) site: Site<A>,
-    pub(crate) rows: TurnBuffers<A>,
+    pub(crate) batches: TurnBuffers<A>,
     pub(crate) reported: Reported,
     pub(crate) alloc: A,
 }
@@ -31,7 +31,7 @@ impl<D: Disk + Drop, C: Children + Drop, A: Grows> Model for Executor<D, C, A> {
 
     ghost Value = { Sight D };
 
-    ghost view = { λ e. sight e.ledger (C.view e.children) e.site (told_of e.rows) (reported_of e.reported) };
+    ghost view = { λ e. sight e.ledger (C.view e.children) e.site (told_of e.batches) (reported_of e.reported) };
 
-    ghost invariant = { λ e. IsTended (sight e.ledger (C.view e.children) e.site (told_of e.rows) (reported_of e.reported)) };
+    ghost invariant = { λ e. IsTended (sight e.ledger (C.view e.children) e.site (told_of e.batches) (reported_of e.reported)) };
 }

@@ -14,11 +14,11 @@ ghost use Rattle.exec_journal.specs.Opening.{Opens};
 ghost use Rattle.exec_journal.specs.Room.{Roomy};
 ghost use Rattle.exec_turn.specs.AgentsLive.{AgentsLive};
 ghost use Rattle.executor.specs.Joins.{StandsAt, as_calls};
-ghost use Rattle.executor.specs.Lives.{BeginsAs, Calls, Does, Exchange, GoesOnFrom, InOpening, IsLife, LifeLeaves, Lived, OpensBehind, Row, Sat, Sitting};
+ghost use Rattle.executor.specs.Lives.{BeginsAs, Calls, Does, Exchange, GoesOnFrom, InOpening, IsLife, LifeLeaves, Lived, OpensBehind, Batch, Sat, Sitting};
 ghost use Rattle.executor.specs.Machine.{LacksMemory};
 ghost use Rattle.executor.specs.Openings.{NotOpened, Opened};
 ghost use Rattle.executor.specs.Promise.{IsKept};
-ghost use Rattle.executor.specs.Rows.{CallsCommands, TakesCommands};
+ghost use Rattle.executor.specs.CommandBatches.{CallsCommands, TakesCommands};
 ghost use Rattle.executor.specs.Runs.{Runs};
 ghost use Rattle.executor.specs.SeenLives.{seen};
 ghost use Rattle.executor.specs.Parts.{AreRising, DistinctKeys, IsAnswered, entries_of_runs, events_of, own_runs, part, part_of};
@@ -63,12 +63,12 @@ pub fn each_alone<D: Disk>()
         (entries_of_runs (own_runs id x.state d.events) d.entries)
         (events_of id d.events) }
     // and of a batch of commands, even if its record failed
-    ensures row { (now : ℕ) (x : Sight D) (commands : List Command) (replies : List Reply)
+    ensures batch { (now : ℕ) (x : Sight D) (commands : List Command) (replies : List Reply)
         (es : List Event) (id : List ℕ)
         → Answered now x.state commands replies es
-        → AllByRecursion IsAnswered (part_of id (Row now commands replies))
+        → AllByRecursion IsAnswered (part_of id (Batch now commands replies))
         → x.state.clock ≤ cut now
-        → Alone id (isolated_of x id) (part_of id (Row now commands replies)) []
+        → Alone id (isolated_of x id) (part_of id (Batch now commands replies)) []
         (events_of id es) }
 {}
 

@@ -17,10 +17,10 @@ use Rattle.ocf_types.specs.declared.refusal.Refusal.{Refusal}
 use Rattle.ocf_types.specs.declared.refusal.Refusal.TheVariants.{Disk}
 use Rattle.ocf_types.specs.declared.reply.ReplyOf.TheVariants.{Refused}
 use Rattle.child_model.specs.declared.answer.Entry.{Entry}
-use Rattle.exec_ledger.specs.Pieces.{Effects, row_effects}
+use Rattle.exec_ledger.specs.Pieces.{Effects, batch_effects}
 use Rattle.exec_ledger.specs.Replies.{KeepsRunning, acknowledged}
 use Rattle.exec_ledger.specs.Together.{Answered, disk_each, failed, is_kept}
-use Rattle.executor.specs.Lives.{Exchange, Row, Took}
+use Rattle.executor.specs.Lives.{Exchange, Batch, Took}
 use Rattle.executor.specs.Parts.{IsAnswered, IsPlain, commanded, events_of, part_of}
 use Rattle.executor.specs.Isolated.{Alone, Follows, Isolated, IsolatedCommand, IsolatedTakes, cut, isolated_after_all}
 use Rattle.executor.specs.declared.session.InputOf.TheVariants as input
@@ -28,7 +28,7 @@ use Rattle.executor.proofs.Isolation.Changes.{AreFresh, Stands, stands_all}
 use Rattle.executor.proofs.Isolation.Lists.{filter_alike}
 use Rattle.executor.proofs.Isolation.Replies.{isolated_command}
 use Rattle.executor.proofs.Isolation.Requests.{AllKeep, Commands, Does, Seen, added, seen_behind}
-use Rattle.executor.proofs.Isolation.Rows.{names_it}
+use Rattle.executor.proofs.Isolation.CommandBatches.{names_it}
 use Rattle.executor.proofs.Isolation.Turns.{AllBeginOwn, BeginsOwn, fresh-append}
 use Rattle.ocf_types.specs.Laws.{after_all-append}
 
@@ -134,9 +134,9 @@ refused_none (Ok e) r es refused follows =
 
 module _ (now : ℕ) (id : List ℕ) where
   -- the state after the commands of a batch, even if its record failed
-  pub row_does : (x : Seen) (cs : List Command) (ms : List Reply) (es : List Event) → x.state.clock ≤ cut now
+  pub batch_does : (x : Seen) (cs : List Command) (ms : List Reply) (es : List Event) → x.state.clock ≤ cut now
       → Answered now x.state cs ms es → Does (cut now) x (seen_behind x es) es × AllKeep es
-  row_does x [] [] es clock is = (
+  batch_does x [] [] es clock is = (
     record {
       state = refl;
       due = refl;
@@ -145,11 +145,11 @@ module _ (now : ℕ) (id : List ℕ) where
     },
     subst AllKeep (sym is) tt,
   )
-  row_does x [] (m ∷ ms) es clock bad = absurd bad
-  row_does x (c ∷ cs) [] es clock bad = absurd bad
-  row_does x (c ∷ cs) (m ∷ ms) es clock (first, later, adds, rest, all) =
+  batch_does x [] (m ∷ ms) es clock bad = absurd bad
+  batch_does x (c ∷ cs) [] es clock bad = absurd bad
+  batch_does x (c ∷ cs) (m ∷ ms) es clock (first, later, adds, rest, all) =
       let did = added now c x m first clock adds in
-      let behind = row_does (seen_behind x first) cs ms later did.does.clock rest in
+      let behind = batch_does (seen_behind x first) cs ms later did.does.clock rest in
       subst (λ (l : List Event). Does (cut now) x (seen_behind x l) l × AllKeep l) (sym all) (
         record {
           state = refl;
@@ -161,25 +161,25 @@ module _ (now : ℕ) (id : List ℕ) where
       )
 
   -- the machine takes its commands of a batch; where each reply is a refusal none of them had an event
-  pub row_alone : (y : Isolated) (x : Seen) (cs : List Command) (rs ms : List Reply) (es : List Event) → x.state.clock ≤ cut now
-      → AllByRecursion IsAnswered (part_of id (Row now cs rs)) → Stands y x.state x.due id → Answered now x.state cs ms es → AreToldOf rs ms
-      → Alone id y (part_of id (Row now cs rs)) [] (events_of id es) × (AllRefused rs → events_of id es ≡ [])
-  row_alone y x [] [] [] es clock plain stands is told = ((refl, ap (events_of id) is), λ refused. ap (events_of id) is)
-  row_alone y x [] [] (m ∷ ms) es clock plain stands bad told = absurd bad
-  row_alone y x [] (r ∷ rs) [] es clock plain stands is bad = absurd bad
-  row_alone y x [] (r ∷ rs) (m ∷ ms) es clock plain stands bad told = absurd bad
-  row_alone y x (c ∷ cs) [] [] es clock plain stands bad told = absurd bad
-  row_alone y x (c ∷ cs) [] (m ∷ ms) es clock plain stands is bad = absurd bad
-  row_alone y x (c ∷ cs) (r ∷ rs) [] es clock plain stands bad told = absurd bad
-  row_alone y x (c ∷ cs) (r ∷ rs) (m ∷ ms) es clock plain stands (first, later, adds, rest, all) told =
+  pub batch_alone : (y : Isolated) (x : Seen) (cs : List Command) (rs ms : List Reply) (es : List Event) → x.state.clock ≤ cut now
+      → AllByRecursion IsAnswered (part_of id (Batch now cs rs)) → Stands y x.state x.due id → Answered now x.state cs ms es → AreToldOf rs ms
+      → Alone id y (part_of id (Batch now cs rs)) [] (events_of id es) × (AllRefused rs → events_of id es ≡ [])
+  batch_alone y x [] [] [] es clock plain stands is told = ((refl, ap (events_of id) is), λ refused. ap (events_of id) is)
+  batch_alone y x [] [] (m ∷ ms) es clock plain stands bad told = absurd bad
+  batch_alone y x [] (r ∷ rs) [] es clock plain stands is bad = absurd bad
+  batch_alone y x [] (r ∷ rs) (m ∷ ms) es clock plain stands bad told = absurd bad
+  batch_alone y x (c ∷ cs) [] [] es clock plain stands bad told = absurd bad
+  batch_alone y x (c ∷ cs) [] (m ∷ ms) es clock plain stands is bad = absurd bad
+  batch_alone y x (c ∷ cs) (r ∷ rs) [] es clock plain stands bad told = absurd bad
+  batch_alone y x (c ∷ cs) (r ∷ rs) (m ∷ ms) es clock plain stands (first, later, adds, rest, all) told =
       let b = bytes_eq id (commanded c) in
       let e = Took (input.Request now (asked.Command c)) r in
-      let parts = part_of id (Row now cs rs) in
+      let parts = part_of id (Batch now cs rs) in
       let plain2 = plain_first b e parts plain in
-      let did = told_commands now c x (seen_behind x first) r m (row_effects true first) told.0 (added now c x m first clock adds) in
-      let behind = row_alone (isolated_after_all y (events_of id first)) (seen_behind x first) cs rs ms later did.does.clock plain2.1
+      let did = told_commands now c x (seen_behind x first) r m (batch_effects true first) told.0 (added now c x m first clock adds) in
+      let behind = batch_alone (isolated_after_all y (events_of id first)) (seen_behind x first) cs rs ms later did.does.clock plain2.1
       (stands_all y x.state x.due id first stands did.does.next) rest told.1 in
-      let step = own_command b id y now c x (seen_behind x first) r (row_effects true first) refl clock plain2.0 stands did in
+      let step = own_command b id y now c x (seen_behind x first) r (batch_effects true first) refl clock plain2.0 stands did in
       let split = ap (events_of id) all ∙ filter-append (names_it id) first later in (
         subst (λ (l : List Event). Alone id y (cond b (e ∷ parts) parts) [] l) (sym split)
             (step_on b id y e parts [] [] (events_of id first) (events_of id later) step behind.0),
@@ -187,6 +187,6 @@ module _ (now : ℕ) (id : List ℕ) where
       )
     where
       one : (b : Bool) → bytes_eq id (commanded c) ≡ b → (b ≡ true → IsPlain r)
-          → Commands now c x (seen_behind x first) r (row_effects true first) → is_kept r ≡ false → events_of id first ≡ []
+          → Commands now c x (seen_behind x first) r (batch_effects true first) → is_kept r ≡ false → events_of id first ≡ []
       one true about plain did refused = ap (events_of id) (refused_none (event_of x.state now c) r first refused (did.follows (plain refl)))
       one false about plain did refused = named_so false id c first about did.names

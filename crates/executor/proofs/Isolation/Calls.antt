@@ -13,25 +13,25 @@ use Rattle.disk_model.specs.View.{View}
 use Rattle.child_model.specs.declared.answer.Entry.{Entry}
 use Rattle.exec_ledger.specs.Actives.{active}
 use Rattle.exec_ledger.specs.Laws.{same_entries, same_events}
-use Rattle.exec_ledger.specs.Pieces.{Effects, no_effects, row_effects}
-use Rattle.exec_ledger.specs.Together.{Answered, row_replies}
+use Rattle.exec_ledger.specs.Pieces.{Effects, no_effects, batch_effects}
+use Rattle.exec_ledger.specs.Together.{Answered, batch_replies}
 use Rattle.executor.specs.Joins.{StandsAt, as_calls}
 use Rattle.executor.specs.FinishCalls.{FinishedWhile}
-use Rattle.executor.specs.Lives.{Abandoned, Calls, Cleared, Exchange, Finished, Row, Tidied, Took}
+use Rattle.executor.specs.Lives.{Abandoned, Calls, Cleared, Exchange, Finished, Batch, Tidied, Took}
 use Rattle.executor.specs.Lives.{Does as Called}
 use Rattle.executor.specs.Parts.{AreRising, DistinctKeys, IsAnswered, IsPlain, entries_of_runs, events_of, is_about, moment_in, own_runs, part, part_of}
 use Rattle.executor.specs.Sessions.{Input, Session, TakesWhile}
 use Rattle.executor.specs.Sights.{Sight, due_in}
 use Rattle.executor.specs.Isolated.{Alone, Isolated, IsolatedPoll, cut, isolated_after_all, isolated_of, running_in}
 use Rattle.executor.specs.declared.session.InputOf.TheVariants as input
-use Rattle.executor.proofs.Isolation.Batches.{AllRefused, AreToldOf, IsStep, failed_told, own_command, plain_first, row_alone, told_so}
+use Rattle.executor.proofs.Isolation.Batches.{AllRefused, AreToldOf, IsStep, failed_told, own_command, plain_first, batch_alone, told_so}
 use Rattle.executor.proofs.Isolation.Changes.{AreFresh, Stands, single-append, stands_all}
 use Rattle.executor.proofs.Isolation.Finishes.{finish_done, finish_isolated}
 use Rattle.executor.proofs.Isolation.Joins.{parts_join, stands_self}
 use Rattle.executor.proofs.Isolation.Lists.{each_first, each_last}
 use Rattle.executor.proofs.Isolation.Replies.{isolated_question}
 use Rattle.executor.proofs.Isolation.Requests.{commands, seen}
-use Rattle.executor.proofs.Isolation.Rows.{AreOwn, names_it}
+use Rattle.executor.proofs.Isolation.CommandBatches.{AreOwn, names_it}
 use Rattle.executor.proofs.Isolation.Runs.{is_mine, own_stays, runs_own}
 use Rattle.executor.proofs.Isolation.Turns.{AllBeginOwn, AreApart, BeginsOwn, fresh-append, ids_stay, turn_done, turn_isolated}
 use Rattle.executor.proofs.Isolation.Went.{Went, call_went, closed_plain, first_fresh, here, own_append}
@@ -117,23 +117,23 @@ module _ {D : Type 0} (look : D → View) (mine : ℕ → Bool) (id : List ℕ) 
   call_alone at y (Took (input.Turn now) r) old new d clock plain stands apart own begins does =
       one_alone true y (Took (input.Turn now) r) (own_entries d.entries) (events_of id d.events)
       (turn_alone old.is_open y now old new r d clock plain.0 stands apart own begins does)
-  call_alone at y (Row now cs rs) old new d clock plain stands apart own begins row =
-      let entries : own_entries d.entries ≡ [] = ap own_entries (same_entries row.does) in
-      subst (λ (l : List Entry). Alone id y (part_of id (Row now cs rs)) l (events_of id d.events)) (sym entries)
-      (by new.is_open refl row.takes.told (same_events row.does))
+  call_alone at y (Batch now cs rs) old new d clock plain stands apart own begins batch =
+      let entries : own_entries d.entries ≡ [] = ap own_entries (same_entries batch.does) in
+      subst (λ (l : List Entry). Alone id y (part_of id (Batch now cs rs)) l (events_of id d.events)) (sym entries)
+      (by new.is_open refl batch.takes.told (same_events batch.does))
     where
-      takes : AreToldOf rs row.takes.meant → Alone id y (part_of id (Row now cs rs)) [] (events_of id row.takes.events)
-          × (AllRefused rs → events_of id row.takes.events ≡ [])
-      takes told = row_alone now id y (seen old) cs rs row.takes.meant row.takes.events clock plain stands row.takes.answered told
+      takes : AreToldOf rs batch.takes.meant → Alone id y (part_of id (Batch now cs rs)) [] (events_of id batch.takes.events)
+          × (AllRefused rs → events_of id batch.takes.events ≡ [])
+      takes told = batch_alone now id y (seen old) cs rs batch.takes.meant batch.takes.events clock plain stands batch.takes.answered told
 
-      by : (b : Bool) → new.is_open ≡ b → rs ≡ row_replies b row.takes.meant → d.events ≡ (row_effects b row.takes.events).events
-          → Alone id y (part_of id (Row now cs rs)) [] (events_of id d.events)
-      by true is told events = subst (λ (l : List Event). Alone id y (part_of id (Row now cs rs)) [] (events_of id l)) (sym events)
-          (takes (subst (λ (l : List Reply). AreToldOf l row.takes.meant) (sym told) (told_so row.takes.meant))).0
+      by : (b : Bool) → new.is_open ≡ b → rs ≡ batch_replies b batch.takes.meant → d.events ≡ (batch_effects b batch.takes.events).events
+          → Alone id y (part_of id (Batch now cs rs)) [] (events_of id d.events)
+      by true is told events = subst (λ (l : List Event). Alone id y (part_of id (Batch now cs rs)) [] (events_of id l)) (sym events)
+          (takes (subst (λ (l : List Reply). AreToldOf l batch.takes.meant) (sym told) (told_so batch.takes.meant))).0
       by false is told events =
-          let bad = failed_told row.takes.meant in
-          let both = takes (subst (λ (l : List Reply). AreToldOf l row.takes.meant) (sym told) bad.0) in
-          subst (λ (l : List Event). Alone id y (part_of id (Row now cs rs)) [] l)
+          let bad = failed_told batch.takes.meant in
+          let both = takes (subst (λ (l : List Reply). AreToldOf l batch.takes.meant) (sym told) bad.0) in
+          subst (λ (l : List Event). Alone id y (part_of id (Batch now cs rs)) [] l)
           (both.1 (subst AllRefused (sym told) bad.1) ∙ sym (ap (events_of id) events)) both.0
   call_alone at y (Finished now end) old new d clock plain stands apart own begins does =
       one_alone true y (Finished now end) (own_entries d.entries) (events_of id d.events)
@@ -241,7 +241,7 @@ module _ {D : Type 0} (look : D → View) (x z : Sight D) where
 
 -- the law of a batch
 pub commands_alone : {D : Type 0} (now : ℕ) (x : Sight D) (commands : List Command) (replies : List Reply) (es : List Event) (id : List ℕ)
-    → Answered now x.state commands replies es → AllByRecursion IsAnswered (part_of id (Row now commands replies)) → x.state.clock ≤ cut now
-    → Alone id (isolated_of x id) (part_of id (Row now commands replies)) [] (events_of id es)
+    → Answered now x.state commands replies es → AllByRecursion IsAnswered (part_of id (Batch now commands replies)) → x.state.clock ≤ cut now
+    → Alone id (isolated_of x id) (part_of id (Batch now commands replies)) [] (events_of id es)
 commands_alone now x commands replies es id answered plain clock =
-    (row_alone now id (isolated_of x id) (seen x) commands replies replies es clock plain (here x id) answered (told_so replies)).0
+    (batch_alone now id (isolated_of x id) (seen x) commands replies replies es clock plain (here x id) answered (told_so replies)).0

@@ -7,7 +7,7 @@ use Rattle.ocf_types.specs.declared.command.RequestOf.TheVariants as asked
 use Rattle.ocf_types.specs.declared.reply.ReplyOf.TheVariants as reply
 use Rattle.ocf_types.specs.declared.reply.TidyEnd.TheVariants as tidy
 use Rattle.ocf_types.specs.declared.reply.TurnEnd.TheVariants.{Closed, Done}
-use Rattle.executor.specs.Lives.{Exchange, Finished, Row, Tidied, Took}
+use Rattle.executor.specs.Lives.{Exchange, Finished, Batch, Tidied, Took}
 use Rattle.executor.specs.Parts.{AreRising, IsAnswered, part}
 use Rattle.executor.specs.declared.session.InputOf.TheVariants as input
 use Rattle.executor.proofs.History.Examples.{r1}
@@ -17,7 +17,7 @@ r2 = codes "r2"
 
 -- a batch of commands that forget, at this moment
 abbrev both_forgotten : ℕ → Exchange
-both_forgotten now = Row now (command.Forget r1 ∷ command.Forget r2 ∷ []) (reply.Done ∷ reply.Done ∷ [])
+both_forgotten now = Batch now (command.Forget r1 ∷ command.Forget r2 ∷ []) (reply.Done ∷ reply.Done ∷ [])
 
 abbrev listed : Exchange
 listed = Took (input.Request 4 (asked.Question question.List)) (reply.List [])

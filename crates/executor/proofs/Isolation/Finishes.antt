@@ -20,7 +20,7 @@ use Rattle.executor.specs.Sights.{Sight, due_in}
 use Rattle.executor.specs.TurnCalls.{FinishesTurn}
 use Rattle.executor.proofs.Isolation.Changes.{Stands}
 use Rattle.executor.proofs.Isolation.Requests.{Does, moment_is, seen}
-use Rattle.executor.proofs.Isolation.Rows.{AreOwn, IsEnd, ends_fresh, results_end}
+use Rattle.executor.proofs.Isolation.CommandBatches.{AreOwn, IsEnd, ends_fresh, results_end}
 use Rattle.executor.proofs.Isolation.Turns.{AreApart, clock_behind, ends_at, own_polls}
 
 -- A turn that begins nothing ended done, at the moment that was handed in.
@@ -53,7 +53,7 @@ module _ {D : Type 0} (now : ℕ) (old new : Sight D) (effects : Effects) (finis
   -- the state after it is that after its events
   pub finish_does : old.state.clock ≤ cut now → Does (cut now) (seen old) (seen new) effects.events
   finish_does clock =
-      let row : List Event = results (cut now) finish.polled in
+      let batch : List Event = results (cut now) finish.polled in
       let ends = results_end (cut now) finish.polled in record {
         state = finish.state;
         due = finish.due;
@@ -61,7 +61,7 @@ module _ {D : Type 0} (now : ℕ) (old new : Sight D) (effects : Effects) (finis
             (subst (λ (l : List Event). AllByRecursion (IsEnd (cut now)) l) (sym finish.events) ends) old.state;
         clock = subst (λ (s : State). s.clock ≤ cut now) (sym finish.state)
             (subst (λ (l : List Event). (after_all old.state l).clock ≤ cut now) (sym finish.events)
-            (clock_behind old.state (cut now) (cut now) row (ends_at (cut now) row ends) (le_refl (cut now)) clock));
+            (clock_behind old.state (cut now) (cut now) batch (ends_at (cut now) batch ends) (le_refl (cut now)) clock));
       }
 
   -- the machine makes its part of it

@@ -8,7 +8,7 @@ use Rattle.ocf_types.specs.declared.event.Change.TheVariants as change
 use Rattle.ocf_types.specs.declared.event.Step.TheVariants as step
 use Rattle.child_model.specs.declared.answer.Entry.{Entry}
 use Rattle.executor.specs.Joins.{StandsAt}
-use Rattle.executor.specs.Lives.{Abandoned, Cleared, Exchange, Finished, Row, Tidied, Took}
+use Rattle.executor.specs.Lives.{Abandoned, Cleared, Exchange, Finished, Batch, Tidied, Took}
 use Rattle.executor.specs.Isolated.{Alone, Isolated, IsolatedBegin, IsolatedRest, IsolatedTakes, above_call, above_run, cut, has_monitor, isolated_after, isolated_after_all, isolated_answer, isolated_changed, isolated_sets}
 use Rattle.executor.specs.declared.session.InputOf.TheVariants as input
 use Rattle.executor.proofs.Isolation.Changes.{monitor_before, or_else_alike, single-append}
@@ -89,7 +89,7 @@ takes_there id x y (Took (input.Turn now) r) entries events s t = record {
       goes_there id (cut now) (isolated_after_all x t.results) (isolated_after_all y t.results) t.started t.begins (stands_on x y t.results s) t.goes_on;
 }
 takes_there id x y (Finished now end) entries events s (done, polls) = (done, rw s.resource polls)
-takes_there id x y (Row now commands replies) entries events s bad = absurd bad
+takes_there id x y (Batch now commands replies) entries events s bad = absurd bad
 takes_there id x y (Tidied end) entries events s bad = absurd bad
 takes_there id x y Cleared entries events s bad = absurd bad
 takes_there id x y Abandoned entries events s bad = absurd bad

@@ -21,7 +21,7 @@ use Rattle.exec_ledger.specs.Commands.{Obeys, Records}
 use Rattle.executor.specs.Parts.{IsPlain, commanded}
 use Rattle.exec_ledger.specs.Replies.{IsReplyTo, KeepsRunning, acknowledged, recorded}
 use Rattle.exec_ledger.specs.Together.{Adds}
-use Rattle.exec_ledger.specs.Pieces.{Effects, row_effects}
+use Rattle.exec_ledger.specs.Pieces.{Effects, batch_effects}
 use Rattle.executor.specs.Sessions.{TakesRequest, command_effects}
 use Rattle.executor.specs.CallLaws.{same_sight}
 use Rattle.executor.specs.Sights.{Sight, due_in, ledger_of}
@@ -139,31 +139,31 @@ commands {D} look now c old new reply effects clock takes =
     by_reply : (e : Event) → event_of old.state now c ≡ Ok e → Records look e (ledger_of old) (ledger_of new) reply
         → (reply ≡ acknowledged e.change) ⊎ IsRefused reply → Commands now c (seen old) (seen new) reply (command_effects (Ok e) reply)
     by_reply e is serves (inl told) =
-        let row : recorded e reply ≡ e ∷ [] = ap (recorded e) told ∙ told_done e e.change in
-        let after_one : new.state ≡ after old.state e = serves.crash.state ∙ ap (after_all old.state) row in record {
+        let batch : recorded e reply ≡ e ∷ [] = ap (recorded e) told ∙ told_done e e.change in
+        let after_one : new.state ≡ after old.state e = serves.crash.state ∙ ap (after_all old.state) batch in record {
           no_entries = refl;
-          names = subst (AllName (commanded c)) (sym row) (one_names old.state now c e is);
+          names = subst (AllName (commanded c)) (sym batch) (one_names old.state now c e is);
           does = record {
             state = serves.crash.state;
             due = serves.due;
-            next = subst (AreFresh old.state) (sym row) (one_fresh old.state now c e is);
+            next = subst (AreFresh old.state) (sym batch) (one_fresh old.state now c e is);
             clock = subst (λ (x : State). x.clock ≤ cut now) (sym after_one) (one_clock old.state now c e is clock);
           };
-          keep = subst AllKeep (sym row) (one_keeps old.state now c e is);
-          follows = λ plain. subst (λ (w : Result Event Refusal). Follows w reply (recorded e reply)) (sym is) (told, row);
+          keep = subst AllKeep (sym batch) (one_keeps old.state now c e is);
+          follows = λ plain. subst (λ (w : Result Event Refusal). Follows w reply (recorded e reply)) (sym is) (told, batch);
         }
     by_reply e is serves (inr (why, refused, shared)) =
-        let row : recorded e reply ≡ [] = ap (recorded e) refused in
-        let still : new.state ≡ old.state = serves.crash.state ∙ ap (after_all old.state) row in record {
+        let batch : recorded e reply ≡ [] = ap (recorded e) refused in
+        let still : new.state ≡ old.state = serves.crash.state ∙ ap (after_all old.state) batch in record {
           no_entries = refl;
-          names = subst (AllName (commanded c)) (sym row) tt;
+          names = subst (AllName (commanded c)) (sym batch) tt;
           does = record {
             state = serves.crash.state;
             due = serves.due;
-            next = subst (AreFresh old.state) (sym row) tt;
+            next = subst (AreFresh old.state) (sym batch) tt;
             clock = subst (λ (x : State). x.clock ≤ cut now) (sym still) clock;
           };
-          keep = subst AllKeep (sym row) tt;
+          keep = subst AllKeep (sym batch) tt;
           follows = λ plain. absurd (shared (subst IsPlain refused plain));
         }
 
@@ -180,11 +180,11 @@ commands {D} look now c old new reply effects clock takes =
 
 -- the same of a command of a batch
 pub added : (now : ℕ) (c : Command) (old : Seen) (reply : Reply) (first : List Event) → old.state.clock ≤ cut now
-    → Adds (event_of old.state now c) reply first → Commands now c old (seen_behind old first) reply (row_effects true first)
+    → Adds (event_of old.state now c) reply first → Commands now c old (seen_behind old first) reply (batch_effects true first)
 added now c old reply first clock adds = by (event_of old.state now c) refl adds
   where
     none_added : (found : Result Event Refusal) → event_of old.state now c ≡ found → first ≡ [] → (IsPlain reply → Follows found reply first)
-        → Commands now c old (seen_behind old first) reply (row_effects true first)
+        → Commands now c old (seen_behind old first) reply (batch_effects true first)
     none_added found is none follows = record {
       no_entries = refl;
       names = subst (AllName (commanded c)) (sym none) tt;
@@ -199,7 +199,7 @@ added now c old reply first clock adds = by (event_of old.state now c) refl adds
     }
 
     by : (found : Result Event Refusal) → event_of old.state now c ≡ found → Adds found reply first
-        → Commands now c old (seen_behind old first) reply (row_effects true first)
+        → Commands now c old (seen_behind old first) reply (batch_effects true first)
     by (Err why) is refused = none_added (Err why) is refused.1 (λ plain. refused)
     by (Ok e) is (inr memory) = none_added (Ok e) is memory.2 (λ plain. absurd (subst IsPlain memory.0 plain))
     by (Ok e) is (inl told) = record {

@@ -25,7 +25,7 @@ use Rattle.exec_turn.specs.AgentsLive.{AgentsLive}
 use Rattle.executor.specs.Parts.{DistinctKeys, own_runs, run_begun}
 use Rattle.executor.proofs.Isolation.Changes.{AreFresh, IsFresh}
 use Rattle.executor.proofs.Isolation.Lists.{each_first, each_into, each_last, each_map, each_out, each_unmap, filter-map, owned}
-use Rattle.executor.proofs.Isolation.Rows.{AreOwn}
+use Rattle.executor.proofs.Isolation.CommandBatches.{AreOwn}
 use Rattle.executor.proofs.Isolation.Turns.{AllBeginOwn, BeginsOwn}
 
 -- numbers that rise, the first not below this one

@@ -39,7 +39,7 @@ use Rattle.executor.proofs.Isolation.Lists.{each_first, each_last, each_map, eac
 use Rattle.executor.proofs.Isolation.Begins.{isolated_begins}
 use Rattle.executor.proofs.Isolation.Picks.{begins_fresh, chosen, own_of}
 use Rattle.executor.proofs.Isolation.Requests.{Does, moment_is, seen}
-use Rattle.executor.proofs.Isolation.Rows.{AreOwn, IsEnd, begins_kept, ends_fresh, names_it, own_active, polls_kept, refusals_end, refusals_kept, results_end, results_kept, isolated_poll, starts_kept}
+use Rattle.executor.proofs.Isolation.CommandBatches.{AreOwn, IsEnd, begins_kept, ends_fresh, names_it, own_active, polls_kept, refusals_end, refusals_kept, results_end, results_kept, isolated_poll, starts_kept}
 
 -- new events after new events
 pub fresh-append : (s : State) (es fs : List Event) → AreFresh s es → AreFresh (after_all s es) fs → AreFresh s (es ++ fs)
@@ -113,15 +113,15 @@ turn_done {D} look now old new given effects clock plain takes =
     let whole : Whole Done (scene old.state (due_in old) old.place (cut now) old.refuses) turns.effects new.told =
     subst (λ (at : ℕ). Whole Done (scene old.state (due_in old) old.place at old.refuses) turns.effects new.told)
     (moment_is old.state now clock) raw in
-    let row : effects.events ≡ turns.effects.events = same_events takes.does in record {
+    let batch : effects.events ≡ turns.effects.events = same_events takes.does in record {
       done = takes.replies ∙ ap (λ (e : TurnEnd). reply.Turn e) is_done;
       t = whole.0;
       entries = ap (λ (x : Effects). x.entries) takes.does ∙ same_entries whole.1;
       events =
-          row ∙ same_events whole.1 ∙ append_assoc (results (cut now) whole.0.polled) (begins (cut now) whole.0.begun)
+          batch ∙ same_events whole.1 ∙ append_assoc (results (cut now) whole.0.polled) (begins (cut now) whole.0.begun)
           (refusals (cut now) whole.0.started);
-      state = turns.crash.state ∙ ap (after_all old.state) (sym row);
-      due = turns.due_is ∙ ap (due_after_all old.state (due_in old)) (sym row);
+      state = turns.crash.state ∙ ap (after_all old.state) (sym batch);
+      due = turns.due_is ∙ ap (due_after_all old.state (due_in old)) (sym batch);
     }
 
 module _ {D : Type 0} (now : ℕ) (old new : Sight D) (given : Reply) (effects : Effects) (turn : TurnDone now old new given effects) where
@@ -187,31 +187,31 @@ module _ {D : Type 0} (now : ℕ) (old new : Sight D) (given : Reply) (effects :
     turn_isolated stands apart runs own =
         let test : Entry → Bool = λ e. mine e.run in
         let polled : List Entry = polls at turn.t.polled in
-        let row : List Event = results at turn.t.polled in
+        let batch : List Event = results at turn.t.polled in
         let later : List Event = begins at turn.t.begun ++ refusals at turn.t.started in
-        let all_own : AllBeginOwn mine id (row ++ later) = subst (AllBeginOwn mine id) turn.events own in
+        let all_own : AllBeginOwn mine id (batch ++ later) = subst (AllBeginOwn mine id) turn.events own in
         let begins_own : AllBeginOwn mine id (begins at turn.t.begun) = each_first (λ e. BeginsOwn mine id e.change)
-        (begins at turn.t.begun) (refusals at turn.t.started) (each_last (λ e. BeginsOwn mine id e.change) row later all_own) in
+        (begins at turn.t.begun) (refusals at turn.t.started) (each_last (λ e. BeginsOwn mine id e.change) batch later all_own) in
         let begun_own : AreOwn mine id turn.t.begun = each_unmap (λ e. BeginsOwn mine id e.change) (begin_of at) turn.t.begun begins_own in
         let started_own : AreOwn mine id (map (λ x. x.what) turn.t.started) = subst (AreOwn mine id) (sym turn.t.each_started) begun_own in
         let what : map (λ x. x.what) own_started ≡ own_begun = sym (filter-map (λ a. bytes_eq id a.id) (λ x. x.what) turn.t.started)
         ∙ ap (own_of id) turn.t.each_started in
-        let there : Stands (isolated_after_all y (events_of id row)) mid moments id =
-        stands_all y old.state (due_in old) id row stands results_new in record {
+        let there : Stands (isolated_after_all y (events_of id batch)) mid moments id =
+        stands_all y old.state (due_in old) id batch stands results_new in record {
           done = turn.done;
           polled = filter test polled;
           started = starts turn.t.clock own_started;
-          results = events_of id row;
+          results = events_of id batch;
           begins = begins at own_begun ++ refusals at own_started;
           all_entries = ap (filter test) turn.entries ∙ filter-append test polled (starts turn.t.clock turn.t.started)
               ∙ ap (λ (l : List Entry). filter test polled ++ l) (starts_kept mine id turn.t.clock turn.t.started started_own);
           all_events =
-              ap (events_of id) turn.events ∙ filter-append (names_it id) row later
-              ∙ ap (λ (l : List Event). events_of id row ++ l) (filter-append (names_it id) (begins at turn.t.begun) (refusals at turn.t.started)
+              ap (events_of id) turn.events ∙ filter-append (names_it id) batch later
+              ∙ ap (λ (l : List Event). events_of id batch ++ l) (filter-append (names_it id) (begins at turn.t.begun) (refusals at turn.t.started)
               ∙ ap₂ (λ (a b : List Event). a ++ b) (begins_kept id at turn.t.begun) (refusals_kept id at turn.t.started));
           polls = own_polls mine id at y old.state turn.t.polled turn.t.each_polled.each turn.t.each_polled.bytes apart runs stands.resource;
           goes_on =
-              isolated_begins (isolated_after_all y (events_of id row)) id at turn.t.clock mid.next_run moments
+              isolated_begins (isolated_after_all y (events_of id batch)) id at turn.t.clock mid.next_run moments
               (resource_at mid id) own_begun own_started there.resource there.due there.runs
-              (chosen moments at mid.next_run mid.resources turn.t.begun id (ids_stay old.state row results_new apart) picks) what;
+              (chosen moments at mid.next_run mid.resources turn.t.begun id (ids_stay old.state batch results_new apart) picks) what;
         }

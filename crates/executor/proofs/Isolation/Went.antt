@@ -12,19 +12,19 @@ use Rattle.disk_model.specs.View.{View}
 use Rattle.exec_state.specs.Store.{due_of}
 use Rattle.exec_ledger.specs.Held.{Held}
 use Rattle.exec_ledger.specs.Laws.{same_events}
-use Rattle.exec_ledger.specs.Pieces.{Effects, no_effects, row_effects}
-use Rattle.exec_ledger.specs.Together.{row_replies}
+use Rattle.exec_ledger.specs.Pieces.{Effects, no_effects, batch_effects}
+use Rattle.exec_ledger.specs.Together.{batch_replies}
 use Rattle.executor.specs.FinishCalls.{FinishedWhile}
-use Rattle.executor.specs.Lives.{Abandoned, Cleared, Exchange, Finished, Row, Tidied, Took}
+use Rattle.executor.specs.Lives.{Abandoned, Cleared, Exchange, Finished, Batch, Tidied, Took}
 use Rattle.executor.specs.Lives.{Does as Called}
 use Rattle.executor.specs.Parts.{IsAnswered, IsPlain, events_of, moment_in, part_of}
-use Rattle.executor.specs.RowCalls.{TakesRow}
+use Rattle.executor.specs.BatchCalls.{TakesBatch}
 use Rattle.executor.specs.Sessions.{Input, TakesWhile, closed_reply}
 use Rattle.executor.specs.Sights.{Sight, due_in}
 use Rattle.executor.specs.TidyCalls.{TidiesWhile}
 use Rattle.executor.specs.Isolated.{cut, isolated_of}
 use Rattle.executor.specs.declared.session.InputOf.TheVariants as input
-use Rattle.executor.proofs.Isolation.Batches.{AllRefused, AreToldOf, failed_told, keep_own, row_alone, row_does}
+use Rattle.executor.proofs.Isolation.Batches.{AllRefused, AreToldOf, failed_told, keep_own, batch_alone, batch_does}
 use Rattle.executor.proofs.Isolation.Changes.{AreFresh, Stands}
 use Rattle.executor.proofs.Isolation.Finishes.{finish_does, finish_done}
 use Rattle.executor.proofs.Isolation.Requests.{AllKeep, Does, Seen, commands, rested, seen, seen_behind}
@@ -104,36 +104,36 @@ module _ {D : Type 0} (look : D → View) (mine : ℕ → Bool) (id : List ℕ) 
   tidy_went false at end old new d clock none rests = went_nowhere at old new d clock (ap seen rests.1) none
 
   -- a batch of commands
-  row_went : (now : ℕ) (cs : List Command) (rs : List Reply) (old new : Sight D) (d : Effects) → old.state.clock ≤ cut now
-      → AllByRecursion IsAnswered (part_of id (Row now cs rs)) → TakesRow look now cs old new rs d → Went mine id (cut now) old new d.events
-  row_went now cs rs old new d clock plain row = by new.is_open refl row.takes.told (same_events row.does)
+  batch_went : (now : ℕ) (cs : List Command) (rs : List Reply) (old new : Sight D) (d : Effects) → old.state.clock ≤ cut now
+      → AllByRecursion IsAnswered (part_of id (Batch now cs rs)) → TakesBatch look now cs old new rs d → Went mine id (cut now) old new d.events
+  batch_went now cs rs old new d clock plain batch = by new.is_open refl batch.takes.told (same_events batch.does)
     where
       es : List Event
-      es = row.takes.events
+      es = batch.takes.events
 
       did : Does (cut now) (seen old) (seen_behind (seen old) es) es × AllKeep es
-      did = row_does now id (seen old) cs row.takes.meant es clock row.takes.answered
+      did = batch_does now id (seen old) cs batch.takes.meant es clock batch.takes.answered
 
       state : new.state ≡ after_all old.state es
-      state = ap (λ (x : Held D). x.state) row.takes.records.went.same
+      state = ap (λ (x : Held D). x.state) batch.takes.records.went.same
 
       done : Does (cut now) (seen old) (seen new) es
       done = record {
         state = state;
-        due = row.takes.records.went.due;
+        due = batch.takes.records.went.due;
         next = did.0.next;
         clock = subst (λ (s : State). s.clock ≤ cut now) (sym state) did.0.clock;
       }
 
-      by : (b : Bool) → new.is_open ≡ b → rs ≡ row_replies b row.takes.meant → d.events ≡ (row_effects b es).events
+      by : (b : Bool) → new.is_open ≡ b → rs ≡ batch_replies b batch.takes.meant → d.events ≡ (batch_effects b es).events
           → Went mine id (cut now) old new d.events
       by true is told events = subst (λ (l : List Event). Went mine id (cut now) old new l) (sym events) (went_so (cut now) old new es done)
       by false is told events =
-          let bad = failed_told row.takes.meant in record {
+          let bad = failed_told batch.takes.meant in record {
             more = es;
             does = subst (λ (l : List Event). Does (cut now) (seen old) (seen new) (l ++ es)) (sym events) done;
-            others = (row_alone now id (isolated_of old id) (seen old) cs rs row.takes.meant es clock plain (here old id) row.takes.answered
-                (subst (λ (l : List Reply). AreToldOf l row.takes.meant) (sym told) bad.0)).1 (subst AllRefused (sym told) bad.1);
+            others = (batch_alone now id (isolated_of old id) (seen old) cs rs batch.takes.meant es clock plain (here old id) batch.takes.answered
+                (subst (λ (l : List Reply). AreToldOf l batch.takes.meant) (sym told) bad.0)).1 (subst AllRefused (sym told) bad.1);
             begins = keep_own mine id es did.1;
             whole = λ open_now. absurd (true≢false (sym open_now ∙ is));
           }
@@ -143,7 +143,7 @@ module _ {D : Type 0} (look : D → View) (mine : ℕ → Bool) (id : List ℕ) 
       → AllByRecursion IsAnswered (part_of id e) → Called look e old new d → Went mine id (moment_in at e) old new d.events
   call_went at (Took (input.Request now request) r) old new d clock plain does = request_went old.is_open now r old new d request clock does
   call_went at (Took (input.Turn now) r) old new d clock plain does = turn_went old.is_open now r old new d clock plain.0 does
-  call_went at (Row now cs rs) old new d clock plain does = row_went now cs rs old new d clock plain does
+  call_went at (Batch now cs rs) old new d clock plain does = batch_went now cs rs old new d clock plain does
   call_went at (Finished now end) old new d clock plain does = finish_went old.is_open now end old new d clock plain.0 does
   call_went at (Tidied end) old new d clock plain does = tidy_went old.is_open at end old new d clock does.1 does.0
   call_went at Cleared old new d clock plain does = went_nowhere at old new d clock (ap seen does.0) does.1

@@ -6,12 +6,12 @@ use Rattle.ocf_types.specs.State.{after_all}
 use Rattle.ocf_types.specs.declared.reply.TurnEnd.{TurnEnd}
 use Rattle.disk_model.specs.View.{Lawful, View}
 use Rattle.exec_ledger.specs.Laws.{of_closed, of_open}
-use Rattle.exec_ledger.specs.Pieces.{Effects, Leaves, followed_by, no_effects, row_effects}
+use Rattle.exec_ledger.specs.Pieces.{Effects, Leaves, followed_by, no_effects, batch_effects}
 use Rattle.executor.specs.CallLaws.{followed_by_assoc, followed_by_none}
-use Rattle.executor.specs.Lives.{Abandoned, Calls, Cleared, Does, Exchange, Finished, Row, Took, Tidied}
+use Rattle.executor.specs.Lives.{Abandoned, Calls, Cleared, Does, Exchange, Finished, Batch, Took, Tidied}
 use Rattle.executor.specs.FinishCalls.{FinishedWhile}
 use Rattle.executor.specs.Machine.{AnswersClosed}
-use Rattle.executor.specs.RowCalls.{TakesRow}
+use Rattle.executor.specs.BatchCalls.{TakesBatch}
 use Rattle.executor.specs.Sights.{Sight}
 use Rattle.exec_ledger.specs.Held.{Held}
 use Rattle.executor.proofs.Sessions.Growing.{Onward, leads_open, leads_still, leads_turn, onward, onward_at, onward_joined}
@@ -34,7 +34,7 @@ module _ {D : Type 0} (look : D → View) where
       → AnswersClosed e × Closed x y d
   does_nothing (Took i reply) x y d closed does =
       let none = of_closed _ _ closed does in (none.0, stays_closed x y d closed none.1 none.2)
-  does_nothing (Row now commands replies) x y d closed does = absurd (false≢true (sym closed ∙ does.takes.was_open))
+  does_nothing (Batch now commands replies) x y d closed does = absurd (false≢true (sym closed ∙ does.takes.was_open))
   does_nothing (Finished now end) x y d closed does =
       let none = of_closed _ _ closed does in (none.0, stays_closed x y d closed none.1 none.2)
   does_nothing (Tidied end) x y d closed does =
@@ -60,22 +60,22 @@ module _ {D : Type 0} (look : D → View) where
       }
 
   -- a batch has the crash condition of any call
-  row_going : (o : Bool) (x y : Sight D) (es : List Event) → y.is_open ≡ o
-      → Leaves look x.disk y.disk x.state (after_all x.state (row_effects o es).events) (row_effects o es)
-      → y.state ≡ after_all x.state es → Onward look x y (row_effects o es)
-  row_going true x y es is_open leaves state = record { crash = leaves; state = λ _. state; whole = λ _. refl }
-  row_going false x y es closed leaves state = record {
+  batch_going : (o : Bool) (x y : Sight D) (es : List Event) → y.is_open ≡ o
+      → Leaves look x.disk y.disk x.state (after_all x.state (batch_effects o es).events) (batch_effects o es)
+      → y.state ≡ after_all x.state es → Onward look x y (batch_effects o es)
+  batch_going true x y es is_open leaves state = record { crash = leaves; state = λ _. state; whole = λ _. refl }
+  batch_going false x y es closed leaves state = record {
     crash = leaves;
     state = λ is_open. absurd (false≢true (sym closed ∙ is_open));
     whole = λ is_open. absurd (false≢true (sym closed ∙ is_open));
   }
 
-  row_onward : (x y : Sight D) (now : ℕ) (commands : List Command) (replies : List Reply) (d : Effects)
-      → TakesRow look now commands x y replies d → Onward look x y d
-  row_onward x y now commands replies d takes =
-      let row = takes.takes.records in
+  batch_onward : (x y : Sight D) (now : ℕ) (commands : List Command) (replies : List Reply) (d : Effects)
+      → TakesBatch look now commands x y replies d → Onward look x y d
+  batch_onward x y now commands replies d takes =
+      let batch = takes.takes.records in
       subst (λ (e : Effects). Onward look x y e) (sym takes.does)
-      (row_going y.is_open x y takes.takes.events refl row.crash (ap (λ (h : Held D). h.state) row.went.same))
+      (batch_going y.is_open x y takes.takes.events refl batch.crash (ap (λ (h : Held D). h.state) batch.went.same))
 
   -- so has a turn that begins nothing
   finish_onward : (x y : Sight D) (now : ℕ) (end : TurnEnd) (d : Effects) → FinishedWhile true look now x y end d → Onward look x y d
@@ -90,8 +90,8 @@ module _ {D : Type 0} (look : D → View) where
         onward_joined look w x y a d is_open so_far
         (onward look x y d (leads_open look i x y reply d (leads_still look w x a (lawful x.disk) is_open so_far)
         (of_open _ _ is_open does)))
-    taken_more true w x y (Row now commands replies) a d is_open does so_far =
-        onward_joined look w x y a d is_open so_far (row_onward x y now commands replies d does)
+    taken_more true w x y (Batch now commands replies) a d is_open does so_far =
+        onward_joined look w x y a d is_open so_far (batch_onward x y now commands replies d does)
     taken_more true w x y (Finished now end) a d is_open does so_far =
         let finishes = of_open _ _ is_open does in
         onward_joined look w x y a d is_open so_far (finish_onward x y now end d finishes)

@@ -48,8 +48,8 @@ module _ (laws : LawfulLaws) where
       by (Current part head) whole =
           let prefix = whole.is_prefix in
           subst IsLawfulState (sym prefix.folds)
-          (in_second whole.layout (after_all_in whole.layout prefix.first (flat_map (λ es. es) prefix.rows))
-          (all_stay whole.layout prefix.first (flat_map (λ es. es) prefix.rows) prefix.lawful prefix.apply))
+          (in_second whole.layout (after_all_in whole.layout prefix.first (flat_map (λ es. es) prefix.batches))
+          (all_stay whole.layout prefix.first (flat_map (λ es. es) prefix.batches) prefix.lawful prefix.apply))
 
   module _ {D : Type 0} (look : D → View) (law : WhatStands) (lawful : (d : D) → (look d).honest → Lawful (look d)) (start : State) where
     -- so is the first state of a history that may leave something

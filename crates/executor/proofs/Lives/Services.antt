@@ -8,7 +8,7 @@ use Rattle.disk_model.specs.Image.{Image}
 use Rattle.disk_model.specs.View.{Lawful, View}
 use Rattle.exec_journal.specs.Found.{FoundAs}
 use Rattle.exec_journal.specs.Room.{Roomy}
-use Rattle.exec_journal.specs.Rows.{EitherSide}
+use Rattle.exec_journal.specs.Batches.{EitherSide}
 use Rattle.executor.specs.Lives.{Serves, Service, Stands}
 use Rattle.exec_ledger.specs.Pieces.{Effects, followed_by, no_effects}
 use Rattle.exec_ledger.specs.Laws.{WhatStands}

@@ -18,14 +18,14 @@ use Rattle.disk_model.specs.View.{View}
 use Rattle.child_model.specs.declared.answer.Entry.{Entry}
 use Rattle.exec_turn.specs.Turn.{IsFinish, IsTurn, TurnKind}
 use Rattle.exec_ledger.specs.Commands.{Obeys, Records}
-use Rattle.executor.specs.Lives.{Abandoned, Calls, Cleared, Does, Exchange, Finished, Row, Tidied, Took}
+use Rattle.executor.specs.Lives.{Abandoned, Calls, Cleared, Does, Exchange, Finished, Batch, Tidied, Took}
 use Rattle.executor.specs.Machine.{GoesOn, Label, Machine, MovesAll, MovesOpen, MovesTurn, MovesWhile, TakesAll, TakesOne, TidyEnds}
 use Rattle.exec_ledger.specs.Replies.{acknowledged, pending, recorded}
-use Rattle.exec_ledger.specs.Together.{Adds, Answered, failed, row_replies}
+use Rattle.exec_ledger.specs.Together.{Adds, Answered, failed, batch_replies}
 use Rattle.executor.specs.FinishCalls.{FinishedWhile}
-use Rattle.executor.specs.RowCalls.{TakesRow}
+use Rattle.executor.specs.BatchCalls.{TakesBatch}
 use Rattle.exec_ledger.specs.Laws.{of_open, same_entries}
-use Rattle.exec_ledger.specs.Pieces.{Effects, no_effects, row_effects}
+use Rattle.exec_ledger.specs.Pieces.{Effects, no_effects, batch_effects}
 use Rattle.exec_ledger.specs.Scenes.{due_after_all}
 use Rattle.executor.specs.SeenLives.{label_in, labels}
 use Rattle.executor.specs.Sessions.{TakesATurn, TakesRequest, command_effects}
@@ -99,7 +99,7 @@ module _ {D : Type 0} (look : D → View) where
       by : (reply ≡ acknowledged e.change) ⊎ ((reply ≡ Refused JournalFull) ⊎ ((reply ≡ Refused Memory) ⊎ (reply ≡ Refused Disk)))
           → TakesOne (step_of x y) now c reply (machine_of x) (machine_of y) (command_effects (Ok e) reply)
       by (inl told) =
-          let row : recorded e reply ≡ e ∷ [] = ap (recorded e) told ∙ so.0 in
+          let batch : recorded e reply ≡ e ∷ [] = ap (recorded e) told ∙ so.0 in
           let open_still : y.is_open ≡ true = is_true y.is_open (λ bad. not_refused e.change Disk (sym told ∙ closes bad)) in
           inl (
             reply ∷ [],
@@ -108,9 +108,9 @@ module _ {D : Type 0} (look : D → View) where
             inl (
               refl,
               (
-                same_machine (machine_of y) _ (open_still ∙ sym was) (r.crash.state ∙ ap (after_all x.state) row)
-                    (r.due ∙ ap (due_after_all x.state (due_in x)) row) r.allocator,
-                same_effects e reply (e ∷ []) [] row (ap (pending e) told ∙ so.1),
+                same_machine (machine_of y) _ (open_still ∙ sym was) (r.crash.state ∙ ap (after_all x.state) batch)
+                    (r.due ∙ ap (due_after_all x.state (due_in x)) batch) r.allocator,
+                same_effects e reply (e ∷ []) [] batch (ap (pending e) told ∙ so.1),
               ),
             ),
           )
@@ -151,9 +151,9 @@ module _ {D : Type 0} (look : D → View) where
       by (Ok e) is serves = records now c x y reply e is serves takes.serves.1 was takes.closes.0 takes.closes.1
 
   -- a batch of commands
-  row_so : (o : Bool) (now : ℕ) (cs : List Command) (rs : List Reply) (x y : Sight D) (d : Effects) (t : TakesRow look now cs x y rs d)
-      → y.is_open ≡ o → TakesAll (step_of x y) now cs (row_replies o t.takes.meant) (machine_of x) (machine_of y) (row_effects o t.takes.events)
-  row_so true now cs rs x y d t is = (
+  batch_so : (o : Bool) (now : ℕ) (cs : List Command) (rs : List Reply) (x y : Sight D) (d : Effects) (t : TakesBatch look now cs x y rs d)
+      → y.is_open ≡ o → TakesAll (step_of x y) now cs (batch_replies o t.takes.meant) (machine_of x) (machine_of y) (batch_effects o t.takes.events)
+  batch_so true now cs rs x y d t is = (
     t.takes.meant,
     t.takes.events,
     t.takes.answered,
@@ -166,7 +166,7 @@ module _ {D : Type 0} (look : D → View) where
       ),
     ),
   )
-  row_so false now cs rs x y d t is = (
+  batch_so false now cs rs x y d t is = (
     t.takes.meant,
     t.takes.events,
     t.takes.answered,
@@ -177,12 +177,12 @@ module _ {D : Type 0} (look : D → View) where
     ),
   )
 
-  one_row : (now : ℕ) (cs : List Command) (rs : List Reply) (x y : Sight D) (d : Effects) → TakesRow look now cs x y rs d
+  one_batch : (now : ℕ) (cs : List Command) (rs : List Reply) (x y : Sight D) (d : Effects) → TakesBatch look now cs x y rs d
       → TakesAll (step_of x y) now cs rs (machine_of x) (machine_of y) d
-  one_row now cs rs x y d t =
+  one_batch now cs rs x y d t =
       subst (λ (l : List Reply). TakesAll (step_of x y) now cs l (machine_of x) (machine_of y) d) (sym t.takes.told)
-      (subst (λ (k : Effects). TakesAll (step_of x y) now cs (row_replies y.is_open t.takes.meant) (machine_of x) (machine_of y) k) (sym t.does)
-      (row_so y.is_open now cs rs x y d t refl))
+      (subst (λ (k : Effects). TakesAll (step_of x y) now cs (batch_replies y.is_open t.takes.meant) (machine_of x) (machine_of y) k) (sym t.does)
+      (batch_so y.is_open now cs rs x y d t refl))
 
   -- a turn of a kind, by its label
   turn_so : (kind : TurnKind) (each now : ℕ) (x y : Sight D) (end : TurnEnd) (e : Exchange) (t : MakesTurn kind each look now x y end)
@@ -243,7 +243,7 @@ module _ {D : Type 0} (look : D → View) where
       ((same_entries t.does ∙ quiet_command (event_of x.state now c) reply, refl), one_command now c x y reply d t was)
   moves_open (Took (input.Turn now) reply) x y d was does =
       one_turn now x y reply d (of_open _ _ was does)
-  moves_open (Row now cs rs) x y d was does = ((same_entries does.does, refl), one_row now cs rs x y d does)
+  moves_open (Batch now cs rs) x y d was does = ((same_entries does.does, refl), one_batch now cs rs x y d does)
   moves_open (Finished now end) x y d was does =
       one_finish now x y end d (of_open _ _ was does)
   moves_open (Tidied end) x y d was does =

@@ -28,7 +28,7 @@ use Rattle.exec_turn.specs.Polls.{Polled, ends_of, result_notices, results}
 use Rattle.exec_turn.specs.Starts.{refusal_notices, refusals, refused_end}
 use Rattle.exec_ledger.specs.Laws.{same_events}
 use Rattle.exec_turn.specs.Turn.{IsFinish, IsTurn, Whole}
-use Rattle.executor.specs.Lives.{Exchange, Finished, Row, Took, boots}
+use Rattle.executor.specs.Lives.{Exchange, Finished, Batch, Took, boots}
 use Rattle.executor.specs.Machine.{AnswersClosed, Label, Machine, MovesAll, MovesOpen, MovesWhile, TakesAll, TakesOne}
 use Rattle.executor.specs.Promise.{Acknowledged, AllBegun, AllRecorded, Claim, Ended, IsKept, acknowledged_in, acknowledgements, claimed, claims_of}
 use Rattle.executor.specs.Runs.{HasBegins, Opening, Remains, Runs, Seen, SeenService, Serving, opened_on}
@@ -186,7 +186,7 @@ open_recorded (Took (input.Request now (asked.Command c)) r) l m n did h =
     unnoticed m.state (acknowledgements now (c ∷ []) (r ∷ [])) l.notices did.events h.0.1 (one_taken l now c r m n did h.1)
 open_recorded (Took (input.Turn now) r) l m n did (end, replies, t) =
     turn_recorded end (scene m.state m.due l.place (moment m.state now) m.refuses) did l.notices t.turns
-open_recorded (Row now cs rs) l m n did h =
+open_recorded (Batch now cs rs) l m n did h =
     unnoticed m.state (acknowledgements now cs rs) l.notices did.events h.0.1 (takes_recorded l now cs rs m n did h.1)
 open_recorded (Finished now end) l m n did t =
     finish_recorded end (scene m.state m.due l.place (moment m.state now) m.refuses) did l.notices t.turns
@@ -196,7 +196,7 @@ closed_claims : (e : Exchange) (ns : List Notice) → AnswersClosed e → ns ≡
 closed_claims (Took (input.Request now (asked.Question q)) r) ns h none = ap (map Ended) none
 closed_claims (Took (input.Request now (asked.Command c)) r) ns h none =
     ap (λ (t : Reply). acknowledgements now (c ∷ []) (t ∷ []) ++ map Ended ns) h ∙ ap (map Ended) none
-closed_claims (Row now cs rs) ns h none = absurd h
+closed_claims (Batch now cs rs) ns h none = absurd h
 closed_claims _ ns h none = ap (map Ended) none
 
 step_recorded : (o : Bool) (l : Label) (m n : Machine) (did : Effects) → MovesWhile o l m n did → AllRecorded m.state (claims_of l) did.events

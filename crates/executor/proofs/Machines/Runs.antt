@@ -29,10 +29,10 @@ use Rattle.exec_turn.specs.Picks.{ArePicks, begins}
 use Rattle.exec_turn.specs.Polls.{Polled, ending, ends_of, results}
 use Rattle.exec_turn.specs.Starts.{Started, refusals, refused_end}
 use Rattle.exec_ledger.specs.Laws.{same_events, same_pending}
-use Rattle.exec_ledger.specs.Pieces.{Effects, followed_by, no_effects, row_effects}
+use Rattle.exec_ledger.specs.Pieces.{Effects, followed_by, no_effects, batch_effects}
 use Rattle.exec_turn.specs.Turn.{EachPolled, IsFinish, IsTurn, PickedAt, Told, TurnKind, Whole}
 use Rattle.executor.specs.Histories.{Follow, IsInOrder}
-use Rattle.executor.specs.Lives.{Abandoned, Cleared, Exchange, Finished, Row, Tidied, Took, boots}
+use Rattle.executor.specs.Lives.{Abandoned, Cleared, Exchange, Finished, Batch, Tidied, Took, boots}
 use Rattle.executor.specs.Machine.{GoesOn, Label, Machine, MovesAll, MovesOpen, MovesTurn, MovesWhile, TakesAll, TidyEnds}
 use Rattle.executor.specs.Runs.{Opening, Runs, Seen, Serving, Sits, opened_on}
 use Rattle.exec_ledger.specs.Boots.{booted}
@@ -202,7 +202,7 @@ pub record Went (m n : Machine) (did : Effects) : Type 0 where
   pub closed : m.is_open ≡ false → (did ≡ no_effects) × (n.is_open ≡ false)
 
 went_on : (m n : Machine) (es : List Event) (did : Effects) → m.is_open ≡ true → n.state ≡ after_all m.state es
-    → did ≡ row_effects true es → (Fine m.state → Follow m.state es) → Went m n did
+    → did ≡ batch_effects true es → (Fine m.state → Follow m.state es) → Went m n did
 went_on m n es did opened state is follow = subst (Went m n) (sym is) (record {
   follow = λ o fine. subst (Follow m.state) (sym (append-nil es)) (follow fine);
   onward = λ o. (opened, state, refl);
@@ -254,7 +254,7 @@ moves_open (Took (input.Request now (asked.Command c)) reply) l m n did opened (
 moves_open (Took (input.Turn now) reply) l m n did opened (end, replies, t) =
     turn_went IsTurn 3 end (moment m.state now) l m n did opened t
     (turn_follows end (scene m.state m.due l.place (moment m.state now) m.refuses) did l.notices t.turns)
-moves_open (Row now cs rs) l m n did opened takes = takes_all l m n now cs rs did opened takes.1
+moves_open (Batch now cs rs) l m n did opened takes = takes_all l m n now cs rs did opened takes.1
 moves_open (Finished now end) l m n did opened t =
     turn_went IsFinish 2 end (moment m.state now) l m n did opened t
     (finish_follows end (scene m.state m.due l.place (moment m.state now) m.refuses) did l.notices t.turns)

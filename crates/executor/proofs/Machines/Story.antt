@@ -12,7 +12,7 @@ use Rattle.ocf_types.specs.declared.reply.TurnEnd.TheVariants as turn_end
 use Rattle.child_model.specs.Children.{start_answer}
 use Rattle.child_model.specs.declared.answer.Entry.{Entry}
 use Rattle.exec_journal.specs.Place.{Place}
-use Rattle.exec_journal.specs.Rows.{IsTooLong}
+use Rattle.exec_journal.specs.Batches.{IsTooLong}
 use Rattle.exec_ledger.specs.Actives.{Active}
 use Rattle.exec_ledger.specs.Laws.{asked_one}
 use Rattle.exec_ledger.specs.Pieces.{Effects, HasBegin, no_effects}

@@ -3,12 +3,12 @@ use Rattle.std.specs.List.{AllByRecursion}
 use Rattle.ocf_types.specs.Kinds.{Event}
 use Rattle.ocf_types.specs.Limits.{num_max}
 use Rattle.ocf_types.specs.Places.{id_at}
-use Rattle.exec_journal.specs.PartPrefix.{encoded_row}
+use Rattle.exec_journal.specs.PartPrefix.{encoded_batch}
 use Rattle.exec_state.specs.Store.{dues}
 use Rattle.exec_ledger.specs.Actives.{Active}
 use Rattle.exec_turn.specs.Launches.{IsStart, all_starting}
 use Rattle.exec_turn.specs.Picks.{begins}
-use Rattle.exec_turn.proofs.PickSteps.{SoFar, above, begun_here, each_push, full_here, no_memory_here, nothing_here, one_longer, row_more, encoded_more, spent_here, starting_more}
+use Rattle.exec_turn.proofs.PickSteps.{SoFar, above, begun_here, each_push, full_here, no_memory_here, nothing_here, one_longer, batch_more, encoded_more, spent_here, starting_more}
 use Rattle.exec_turn.proofs.Resting.{rests_picked}
 use Rattle.exec_turn.proofs.picks.pick_all.Goals as goal
 
@@ -25,12 +25,12 @@ loop-place-preserved-in_default g c =
     let within : c.loop-place.place < length s.resources = omega (arith, c.loop-place-test.true, c.len-place-end.ensures.value) in
     record {
       so_far = nothing_here inv.so_far within c.in_default.ensures;
-      row = inv.row;
+      batch = inv.batch;
       are_starts = inv.are_starts;
       len = inv.len;
       short = omega (arith, inv.short);
       few = omega (arith, inv.few);
-      row_room = inv.row_room;
+      batch_room = inv.batch_room;
       start_room = inv.start_room;
     }
 
@@ -50,7 +50,7 @@ returns-then-not-fits-clause-picked g c =
     let within : c.loop-place.place < length s.resources = omega (arith, c.loop-place-test.true, c.len-place-end.ensures.value) in
     let drawn : c.loop-place.run + 1 ≤ num_max = omega (arith, (c.in-Some-new.ensures.lawful.0 refl).1, c.get.ensures.value) in
     let size = encoded_more c.args.at c.loop-place.len c.encoded_len-len.result (all_starting c.loop-place.starts.items)
-    (record { id = id_at s c.loop-place.place; running = c.in-Some.running }) c.loop-place.row.items c.begin_at-begin.result inv.row
+    (record { id = id_at s c.loop-place.place; running = c.in-Some.running }) c.loop-place.batch.items c.begin_at-begin.result inv.batch
     c.begin_at-begin.ensures.begin inv.len c.encoded_len-len.ensures in
     let all = c.args.journal.now.tail.at + 5 + (c.loop-place.len + c.encoded_len-len.result) + 1 + 32768 in
     let over : 8388608 < all = above all 8388608 (λ le. let no : false ≡ true = c.if-not-fits.ensures.value.1 le in cc) in
@@ -63,7 +63,7 @@ returns-in_default-start_of-clause-picked g c =
     let within : c.loop-place.place < length s.resources = omega (arith, c.loop-place-test.true, c.len-place-end.ensures.value) in
     let drawn : c.loop-place.run + 1 ≤ num_max = omega (arith, (c.in-Some-new.ensures.lawful.0 refl).1, c.get.ensures.value) in
     let size = encoded_more c.args.at c.loop-place.len c.encoded_len-len.result (all_starting c.loop-place.starts.items)
-    (record { id = id_at s c.loop-place.place; running = c.in-Some.running }) c.loop-place.row.items c.begin_at-begin.result inv.row
+    (record { id = id_at s c.loop-place.place; running = c.in-Some.running }) c.loop-place.batch.items c.begin_at-begin.result inv.batch
     c.begin_at-begin.ensures.begin inv.len c.encoded_len-len.ensures in
     no_memory_here inv.so_far within c.in-Some.ensures drawn size (c.if-not-fits.ensures.value.0 refl)
 
@@ -74,7 +74,7 @@ loop-place-preserved g c =
     let within : c.loop-place.place < length s.resources = omega (arith, c.loop-place-test.true, c.len-place-end.ensures.value) in
     let drawn : c.loop-place.run + 1 ≤ num_max = omega (arith, (c.in-Some-new.ensures.lawful.0 refl).1, c.get.ensures.value) in
     let size = encoded_more c.args.at c.loop-place.len c.encoded_len-len.result (all_starting c.loop-place.starts.items)
-    (record { id = id_at s c.loop-place.place; running = c.in-Some.running }) c.loop-place.row.items c.begin_at-begin.result inv.row
+    (record { id = id_at s c.loop-place.place; running = c.in-Some.running }) c.loop-place.batch.items c.begin_at-begin.result inv.batch
     c.begin_at-begin.ensures.begin inv.len c.encoded_len-len.ensures in
     let items = c.loop-place.starts.items in
     let starts = c.push_reserved-in-loop-place.new.self.items in
@@ -83,20 +83,20 @@ loop-place-preserved g c =
     (omega (arith, c.in-Some-new.ensures.value, c.get.ensures.value)) in
     let grown : starts ≡ items ++ c.in-Ok.start ∷ [] = c.push_reserved-in-loop-place.ensures.items in
     let all : all_starting starts ≡ all_starting items ++ a ∷ [] = starting_more items starts c.in-Ok.start a grown c.in-Ok.ensures.what in
-    let row_is : c.push_reserved.new.self.items ≡ begins c.args.at (all_starting items ++ a ∷ [])
+    let batch_is : c.push_reserved.new.self.items ≡ begins c.args.at (all_starting items ++ a ∷ [])
     =
-    row_more c.args.at (all_starting items) a c.loop-place.row.items c.push_reserved.new.self.items c.begin_at-begin.result
-    c.push_reserved.ensures.items inv.row c.begin_at-begin.ensures.begin in
+    batch_more c.args.at (all_starting items) a c.loop-place.batch.items c.push_reserved.new.self.items c.begin_at-begin.result
+    c.push_reserved.ensures.items inv.batch c.begin_at-begin.ensures.begin in
     let count : length starts ≡ length items + 1 = one_longer items starts c.in-Ok.start grown in record {
       so_far = subst (λ (l : List Active). SoFar s (dues c.args.state.now) c.args.journal.now.tail.at c.args.at (c.loop-place.place + 1)
           c.in-Some-new.next l) (sym all) more;
-      row = row_is ∙ ap (begins c.args.at) (sym all);
+      batch = batch_is ∙ ap (begins c.args.at) (sym all);
       are_starts =
           subst (AllByRecursion (IsStart c.args.site.now s)) (sym grown)
           (each_push (IsStart c.args.site.now s) items c.in-Ok.start inv.are_starts c.in-Ok.ensures.start);
-      len = sym size ∙ ap (λ (l : List Event). length (encoded_row l)) (sym row_is);
+      len = sym size ∙ ap (λ (l : List Event). length (encoded_batch l)) (sym batch_is);
       short = omega (arith, inv.short, c.begin_at-begin.ensures.short, c.encoded_len-len.ensures);
       few = omega (arith, inv.few, count);
-      row_room = c.push_reserved.ensures.capacity ∙ inv.row_room;
+      batch_room = c.push_reserved.ensures.capacity ∙ inv.batch_room;
       start_room = c.push_reserved-in-loop-place.ensures.capacity ∙ inv.start_room;
     }

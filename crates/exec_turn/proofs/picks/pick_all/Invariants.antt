@@ -1,7 +1,7 @@
 use Rattle.std.proofs.Common.{◌≡◌, ◌*◌, ◌≤◌, length}
 use Rattle.std.specs.List.{AllByRecursion}
 use Rattle.std.specs.Vec.{vec_capacity}
-use Rattle.exec_journal.specs.PartPrefix.{encoded_row}
+use Rattle.exec_journal.specs.PartPrefix.{encoded_batch}
 use Rattle.exec_journal.specs.Journal.{journal_place}
 use Rattle.exec_state.specs.Store.{dues}
 use Rattle.exec_turn.specs.Launches.{IsStart, all_starting}
@@ -15,11 +15,11 @@ invariant-loop-place g l =
     let begun = all_starting l.starts.items in
     record {
       so_far : SoFar s (dues l.state) (journal_place l.journal).tail l.at l.place l.run begun;
-      row : l.row.items ≡ begins l.at begun;
+      batch : l.batch.items ≡ begins l.at begun;
       are_starts : AllByRecursion (IsStart l.site s) l.starts.items;
-      len : l.len ≡ length (encoded_row l.row.items);
+      len : l.len ≡ length (encoded_batch l.batch.items);
       short : l.len ≤ 90 * l.place;
       few : length l.starts.items ≤ l.place;
-      row_room : vec_capacity l.row ≡ vec_capacity l.fn.row;
+      batch_room : vec_capacity l.batch ≡ vec_capacity l.fn.batch;
       start_room : vec_capacity l.starts ≡ vec_capacity l.fn.starts;
     }

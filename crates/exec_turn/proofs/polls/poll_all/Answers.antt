@@ -31,15 +31,15 @@ loop-place-preserved g c =
     let distinct = subst (λ (l : List Active). IsDistinct nat_eq (runs_of l)) is inv.distinct in
     let lives = subst (λ (l : List Active). Live old.live (runs_of l)) is inv.lives in
     let both = polls_more c.args.at (flat_map active_in (take place s.resources)) here
-    (g.C.Children.view c.args.children.now) old new c.loop-place.row.items more.0 c.loop-place.notices.items more.1 inv.polled more.2 in
+    (g.C.Children.view c.args.children.now) old new c.loop-place.batch.items more.0 c.loop-place.notices.items more.1 inv.polled more.2 in
     let size : length (flat_map active_in (drop place s.resources)) ≡ length (here ++ later) = ap (λ (l : List Active). length l) is in
     record {
       polled = rw (active_more s place within, more.3, more.4) both;
       lives = others_live c.args.at here later old new more.0 more.1 more.2 distinct lives;
       distinct = others_distinct here later distinct;
       room = omega (arith, inv.room, size, length-append here later, room_behind c.args.at here old new more.0 more.1 more.2);
-      row_few = omega (arith, inv.row_few, c.poll_at.ensures.row.few);
+      batch_few = omega (arith, inv.batch_few, c.poll_at.ensures.batch.few);
       notices_few = omega (arith, inv.notices_few, c.poll_at.ensures.notices.few);
-      row_room = c.poll_at.ensures.row.room ∙ inv.row_room;
+      batch_room = c.poll_at.ensures.batch.room ∙ inv.batch_room;
       notice_room = c.poll_at.ensures.notices.room ∙ inv.notice_room;
     }

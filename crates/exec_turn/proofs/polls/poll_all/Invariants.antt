@@ -11,12 +11,12 @@ invariant-loop-place g l =
     let to_come = flat_map active_in (drop l.place rs) in
     record {
       polled : Polls l.at (flat_map active_in (take l.place rs)) (g.C.Children.view l.fn.children)
-          (g.C.Children.view l.children) l.row.items l.notices.items;
+          (g.C.Children.view l.children) l.batch.items l.notices.items;
       lives : AllByRecursion (λ run. Contains (g.C.Children.view l.children).live run) (runs_of to_come);
       distinct : IsDistinct nat_eq (runs_of to_come);
       room : 2 * length to_come ≤ (g.C.Children.view l.children).room;
-      row_few : vec_len l.row ≤ l.place;
+      batch_few : vec_len l.batch ≤ l.place;
       notices_few : vec_len l.notices ≤ l.place;
-      row_room : vec_capacity l.row ≡ vec_capacity l.fn.row;
+      batch_room : vec_capacity l.batch ≡ vec_capacity l.fn.batch;
       notice_room : vec_capacity l.notices ≡ vec_capacity l.fn.notices;
     }

@@ -30,7 +30,7 @@ returns-clause-polled g c =
     let h = c.in-Some-ask.ensures.polled in
     let end = c.in-Some-ask.end in
     let who : Active = record { id = e.0; running = c.in-Some.running } in
-    let row_id : c.copied-id.result ≡ e.0 = ◌∙◌ {c = e.0} c.copied-id.ensures c.id_at.ensures in
+    let batch_id : c.copied-id.result ≡ e.0 = ◌∙◌ {c = e.0} c.copied-id.ensures c.id_at.ensures in
     let told_id : c.copied-id-2.result ≡ e.0 = ◌∙◌ {c = e.0} c.copied-id-2.ensures c.id_at-2.ensures in
     let one = polled_one c.args.at e.0 c.in-Some.running e.1.history.running h.0 h.1 (g.C.Children.view c.args.children.now)
     (g.C.Children.view c.ask.new.children) (Some end)
@@ -39,8 +39,8 @@ returns-clause-polled g c =
       notice_of c.args.at who end ∷ [],
       one,
       subst (λ (id : List ℕ). c.push_reserved.new.self.items
-          ≡ c.args.row.now.items ++ result_of c.args.at (record { id = id; running = c.in-Some.running }) end ∷ [])
-          row_id c.push_reserved.ensures.items,
+          ≡ c.args.batch.now.items ++ result_of c.args.at (record { id = id; running = c.in-Some.running }) end ∷ [])
+          batch_id c.push_reserved.ensures.items,
       subst (λ (n : Notice). c.push_reserved-2.new.self.items ≡ c.args.notices.now.items ++ n ∷ [])
           (c.run_notice-notice.ensures ∙ ap (λ (id : List ℕ). run_notice id (Run end) c.args.at c.in-Some.running) told_id)
           c.push_reserved-2.ensures.items,

@@ -17,16 +17,16 @@ pub loop-start-init : goal.loop-start-init
 loop-start-init g c = record {
   started = (
     [],
-    record { answers = []; each = refl; children = refl; row_is = c.clear.ensures.items; told_is = refl },
+    record { answers = []; each = refl; children = refl; batch_is = c.clear.ensures.items; told_is = refl },
     sym (append-nil c.args.notices.now.items),
   );
   rising = c.requires.rising;
   few = omega (arith, c.requires.few);
   room = omega (arith, c.requires.room);
   site = refl;
-  row_len = omega (arith, c.clear.ensures.len);
+  batch_len = omega (arith, c.clear.ensures.len);
   notice_len = omega arith;
-  row_room = c.clear.ensures.capacity;
+  batch_room = c.clear.ensures.capacity;
   notice_room = refl;
 }
 
@@ -65,10 +65,10 @@ loop-start-preserved g c =
     record {
       started = (
         told ++ map (notice_of c.args.at a) (refused_end answer),
-        subst (λ (l : List Active). Starts c.args.at clock l (view c.args.children.now) new c.start_one.new.row.items
+        subst (λ (l : List Active). Starts c.args.at clock l (view c.args.children.now) new c.start_one.new.batch.items
             (told ++ map (notice_of c.args.at a) (refused_end answer))) (sym taken)
             (starts_more c.args.at clock (all_starting (take i all)) a
-            (view c.args.children.now) old new c.loop-start.row.items c.start_one.new.row.items told _ answer inv.started.1 started.1
+            (view c.args.children.now) old new c.loop-start.batch.items c.start_one.new.batch.items told _ answer inv.started.1 started.1
             started.2 refl),
         started.3 ∙ ap (λ (l : List Notice). l ++ map (notice_of c.args.at a) (refused_end answer)) inv.started.2
             ∙ append_assoc c.args.notices.now.items told (map (notice_of c.args.at a) (refused_end answer)),
@@ -78,8 +78,8 @@ loop-start-preserved g c =
           omega (arith, inv.few, live, one_live x.running.run old.live answer);
       room = let left = ap (λ (v : ChildrenView). v.room) started.1 in omega (arith, inv.room, left);
       site = ap (λ (v : ChildrenView). v.site) started.1 ∙ inv.site;
-      row_len = omega (arith, inv.row_len, c.start_one.ensures.row.few);
+      batch_len = omega (arith, inv.batch_len, c.start_one.ensures.batch.few);
       notice_len = omega (arith, inv.notice_len, c.start_one.ensures.notices.few);
-      row_room = c.start_one.ensures.row.room ∙ inv.row_room;
+      batch_room = c.start_one.ensures.batch.room ∙ inv.batch_room;
       notice_room = c.start_one.ensures.notices.room ∙ inv.notice_room;
     }

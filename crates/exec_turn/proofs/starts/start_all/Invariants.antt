@@ -14,14 +14,14 @@ invariant-loop-start g l =
     let i = l.start-index in
     record {
       started : (told : List Notice)
-          × Starts l.at clock (all_starting (take i l.starts)) (view l.fn.children) (view l.children) l.row.items told
+          × Starts l.at clock (all_starting (take i l.starts)) (view l.fn.children) (view l.children) l.batch.items told
           × (l.notices.items ≡ l.fn.notices.items ++ told);
       rising : Rising (view l.children).last_run (all_starting (drop i l.starts));
       few : length (view l.children).live + length l.starts ≤ live_limit + i;
       room : length l.starts ≤ (view l.children).room + i;
       site : (view l.children).site ≡ (view l.fn.children).site;
-      row_len : vec_len l.row ≤ i;
+      batch_len : vec_len l.batch ≤ i;
       notice_len : vec_len l.notices ≤ vec_len l.fn.notices + i;
-      row_room : vec_capacity l.row ≡ vec_capacity l.fn.row;
+      batch_room : vec_capacity l.batch ≡ vec_capacity l.fn.batch;
       notice_room : vec_capacity l.notices ≡ vec_capacity l.fn.notices;
     }

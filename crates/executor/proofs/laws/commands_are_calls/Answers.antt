@@ -1,4 +1,4 @@
-use Rattle.executor.specs.RowLaws.{commands_called}
+use Rattle.executor.specs.BatchLaws.{commands_called}
 use Rattle.executor.proofs.laws.commands_are_calls.Goals as goal
 
 pub returns : goal.returns

@@ -6,5 +6,5 @@ returns g c = record {
   alone = each_alone g.D.Disk.view;
   ends = alone_ends g.D.Disk.view;
   session = session_alone g.D.Disk.view;
-  row = commands_alone;
+  batch = commands_alone;
 }

@@ -2,7 +2,7 @@ use Rattle.std.proofs.Common.{◌+◌, arith}
 use Rattle.exec_lines.specs.Buffer.{line_bytes}
 use Rattle.exec_session.specs.Gathered.{waiting}
 use Rattle.exec_session.specs.Rules.{rules_of}
-use Rattle.exec_session.proofs.WaitLemmas.{come_answered, come_row_breaks, comes_err}
+use Rattle.exec_session.proofs.WaitLemmas.{come_answered, come_batch_breaks, comes_err}
 use Rattle.exec_session.proofs.desk.Desk.answer_rest.Goals as goal
 
 pub returns-clause-takes : goal.returns-clause-takes
@@ -18,7 +18,7 @@ pub returns-in_err-answer_gathered-clause-takes : goal.returns-in_err-answer_gat
 returns-in_err-answer_gathered-clause-takes g c = λ p own most may come.
     let old = c.args.self.now in
     comes_err _ _ _ _ own _ _ c.from_residual.result c.from_residual.ensures.0
-    (come_row_breaks g.D.Disk.view (g.M.Metadata.gives c.args.context.now.metadata.now) (rules_of c.args.context.now) p own (most + 1)
+    (come_batch_breaks g.D.Disk.view (g.M.Metadata.gives c.args.context.now.metadata.now) (rules_of c.args.context.now) p own (most + 1)
     (waiting old.pending.gathered) old.pending.held (line_bytes old.pending.buffer) old.worker c.answer_gathered.new.self.at
     c.requires.«open» come c.in_err-answer_gathered.ensures.answers.breaks c.in_err-answer_gathered.ensures.answers.cause)
 

@@ -6,7 +6,7 @@ use Rattle.exec_session.specs.Rules.{rules_of}
 use Rattle.exec_session.specs.Waiting.{IsTaken, midway}
 use Rattle.exec_session.specs.declared.lines.Taken.TheVariants.{More}
 use Rattle.exec_session.proofs.LastLemmas.{lasts_both}
-use Rattle.exec_session.proofs.WaitLemmas.{comes_err, found_answered, found_breaks, found_row_breaks, found_taken, none_stays, open_while, step_ends}
+use Rattle.exec_session.proofs.WaitLemmas.{comes_err, found_answered, found_breaks, found_batch_breaks, found_taken, none_stays, open_while, step_ends}
 use Rattle.exec_session.proofs.desk.Desk.take_other.Goals as goal
 
 pub returns-then-ne : goal.returns-then-ne
@@ -68,7 +68,7 @@ returns-in_err-answer_gathered g c = record {
             λ p own most may finds.
             let old = c.args.self.now in
             comes_err _ _ _ _ own _ _ c.from_residual.result c.from_residual.ensures.0
-            (found_row_breaks g.D.Disk.view (g.M.Metadata.gives c.args.context.now.metadata.now) (rules_of c.args.context.now) p own most
+            (found_batch_breaks g.D.Disk.view (g.M.Metadata.gives c.args.context.now.metadata.now) (rules_of c.args.context.now) p own most
             (waiting old.pending.gathered) c.args.found old.worker c.answer_gathered.new.self.at
             (open_while c.args.context.now.way (midway old.worker old.pending) c.requires.waits) finds
             c.in_err-answer_gathered.ensures.answers.breaks c.in_err-answer_gathered.ensures.answers.cause);

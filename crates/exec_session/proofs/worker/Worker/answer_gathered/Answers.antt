@@ -9,7 +9,7 @@ use Rattle.exec_session.specs.Gathered.{waiting}
 use Rattle.exec_session.specs.Spots.{Tells, TellsPart, spot}
 use Rattle.exec_session.proofs.EventLemmas.{both_keep, err_map, ok_map, here_keeps, send_cause, send_keeps, sends, sends_part, was_noted}
 use Rattle.exec_session.proofs.TellLemmas.{after_told}
-use Rattle.exec_session.proofs.WorkerLemmas.{all_answered, none_answered, open_noted, row_broken, some_waits, together_heard}
+use Rattle.exec_session.proofs.WorkerLemmas.{all_answered, none_answered, open_noted, batch_broken, some_waits, together_heard}
 use Rattle.exec_session.proofs.worker.Worker.answer_gathered.Goals as goal
 
 pub make_room-requires : goal.make_room-requires
@@ -81,7 +81,7 @@ returns-clause-answers g c = record {
       let new = c.tell.new.self in
       let now = c.now-moment.result in
       let commands = waiting c.args.gathered.now in
-      row_broken look _ c.tell.result commands c.args.self.now.at (spot y new.heard new.events) (some_waits _ (sym c.is_empty.ensures ∙ c.if-is_empty.false))
+      batch_broken look _ c.tell.result commands c.args.self.now.at (spot y new.heard new.events) (some_waits _ (sym c.is_empty.ensures ∙ c.if-is_empty.false))
       (err_map c.tell.result _ _
       (λ tells. together_heard (TellsPart form) look _ now commands x y e c.args.self.now c.now-moment.new.self (spot y new.heard new.events) _
       c.now-moment.ensures.noted c.self.view_is refl

@@ -9,7 +9,7 @@ pub invariant_of-self : goal.invariant_of-self
 invariant_of-self g c is_open =
     let x = c.self.inside in
     let tends = c.self.invariant is_open in
-    subst (λ (v : ChildrenView). Tends (sight x.ledger v x.site (told_of x.rows) (reported_of x.reported))) (sym c.clear_book.ensures.emptied)
+    subst (λ (v : ChildrenView). Tends (sight x.ledger v x.site (told_of x.batches) (reported_of x.reported))) (sym c.clear_book.ensures.emptied)
     (record {
       matched = record { agents_live = tends.matched.agents_live; rising = tends.matched.rising };
       admits = tends.admits;

@@ -26,8 +26,8 @@ invariant_of-self g c is_open =
 pub returns : goal.returns
 returns g c =
     let e = c.self.inside in
-    let x = sight e.ledger (g.C.Children.view e.children) e.site (told_of e.rows) (reported_of e.reported) in
-    let y = sight c.finish_turn-end.new.ledger (g.C.Children.view c.finish_turn-end.new.children) e.site (told_of c.finish_turn-end.new.rows) (reported_of e.reported) in
+    let x = sight e.ledger (g.C.Children.view e.children) e.site (told_of e.batches) (reported_of e.reported) in
+    let y = sight c.finish_turn-end.new.ledger (g.C.Children.view c.finish_turn-end.new.children) e.site (told_of c.finish_turn-end.new.batches) (reported_of e.reported) in
     let was : x.is_open ≡ true = sym c.is_open.ensures.value ∙ c.if-not-is_open.false in
     let turn = c.finish_turn-end.ensures in
     let takes : FinishesTurn g.D.Disk.view c.args.now x y c.finish_turn-end.result = record {

@@ -1,0 +1,97 @@
+-- Lemmas: commands that arrived together are calls, for proofs here and in the crates above.
+use Rattle.std.specs.Prelude.{◌≡◌, ℕ, Bool, true, false, List, [], ◌∷◌, ◌++◌, map}
+use Rattle.std.specs.List.{AllByRecursion, flat_map}
+use Rattle.std.proofs.Common.{true≢false, refl, sym, ap, subst, ◌∙◌}
+use Rattle.ocf_types.specs.Kinds.{Command, Reply}
+use Rattle.ocf_types.specs.declared.command.RequestOf.TheVariants as asked
+use Rattle.disk_model.specs.View.{View}
+use Rattle.exec_ledger.specs.Commands.{TakesCommand}
+use Rattle.exec_ledger.specs.Held.{Held}
+use Rattle.exec_ledger.specs.Laws.{of_closed, of_open, while_closed, while_open}
+use Rattle.exec_ledger.specs.Pieces.{Effects, followed_by, no_effects, batch_effects}
+use Rattle.exec_ledger.specs.Shares.{Share, Single, TakesShare, TakesShares, commands_of as shared_commands, replies_of as shared_replies}
+use Rattle.exec_ledger.specs.Shares.{Batch as SharedBatch}
+use Rattle.executor.specs.CallLaws.{request_taken, same_sight}
+use Rattle.executor.specs.Commands.{Serves}
+use Rattle.executor.specs.Lives.{Calls, Does, Exchange, Batch, Took}
+use Rattle.executor.specs.CommandBatches.{CallsCommands, IsAt, TakesCommands, commands_of, replies_of}
+use Rattle.executor.specs.Sessions.{TakesWhile}
+use Rattle.executor.specs.Sights.{Beside, Sight, ledger_of, sight}
+use Rattle.executor.specs.declared.session.InputOf.TheVariants as input
+
+-- an executor with another ledger, all beside it as it was
+abbrev pub with_ledger : {D : Type 0} → Sight D → Held D → Sight D
+with_ledger x h = sight h x.children x.site x.told x.reported
+
+pub still_beside : {D : Type 0} (x : Sight D) (h : Held D) → Beside x (with_ledger x h)
+still_beside x h = record { children = refl; site = refl; told = refl; reported = refl }
+
+-- a single command or a batch as a call
+abbrev exchange_of : ℕ → Share → Exchange
+exchange_of now (Single c r) = Took (input.Request now (asked.Command c)) r
+exchange_of now (SharedBatch cs rs) = Batch now cs rs
+
+same_commands : (now : ℕ) (ss : List Share) → flat_map commands_of (map (exchange_of now) ss) ≡ flat_map shared_commands ss
+same_commands now [] = refl
+same_commands now (Single c r ∷ ss) = ap (λ (l : List Command). c ∷ l) (same_commands now ss)
+same_commands now (SharedBatch cs rs ∷ ss) = ap (λ (l : List Command). cs ++ l) (same_commands now ss)
+
+same_replies : (now : ℕ) (ss : List Share) → flat_map replies_of (map (exchange_of now) ss) ≡ flat_map shared_replies ss
+same_replies now [] = refl
+same_replies now (Single c r ∷ ss) = ap (λ (l : List Reply). r ∷ l) (same_replies now ss)
+same_replies now (SharedBatch cs rs ∷ ss) = ap (λ (l : List Reply). rs ++ l) (same_replies now ss)
+
+at_once : (now : ℕ) (ss : List Share) → AllByRecursion (IsAt now) (map (exchange_of now) ss)
+at_once now [] = tt
+at_once now (Single c r ∷ ss) = (refl, at_once now ss)
+at_once now (SharedBatch cs rs ∷ ss) = (refl, at_once now ss)
+
+module _ {D : Type 0} (look : D → View) (now : ℕ) where
+  pub command_served : (b : Bool) (c : Command) (r : Reply) (x : Sight D) (h : Held D) → x.is_open ≡ b
+      → TakesCommand look now c (ledger_of x) h r → Serves look now (asked.Command c) x (with_ledger x h) r
+  command_served true c r x h was does = while_open _ was ((of_open _ _ was does).0, still_beside x h)
+  command_served false c r x h was does =
+      let rests = of_closed _ _ was does in
+      while_closed _ was (rests.0, same_sight x (with_ledger x h) rests.1 (still_beside x h))
+
+  command_taken : (b : Bool) (c : Command) (r : Reply) (x : Sight D) (h : Held D) → x.is_open ≡ b
+      → TakesCommand look now c (ledger_of x) h r
+      → (d : Effects) × TakesWhile b look (input.Request now (asked.Command c)) x (with_ledger x h) r d
+  command_taken true c r x h was does =
+      let takes = of_open _ _ was does in
+      request_taken true look now (asked.Command c) x (with_ledger x h) r (takes.0, still_beside x h) (λ _. takes.1)
+  command_taken false c r x h was does =
+      let takes = of_closed _ _ was does in
+      request_taken false look now (asked.Command c) x (with_ledger x h) r
+      (takes.0, same_sight x (with_ledger x h) takes.1 (still_beside x h)) (λ bad. absurd (true≢false (sym bad)))
+
+  share_taken : (s : Share) (x : Sight D) (h : Held D) → TakesShare look now s (ledger_of x) h
+      → (d : Effects) × Does look (exchange_of now s) x (with_ledger x h) d
+  share_taken (Single c r) x h takes = command_taken x.is_open c r x h refl takes
+  share_taken (SharedBatch cs rs) x h takes =
+      (batch_effects h.is_open takes.events, record { takes = takes; beside = still_beside x h; does = refl })
+
+  shares_taken : (ss : List Share) (x : Sight D) (h : Held D) → TakesShares look now ss (ledger_of x) h
+      → (d : Effects) × Calls look x (map (exchange_of now) ss) (with_ledger x h) d
+  shares_taken [] x h same = (no_effects, (λ i. with_ledger x (same i), refl))
+  shares_taken (s ∷ ss) x h (mid, one, rest) =
+      let first = share_taken s x mid one in
+      let later = shares_taken ss (with_ledger x mid) h rest in
+      (followed_by first.0 later.0, (with_ledger x mid, first.0, later.0, first.1, later.1, refl))
+
+  -- commands that were taken are calls
+  pub commands_called : (cs : List Command) (rs : List Reply) (x y : Sight D) → TakesCommands look now cs x y rs
+      → CallsCommands look now cs x y rs
+  commands_called cs rs x y (takes, beside) =
+      let h = ledger_of y in
+      let all = shares_taken takes.shares x h takes.takes in
+      let same : y ≡ with_ledger x h = same_sight (with_ledger x h) y refl
+      (record { children = beside.children; site = beside.site; told = beside.told; reported = beside.reported }) in
+      subst (λ (z : Sight D). CallsCommands look now cs x z rs) (sym same) (record {
+        exchanges = map (exchange_of now) takes.shares;
+        effects = all.0;
+        calls = all.1;
+        asked = same_commands now takes.shares ∙ takes.asked;
+        answered = same_replies now takes.shares ∙ takes.answered;
+        at_once = at_once now takes.shares;
+      })
