@@ -5,7 +5,7 @@ use Rattle.ocf_types.specs.declared.reply.ReplyOf.TheVariants.{Done}
 use Rattle.disk_model.specs.View.{View}
 use Rattle.executor.specs.Lives.{Took}
 use Rattle.executor.specs.Sessions.{Effects}
-use Rattle.executor.specs.Sights.{Sight}
+use Rattle.executor.specs.ExecutorView.{ExecutorView}
 use Rattle.executor.specs.declared.session.InputOf.TheVariants as input
 use Rattle.exec_client.specs.Behind.{Behind, says_else, tells, untold}
 use Rattle.exec_client.specs.Said.{Said, answered}
@@ -25,7 +25,7 @@ twice e (untold _ _ _ behind) = too_early (ok ∷ []) behind
 twice e (tells _ _ _ _ is behind) = too_early [] behind
 twice e (says_else _ _ _ none behind) = true≢false none
 
-module _ {D : Type 0} (look : D → View) (x y : Sight D) (d : Effects) where
+module _ {D : Type 0} (look : D → View) (x y : ExecutorView D) (d : Effects) where
   -- no call was made
   of_no_call : TellsCalls look x [] y d (ok ∷ []) → ⊥
   of_no_call (same, none, nothing) = true≢false nothing.0

@@ -22,13 +22,13 @@ use Rattle.executor.specs.CommandBatches.{IsAt, TakesCommands, replies_of}
 use Rattle.exec_ledger.specs.Laws.{while_open}
 use Rattle.exec_ledger.specs.Pieces.{Effects, followed_by, no_effects, batch_effects}
 use Rattle.executor.specs.Sessions.{TakesWhile, command_effects}
-use Rattle.executor.specs.Sights.{Sight, ledger_of}
+use Rattle.executor.specs.ExecutorView.{ExecutorView, ledger_of}
 use Rattle.executor.specs.TidyCalls.{Tidies, TidiesWhile}
 use Rattle.executor.specs.TurnCalls.{FinishesTurn, TakesTurn, abandoned, with_empty_book}
 use Rattle.executor.specs.declared.session.InputOf.TheVariants as input
 use Rattle.exec_ledger.proofs.Keeping.{command_keeps}
 use Rattle.exec_client.specs.Behind.{Behind, claims, nothing}
-use Rattle.exec_client.specs.Heard.{Heard}
+use Rattle.exec_client.specs.ClientView.{ClientView}
 use Rattle.exec_client.specs.MayTell.{AllStand, MayBeReplied, MayReply, MaySay, MayTell, StandsBehind}
 use Rattle.exec_client.specs.Said.{Answered, Said, answered, said_in}
 use Rattle.exec_client.specs.Tells.{Says, TellsCalls, noticed}
@@ -49,7 +49,7 @@ events_are ss d e same behind = subst (λ (f : Effects). Behind ss f.events) (sy
 
 module _ {D : Type 0} (look : D → View) where
   -- no call, one call, and calls after others
-  pub none_stands : (x y : Sight D) (said : List Said) → y ≡ x → Behind said [] → StandsBehind look x y said
+  pub none_stands : (x y : ExecutorView D) (said : List Said) → y ≡ x → Behind said [] → StandsBehind look x y said
   none_stands x y said same behind = record {
     calls = [];
     effects = no_effects;
@@ -58,7 +58,7 @@ module _ {D : Type 0} (look : D → View) where
     behind = behind;
   }
 
-  one_stands : (x y : Sight D) (e : Exchange) (d : Effects) (said : List Said) → Does look e x y d → Says e y said → Behind said d.events
+  one_stands : (x y : ExecutorView D) (e : Exchange) (d : Effects) (said : List Said) → Does look e x y d → Says e y said → Behind said d.events
       → StandsBehind look x y said
   one_stands x y e d said does says behind = record {
     calls = e ∷ [];
@@ -68,7 +68,7 @@ module _ {D : Type 0} (look : D → View) where
     behind = behind;
   }
 
-  pub both_stand : (x y z : Sight D) (ss ts : List Said) → StandsBehind look x y ss → StandsBehind look y z ts
+  pub both_stand : (x y z : ExecutorView D) (ss ts : List Said) → StandsBehind look x y ss → StandsBehind look y z ts
       → StandsBehind look x z (ss ++ ts)
   both_stand x y z ss ts one two = record {
     calls = one.calls ++ two.calls;
@@ -79,18 +79,18 @@ module _ {D : Type 0} (look : D → View) where
   }
 
   -- nothing is sent of the later calls
-  pub still_stand : (x y z : Sight D) (ss : List Said) → StandsBehind look x y ss → StandsBehind look y z [] → StandsBehind look x z ss
+  pub still_stand : (x y z : ExecutorView D) (ss : List Said) → StandsBehind look x y ss → StandsBehind look y z [] → StandsBehind look x z ss
   still_stand x y z ss one two =
       subst (λ (said : List Said). StandsBehind look x z said) (append-nil ss) (both_stand x y z ss [] one two)
 
   -- a command
-  obeys_behind : (now : ℕ) (c : Command) (x y : Sight D) (r : Reply) (found : Result Event Refusal) → event_of x.state now c ≡ found
+  obeys_behind : (now : ℕ) (c : Command) (x y : ExecutorView D) (r : Reply) (found : Result Event Refusal) → event_of x.state now c ≡ found
       → Obeys look found (ledger_of x) (ledger_of y) r → Behind (answered r ∷ []) (command_effects found r).events
   obeys_behind now c x y r (Err why) is (refused, same) = refused_behind r why refused
   obeys_behind now c x y r (Ok e) is records = reply_behind e r (command_keeps x.state now c e is) records.told
 
   -- a request
-  while_taken : (b : Bool) (now : ℕ) (request : Request) (x y : Sight D) (r : Reply) → ServesWhile b look now request x y r
+  while_taken : (b : Bool) (now : ℕ) (request : Request) (x y : ExecutorView D) (r : Reply) → ServesWhile b look now request x y r
       → (b ≡ true → ((y.is_open ≡ false) ↔ (r ≡ reply.Refused Disk)))
       → (d : Effects) × TakesWhile b look (input.Request now request) x y r d × Behind (answered r ∷ []) d.events
   while_taken true now (asked.Question question) x y r serves closes = (
@@ -105,14 +105,14 @@ module _ {D : Type 0} (look : D → View) where
   )
   while_taken false now request x y r serves closes = (no_effects, (serves.0, serves.1, refl), refused_behind r _ serves.0)
 
-  pub serves_stands : (now : ℕ) (request : Request) (x y : Sight D) (r : Reply) → Serves look now request x y r
+  pub serves_stands : (now : ℕ) (request : Request) (x y : ExecutorView D) (r : Reply) → Serves look now request x y r
       → (x.is_open ≡ true → ((y.is_open ≡ false) ↔ (r ≡ reply.Refused Disk))) → StandsBehind look x y (answered r ∷ [])
   serves_stands now request x y r serves closes =
       let (d, takes, behind) = while_taken x.is_open now request x y r serves closes in
       one_stands x y (Took (input.Request now request) r) d (answered r ∷ []) takes refl behind
 
   -- commands in a batch
-  batch_stands : (now : ℕ) (cs : List Command) (x y : Sight D) (rs : List Reply) (d : Effects) → TakesBatch look now cs x y rs d
+  batch_stands : (now : ℕ) (cs : List Command) (x y : ExecutorView D) (rs : List Reply) (d : Effects) → TakesBatch look now cs x y rs d
       → Behind (map answered rs) d.events
   batch_stands now cs x y rs d takes = by y.is_open refl
     where
@@ -128,14 +128,14 @@ module _ {D : Type 0} (look : D → View) where
       by false is = told_so false is (failed_behind takes.takes.meant)
 
   -- one of the calls by which commands are carried out
-  taken_behind : (b : Bool) (at : ℕ) (c : Command) (x y : Sight D) (r : Reply) (d : Effects)
+  taken_behind : (b : Bool) (at : ℕ) (c : Command) (x y : ExecutorView D) (r : Reply) (d : Effects)
       → TakesWhile b look (input.Request at (asked.Command c)) x y r d → Behind (answered r ∷ []) d.events
   taken_behind true at c x y r d takes =
       events_are (answered r ∷ []) d (command_effects (event_of x.state at c) r) takes.does
       (obeys_behind at c x y r (event_of x.state at c) refl takes.serves.0)
   taken_behind false at c x y r d (refused, same, none) = events_are (answered r ∷ []) d no_effects none (refused_behind r _ refused)
 
-  one_behind : (now : ℕ) (e : Exchange) (x y : Sight D) (d : Effects) → IsAt now e → Does look e x y d
+  one_behind : (now : ℕ) (e : Exchange) (x y : ExecutorView D) (d : Effects) → IsAt now e → Does look e x y d
       → Behind (map answered (replies_of e)) d.events
   one_behind now (Took (input.Request at (asked.Command c)) r) x y d is does = taken_behind x.is_open at c x y r d does
   one_behind now (Took (input.Request at (asked.Question q)) r) x y d is does = absurd is
@@ -146,7 +146,7 @@ module _ {D : Type 0} (look : D → View) where
   one_behind now Cleared x y d is does = absurd is
   one_behind now Abandoned x y d is does = absurd is
 
-  calls_told : (now : ℕ) (es : List Exchange) (x y : Sight D) (d : Effects) → AllByRecursion (IsAt now) es → Calls look x es y d
+  calls_told : (now : ℕ) (es : List Exchange) (x y : ExecutorView D) (d : Effects) → AllByRecursion (IsAt now) es → Calls look x es y d
       → Behind (map answered (flat_map replies_of es)) d.events
   calls_told now [] x y d at (same, none) = events_are [] d no_effects none nothing
   calls_told now (e ∷ es) x y d at (mid, first, later, does, calls, is) =
@@ -155,7 +155,7 @@ module _ {D : Type 0} (look : D → View) where
       (both_behind (map answered (replies_of e)) first.events (map answered (flat_map replies_of es)) later.events
       (one_behind now e x mid first at.0 does) (calls_told now es mid y later at.1 calls)))
 
-  pub commands_stand : (now : ℕ) (cs : List Command) (x y : Sight D) (rs : List Reply) → TakesCommands look now cs x y rs
+  pub commands_stand : (now : ℕ) (cs : List Command) (x y : ExecutorView D) (rs : List Reply) → TakesCommands look now cs x y rs
       → StandsBehind look x y (map answered rs)
   commands_stand now cs x y rs does =
       let takes = commands_called look now cs rs x y does in record {
@@ -169,50 +169,50 @@ module _ {D : Type 0} (look : D → View) where
       }
 
   -- a turn, a turn that begins nothing, a tidy, and an emptied book
-  pub turn_stands : (now : ℕ) (x y : Sight D) (end : TurnEnd) → x.is_open ≡ true → TakesTurn look now x y end
+  pub turn_stands : (now : ℕ) (x y : ExecutorView D) (end : TurnEnd) → x.is_open ≡ true → TakesTurn look now x y end
       → StandsBehind look x y (noticed y)
   turn_stands now x y end is_open takes =
       one_stands x y (Took (input.Turn now) (reply.Turn end)) takes.turns.effects (noticed y)
       (while_open _ is_open (record { end = end; takes = takes; replies = refl; does = refl })) refl
       (turn_behind y.children.book end _ takes.turns.effects y.told takes.turns.does)
 
-  pub finish_stands : (now : ℕ) (x y : Sight D) (end : TurnEnd) → x.is_open ≡ true → FinishesTurn look now x y end
+  pub finish_stands : (now : ℕ) (x y : ExecutorView D) (end : TurnEnd) → x.is_open ≡ true → FinishesTurn look now x y end
       → StandsBehind look x y (noticed y)
   finish_stands now x y end is_open takes =
       one_stands x y (Finished now end) takes.turns.effects (noticed y) (while_open _ is_open (takes, refl)) refl
       (finish_behind y.children.book end _ takes.turns.effects y.told takes.turns.does)
 
-  pub tidied_stands : (x y : Sight D) (end : TidyEnd) → TidiesWhile x.is_open look x y end → StandsBehind look x y []
+  pub tidied_stands : (x y : ExecutorView D) (end : TidyEnd) → TidiesWhile x.is_open look x y end → StandsBehind look x y []
   tidied_stands x y end tidies = one_stands x y (Tidied end) no_effects [] (tidies, refl) refl nothing
 
-  pub tidy_stands : (x y : Sight D) (end : TidyEnd) → x.is_open ≡ true → Tidies look x y end → StandsBehind look x y []
+  pub tidy_stands : (x y : ExecutorView D) (end : TidyEnd) → x.is_open ≡ true → Tidies look x y end → StandsBehind look x y []
   tidy_stands x y end is_open tidies =
       tidied_stands x y end (while_open _ is_open tidies)
 
-  pub cleared_stands : (x y : Sight D) → y ≡ with_empty_book x → StandsBehind look x y []
+  pub cleared_stands : (x y : ExecutorView D) → y ≡ with_empty_book x → StandsBehind look x y []
   cleared_stands x y cleared = one_stands x y Cleared no_effects [] (cleared, refl) refl nothing
 
   -- what may be sent of an executor after calls
-  pub may_tell : (heard : Heard D) (x y : Sight D) (what : Told) → AllStand look heard x → StandsBehind look x y (said_in what)
-      → MaySay y what → MayTell look heard y what
-  may_tell heard x y what stands more says =
-      record { stands = both_stand heard.opened x y heard.told (said_in what) stands more; says = says }
+  pub may_tell : (client_view : ClientView D) (x y : ExecutorView D) (what : Told) → AllStand look client_view x → StandsBehind look x y (said_in what)
+      → MaySay y what → MayTell look client_view y what
+  may_tell client_view x y what stands more says =
+      record { stands = both_stand client_view.opened x y client_view.told (said_in what) stands more; says = says }
 
   -- calls of which nothing is sent
-  pub all_still_stand : (heard : Heard D) (x y : Sight D) → AllStand look heard x → StandsBehind look x y [] → AllStand look heard y
-  all_still_stand heard x y stands more = still_stand heard.opened x y heard.told stands more
+  pub all_still_stand : (client_view : ClientView D) (x y : ExecutorView D) → AllStand look client_view x → StandsBehind look x y [] → AllStand look client_view y
+  all_still_stand client_view x y stands more = still_stand client_view.opened x y client_view.told stands more
 
   -- a reply to a line, of an executor after calls
-  pub may_reply : (heard : Heard D) (x y : Sight D) (given : LineReply) → AllStand look heard x
-      → StandsBehind look x y (Answered given ∷ []) → MayReply y given → MayBeReplied look heard y given
-  may_reply heard x y given stands more says = (both_stand heard.opened x y heard.told (Answered given ∷ []) stands more, says)
+  pub may_reply : (client_view : ClientView D) (x y : ExecutorView D) (given : LineReply) → AllStand look client_view x
+      → StandsBehind look x y (Answered given ∷ []) → MayReply y given → MayBeReplied look client_view y given
+  may_reply client_view x y given stands more says = (both_stand client_view.opened x y client_view.told (Answered given ∷ []) stands more, says)
 
   -- a reply that claims nothing
-  pub may_reply_none : (heard : Heard D) (x : Sight D) (given : LineReply) → AllStand look heard x → claims (Answered given) ≡ false
-      → MayReply x given → MayBeReplied look heard x given
-  may_reply_none heard x given stands none says =
-      may_reply heard x x given stands (none_stands x x (Answered given ∷ []) refl (says_none (Answered given) none)) says
+  pub may_reply_none : (client_view : ClientView D) (x : ExecutorView D) (given : LineReply) → AllStand look client_view x → claims (Answered given) ≡ false
+      → MayReply x given → MayBeReplied look client_view x given
+  may_reply_none client_view x given stands none says =
+      may_reply client_view x x given stands (none_stands x x (Answered given ∷ []) refl (says_none (Answered given) none)) says
 
   -- all agent processes are given up
-  pub abandoned_stands : (x y : Sight D) → y ≡ abandoned x → StandsBehind look x y []
+  pub abandoned_stands : (x y : ExecutorView D) → y ≡ abandoned x → StandsBehind look x y []
   abandoned_stands x y given_up = one_stands x y Abandoned no_effects [] (given_up, refl) refl nothing

@@ -19,7 +19,7 @@ use Rattle.exec_ledger.specs.Together.{Adds, Answered, disk_each, failed, batch_
 use Rattle.executor.specs.BatchLaws.{commands_called}
 use Rattle.executor.specs.CommandBatches.{IsAt, TakesCommands, replies_of}
 use Rattle.executor.specs.Sessions.{Effects, TakesWhile}
-use Rattle.executor.specs.Sights.{Sight, ledger_of}
+use Rattle.executor.specs.ExecutorView.{ExecutorView, ledger_of}
 use Rattle.executor.specs.declared.session.InputOf.TheVariants as input
 use Rattle.exec_client.specs.MayTell.{MayAnswer}
 
@@ -27,7 +27,7 @@ all_both : {X : Type 0} (P : X → Type 0) (xs ys : List X) → AllByRecursion P
 all_both P [] ys one two = two
 all_both P (x ∷ xs) ys one two = (one.0, all_both P xs ys one.1 two)
 
-module _ {D : Type 0} (z : Sight D) where
+module _ {D : Type 0} (z : ExecutorView D) where
   abbrev Plain : Reply → Type 0
   Plain r = MayAnswer z r
 
@@ -54,7 +54,7 @@ module _ {D : Type 0} (z : Sight D) where
   reply_plain e r (inr (inr (inl is))) = is_plain r _ is tt
   reply_plain e r (inr (inr (inr is))) = is_plain r _ is tt
 
-  pub obeys_plain : (look : D → View) (x y : Sight D) (r : Reply) (found : Result Event Refusal) → Obeys look found (ledger_of x) (ledger_of y) r → Plain r
+  pub obeys_plain : (look : D → View) (x y : ExecutorView D) (r : Reply) (found : Result Event Refusal) → Obeys look found (ledger_of x) (ledger_of y) r → Plain r
   obeys_plain look x y r (Err why) (refused, same) = is_plain r _ refused tt
   obeys_plain look x y r (Ok e) records = reply_plain e r records.told
 
@@ -96,12 +96,12 @@ module _ {D : Type 0} (z : Sight D) where
   batch_plain false now s cs meant es given = failed_plain meant
 
   module _ (look : D → View) where
-    taken_plain : (b : Bool) (at : ℕ) (c : Command) (x y : Sight D) (r : Reply) (d : Effects)
+    taken_plain : (b : Bool) (at : ℕ) (c : Command) (x y : ExecutorView D) (r : Reply) (d : Effects)
         → TakesWhile b look (input.Request at (asked.Command c)) x y r d → Plain r
     taken_plain true at c x y r d takes = obeys_plain look x y r (event_of x.state at c) takes.serves.0
     taken_plain false at c x y r d (refused, same, none) = is_plain r _ refused tt
 
-    one_plain : (now : ℕ) (e : Exchange) (x y : Sight D) (d : Effects) → IsAt now e → Does look e x y d → AllByRecursion Plain (replies_of e)
+    one_plain : (now : ℕ) (e : Exchange) (x y : ExecutorView D) (d : Effects) → IsAt now e → Does look e x y d → AllByRecursion Plain (replies_of e)
     one_plain now (Took (input.Request at (asked.Command c)) r) x y d is does = (taken_plain x.is_open at c x y r d does, tt)
     one_plain now (Took (input.Request at (asked.Question q)) r) x y d is does = absurd is
     one_plain now (Took (input.Turn at) r) x y d is does = absurd is
@@ -113,14 +113,14 @@ module _ {D : Type 0} (z : Sight D) where
     one_plain now Cleared x y d is does = absurd is
     one_plain now Abandoned x y d is does = absurd is
 
-    calls_plain : (now : ℕ) (es : List Exchange) (x y : Sight D) (d : Effects) → AllByRecursion (IsAt now) es → Calls look x es y d
+    calls_plain : (now : ℕ) (es : List Exchange) (x y : ExecutorView D) (d : Effects) → AllByRecursion (IsAt now) es → Calls look x es y d
         → AllByRecursion Plain (flat_map replies_of es)
     calls_plain now [] x y d at calls = tt
     calls_plain now (e ∷ es) x y d at (mid, first, later, does, calls, is) =
         all_both Plain (replies_of e) (flat_map replies_of es) (one_plain now e x mid first at.0 does)
         (calls_plain now es mid y later at.1 calls)
 
-    pub commands_plain : (now : ℕ) (cs : List Command) (x y : Sight D) (rs : List Reply) → TakesCommands look now cs x y rs
+    pub commands_plain : (now : ℕ) (cs : List Command) (x y : ExecutorView D) (rs : List Reply) → TakesCommands look now cs x y rs
         → AllByRecursion Plain rs
     commands_plain now cs x y rs takes =
         let called = commands_called look now cs rs x y takes in

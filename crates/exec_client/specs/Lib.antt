@@ -5,6 +5,6 @@ pub mod Said
 pub mod ToldTags
 pub mod Behind
 pub mod Tells
-pub mod Heard
+pub mod ClientView
 pub mod MayTell
 pub mod Lives

@@ -1,6 +1,6 @@
 //! A client, to which messages about an executor are sent.
 ghost use Rattle.std.specs.Prelude.{◌≡◌, Bool, IfErr, IsTrue, OnErr, OnOk};
-ghost use Rattle.exec_client.specs.Heard.{Heard, Hears, HearsPart, IsTold};
+ghost use Rattle.exec_client.specs.ClientView.{ClientView, Receives, ReceivesPart, IsTold};
 ghost use Rattle.exec_client.specs.MayTell.{MayTell};
 ghost use Rattle.exec_client.specs.Said.{said_in};
 ghost use Rattle.exec_messages.specs.declared.send.IoFault.TheVariants.{Memory};
@@ -16,7 +16,7 @@ use std::alloc::AllocError;
 /// A client of an executor: whatever the executor did since it was opened is sent by this trait alone.
 pub trait Client<D: Disk + Drop, C: Children + Drop> {
     /// The executor as it was opened, the messages that were sent since, and the bytes that are written of them.
-    ghost heard: { Self → Heard D };
+    ghost client_view: { Self → ClientView D };
 
     /// Whether the allocator refuses memory that a message needs.
     ghost refuses: { Bool };
@@ -29,19 +29,19 @@ pub trait Client<D: Disk + Drop, C: Children + Drop> {
         form: NoticeForm,
         what: &Told,
     ) -> Result<(), IoFault>
-        requires may_tell { MayTell D.view (heard self.old) executor.now what.now }
-        ensures told { IsTold (heard self.old) (heard self.new) (said_in what.now) }
-        ensures hears { OnOk result
-            (Hears form.entry (heard self.old) (heard self.new) (said_in what.now)) }
+        requires may_tell { MayTell D.view (client_view self.old) executor.now what.now }
+        ensures told { IsTold (client_view self.old) (client_view self.new) (said_in what.now) }
+        ensures receives { OnOk result
+            (Receives form.entry (client_view self.old) (client_view self.new) (said_in what.now)) }
         ensures breaks { OnErr result
-            (HearsPart form.entry (heard self.old) (heard self.new) (said_in what.now)) }
+            (ReceivesPart form.entry (client_view self.old) (client_view self.new) (said_in what.now)) }
         ensures memory { IfErr result (λ f. f ≡ Memory → IsTrue Self.refuses) };
 
     /// Notes a line that was read, with its tag if it has one. Its reply repeats the tag, and so does each notice of the call that the line
     /// is given. Replies answer the lines in the order in which these were noted; a reply beyond the noted lines answers none. If memory is
     /// refused, the line counts as one without a tag.
     fn note_tag(&mut self, tag: Option<Tag>) -> Result<(), AllocError>
-        ensures heard { heard self.new ≡ heard self.old }
+        ensures client_view { client_view self.new ≡ client_view self.old }
         ensures memory { OnErr result (IsTrue Self.refuses) };
 
     /// Whether anyone may still read what is sent.

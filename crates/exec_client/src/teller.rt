@@ -3,7 +3,7 @@ ghost use Rattle.std.specs.Prelude.{◌≡◌, [], IfErr, IsTrue, OnErr, OnOk};
 ghost use Rattle.std.specs.Io.KnownBytes.{Appends};
 ghost use Rattle.exec_lines.specs.Prefixes.{AppendsPrefix};
 ghost use Rattle.exec_messages.specs.declared.send.IoFault.TheVariants.{Memory};
-ghost use Rattle.exec_client.specs.Heard.{Heard};
+ghost use Rattle.exec_client.specs.ClientView.{ClientView};
 ghost use Rattle.exec_client.specs.Said.{lines_of, said_in};
 ghost use Rattle.exec_client.specs.ToldTags.{after_told, told_tags};
 
@@ -84,7 +84,7 @@ impl<E, W: Output> Teller<E, W> {
 }
 
 impl<D: Disk + Drop, C: Children + Drop, W: Output> Client<D, C> for Teller<Executor<D, C>, W> {
-    ghost heard = { λ t. record { opened = t.opened.value; told = t.telling.said; written = W.contents t.writer } };
+    ghost client_view = { λ t. record { opened = t.opened.value; told = t.telling.said; written = W.contents t.writer } };
 
     ghost refuses = { ⟦<Global as Grows>⟧.refuses };
 

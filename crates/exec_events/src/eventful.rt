@@ -99,7 +99,7 @@ fn notices_in<'a>(what: &Told<'a>) -> &'a [Notice]
 
 impl<D: Disk + Drop, C: Children + Drop, T: Client<D, C>, W: Write> Client<D, C>
     for Eventful<T, W> {
-    ghost heard = { λ e. T.heard e.client };
+    ghost client_view = { λ e. T.client_view e.client };
 
     ghost refuses = { T.refuses };
 

@@ -2,9 +2,9 @@
 use Rattle.std.proofs.Common.{◌≡◌, ◌∙◌, ap, ℕ, List, [], Option, Result, subst}
 use Rattle.disk_model.specs.View.{View}
 use Rattle.child_model.specs.Children.{ChildrenView}
-use Rattle.executor.specs.Sights.{Sight}
+use Rattle.executor.specs.ExecutorView.{ExecutorView}
 use Rattle.executor.specs.declared.report.Report.{Report}
-use Rattle.exec_client.specs.Heard.{Heard}
+use Rattle.exec_client.specs.ClientView.{ClientView}
 use Rattle.exec_client.specs.Said.{Said}
 use Rattle.exec_faults.specs.declared.fault.Fault.{Fault}
 use Rattle.exec_session.specs.Answers.{Source}
@@ -14,27 +14,27 @@ use Rattle.exec_session.specs.Spots.{at_of}
 use Rattle.exec_trace.specs.Edges.{EdgeView}
 
 -- an edge of which nothing was asked yet, and a client's view, by their fields
-abbrev pub edge_with : {D : Type 0} → Option (List ℕ) → Heard D → EdgeView D
-edge_with left heard = record { left = left; heard = heard; events = [] }
+abbrev pub edge_with : {D : Type 0} → Option (List ℕ) → ClientView D → EdgeView D
+edge_with left client_view = record { left = left; client_view = client_view; events = [] }
 
-abbrev pub heard_with : {D : Type 0} → Sight D → List Said → Option (List ℕ) → Heard D
+abbrev pub heard_with : {D : Type 0} → ExecutorView D → List Said → Option (List ℕ) → ClientView D
 heard_with opened told written = record { opened = opened; told = told; written = written }
 
-heard_is : {D : Type 0} (opened x : Sight D) (told : List Said) (written held : Option (List ℕ)) → opened ≡ x → told ≡ [] → written ≡ held
+heard_is : {D : Type 0} (opened x : ExecutorView D) (told : List Said) (written held : Option (List ℕ)) → opened ≡ x → told ≡ [] → written ≡ held
     → heard_with opened told written ≡ heard_with x [] held
 heard_is opened x told written held e f h =
-    ap (λ (a : Sight _). heard_with a told written) e ∙ (ap (λ (t : List Said). heard_with x t written) f ∙ ap (λ (w : Option (List ℕ)). heard_with x [] w) h)
+    ap (λ (a : ExecutorView _). heard_with a told written) e ∙ (ap (λ (t : List Said). heard_with x t written) f ∙ ap (λ (w : Option (List ℕ)). heard_with x [] w) h)
 
 -- the edge of a session over this executor begins like this
-pub edge_begins : {D : Type 0} (from : EdgeView D) (left : Option (List ℕ)) (opened x : Sight D) (told : List Said)
+pub edge_begins : {D : Type 0} (from : EdgeView D) (left : Option (List ℕ)) (opened x : ExecutorView D) (told : List Said)
     (written held : Option (List ℕ)) → from ≡ edge_with left (heard_with opened told written) → opened ≡ x → told ≡ [] → written ≡ held
     → from ≡ edge_with left (heard_with x [] held)
 edge_begins from left opened x told written held is e f h =
-    is ∙ ap (λ (a : Heard _). edge_with left a) (heard_is opened x told written held e f h)
+    is ∙ ap (λ (a : ClientView _). edge_with left a) (heard_is opened x told written held e f h)
 
 -- how a session ended that began like this, with metadata from this source
 pub ended_from : {D C N S : Type 0} (look : D → View) (tend : C → ChildrenView) (gives : S → Source) (s source : S) (rules : Rules)
-    (report : Report N) (x : Sight D) (from begins edge : EdgeView D) (ended : Result Unit Fault) (disk : D) (children : C)
+    (report : Report N) (x : ExecutorView D) (from begins edge : EdgeView D) (ended : Result Unit Fault) (disk : D) (children : C)
     → s ≡ source → from ≡ begins → Ended look tend (gives s) rules report (at_of x from) edge ended disk children
     → Ended look tend (gives source) rules report (at_of x begins) edge ended disk children
 ended_from {S = S} look tend gives s source rules report x from begins edge ended disk children same is ends =

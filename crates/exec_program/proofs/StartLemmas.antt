@@ -52,7 +52,7 @@ pub run_ends : {D C N : Type 0} (look : D → View) (tend : C → ChildrenView) 
     (p : Position D) (edge : EdgeView D) (ended : Result Unit Fault) (disk : D) (children : C)
     → Ended look tend source rules report p edge ended disk children → IsRunEnd ended
 run_ends look tend source rules report p edge ended disk children ends_so =
-    ends look source rules report p (position (spot ends_so.last edge.heard edge.events) edge.left) ended ends_so.ends
+    ends look source rules report p (position (spot ends_so.last edge.client_view edge.events) edge.left) ended ends_so.ends
 
 -- a session whose report nobody reads does not end because of its arguments, and neither does one that ended as sessions do
 pub unheard_ends : (T : Type 0) (f : Fault) → f ≡ fault.InputOrOutput → IsRunEnd {T = T} (Err f)

@@ -20,7 +20,7 @@ pub waits_in : {F L A S R W H D : Type 0} (asked : Asked F L A S R W H) (look : 
     → asked.orphans folder.now o.orphans o.leave_orphans site s (Some left) → WaitsFor asked look o old new left place
 waits_in asked look o old under new left place folder p s site is found same at waited =
     let reads : OpensAt p s (look old) (look new) = subst (λ (d : _). OpensAt p s (look old) (look d)) (sym same) found in
-    let hears : asked.orphans folder.now o.orphans o.leave_orphans (site_of o) s (Some left) =
+    let receives : asked.orphans folder.now o.orphans o.leave_orphans (site_of o) s (Some left) =
     subst (λ (x : SiteView). asked.orphans folder.now o.orphans o.leave_orphans x s (Some left)) at waited in
-    let waits : WaitsAt asked o folder.now (look old) (look new) (Some left) = record { place = p; state = s; found = reads; waited = hears } in
+    let waits : WaitsAt asked o folder.now (look old) (look new) (Some left) = record { place = p; state = s; found = reads; waited = receives } in
     subst (λ (x : JournalPlace). WaitsFor asked look o old new left x) (sym is) (inl waits)

@@ -4,7 +4,7 @@ use Rattle.std.specs.declared.alloc.Global.{Global}
 use Rattle.disk_model.specs.View.{View}
 use Rattle.child_model.specs.Children.{ChildrenView}
 use Rattle.executor.specs.Openings.{NotOpened, Opened}
-use Rattle.executor.specs.Sights.{Sight}
+use Rattle.executor.specs.ExecutorView.{ExecutorView}
 use Rattle.executor.specs.declared.opening.OpenError.{OpenError}
 use Rattle.executor.specs.declared.report.Report.{Report}
 use Rattle.exec_commands.specs.declared.left.Left.{Left}
@@ -106,7 +106,7 @@ pub record Runs {F L A S R W H D : Type 0} (asked : Asked F L A S R W H) (tend :
   pub disk : D
   pub lives : List Left
   pub now : ℕ
-  pub executor : Sight D
+  pub executor : ExecutorView D
   pub report : Report Global
   pub rules : Rules
   pub edge : EdgeView D
@@ -123,7 +123,7 @@ pub record Runs {F L A S R W H D : Type 0} (asked : Asked F L A S R W H) (tend :
   pub watches : asked.watch (served_folder o) watch
   pub held : IsHeldTo o lives rules
   pub runs : Ended look tend (gives source) rules report
-      (at_of executor (record { left = left reader; heard = record { opened = executor; told = []; written = contents writer }; events = [] }))
+      (at_of executor (record { left = left reader; client_view = record { opened = executor; told = []; written = contents writer }; events = [] }))
       edge ran last_disk last_agents
   pub ends : EndsBy asked o watch ran ended
 

@@ -6,7 +6,7 @@ use Rattle.ocf_types.specs.declared.refusal.Refusal.TheVariants as refusal
 use Rattle.ocf_types.specs.declared.reply.ReplyOf.TheVariants.{Refused}
 use Rattle.disk_model.specs.View.{View}
 use Rattle.executor.specs.Commands.{Serves}
-use Rattle.executor.specs.Sights.{Sight}
+use Rattle.executor.specs.ExecutorView.{ExecutorView}
 use Rattle.exec_commands.specs.declared.line.Line.{Line}
 use Rattle.exec_commands.specs.declared.line.Line.TheVariants as line
 use Rattle.exec_commands.specs.declared.reply.LineReply.{LineReply}
@@ -51,20 +51,20 @@ module _ {D : Type 0} (look : D → View) (source : Source) (rules : Rules) wher
     }
 
     -- a request, at the clock reading
-    pub request_answered : (now : ℕ) (request : Request) (x r y : Sight D) (e : EdgeView D) (p m : Position D) (q : Spot D) (given : Reply)
+    pub request_answered : (now : ℕ) (request : Request) (x r y : ExecutorView D) (e : EdgeView D) (p m : Position D) (q : Spot D) (given : Reply)
         → m ≡ noted p (Shown now) → at_of x e ≡ m → p.at.executor.is_open ≡ true → MakesRoom look rules now x r
         → (r.is_open ≡ true → Serves look now request r y given) → (r.is_open ≡ false → (given ≡ Refused refusal.Disk) × (y ≡ r))
-        → (y.is_open ≡ false ↔ (given ≡ Refused refusal.Disk)) → tells_so (spot y e.heard e.events) q (Answered (answer.Request given) ∷ [])
+        → (y.is_open ≡ false ↔ (given ≡ Refused refusal.Disk)) → tells_so (spot y e.client_view e.events) q (Answered (answer.Request given) ∷ [])
         → AnswersSo tells_so look source rules (Ok (line.Request request)) p.at q
     request_answered now request x r y e p m q given is_noted is is_open room serves fails closes tells =
         let is_p = is ∙ is_noted in
-        open_answered (Ok (line.Request request)) (answer.Request given) p.at (spot y e.heard e.events) q is_open (record {
+        open_answered (Ok (line.Request request)) (answer.Request given) p.at (spot y e.client_view e.events) q is_open (record {
           now = now;
           middle = r;
           given = given;
           told = refl;
           shown = ap (λ (P : Position D). moved P.at y) is_p;
-          room = subst (λ (z : Sight D). MakesRoom look rules now z r) (ap (λ (P : Position D). P.at.executor) is_p) room;
+          room = subst (λ (z : ExecutorView D). MakesRoom look rules now z r) (ap (λ (P : Position D). P.at.executor) is_p) room;
           serves = serves;
           fails = fails;
           closes = closes;

@@ -9,7 +9,7 @@ use Rattle.ocf_types.specs.declared.refusal.Refusal.TheVariants.{UnknownOp}
 use Rattle.ocf_types.specs.declared.reply.ReplyOf.TheVariants.{Refused}
 use Rattle.ocf_types.specs.declared.reply.TurnEnd.{TurnEnd}
 use Rattle.disk_model.specs.View.{View}
-use Rattle.executor.specs.Sights.{Sight}
+use Rattle.executor.specs.ExecutorView.{ExecutorView}
 use Rattle.executor.specs.TurnCalls.{with_empty_book}
 use Rattle.exec_commands.specs.declared.ends.DrainEnd.{DrainEnd}
 use Rattle.exec_commands.specs.declared.ends.DrainEnd.TheVariants.{Turn}
@@ -19,7 +19,7 @@ use Rattle.exec_commands.specs.declared.notice.NoticeForm.{NoticeForm}
 use Rattle.exec_commands.specs.declared.reply.LineReply.{LineReply}
 use Rattle.exec_commands.specs.declared.reply.LineReply.TheVariants as answer
 use Rattle.exec_client.specs.Behind.{nothing}
-use Rattle.exec_client.specs.Heard.{Heard, IsTold}
+use Rattle.exec_client.specs.ClientView.{ClientView, IsTold}
 use Rattle.exec_client.specs.MayTell.{StandsBehind}
 use Rattle.exec_client.specs.Said.{Answered, Said, answered}
 use Rattle.exec_client.specs.Tells.{noticed}
@@ -42,7 +42,7 @@ use Rattle.exec_session.proofs.TellLemmas.{Plain, cleared_room, closed_plain, is
 use Rattle.exec_session.proofs.TellLemmas.{together_stand, turn_behind_room}
 
 -- a tidy by a call, or none, and no message
-room_stands : {D : Type 0} (look : D → View) (rules : Rules) (now : ℕ) (x y : Sight D) → x.is_open ≡ true
+room_stands : {D : Type 0} (look : D → View) (rules : Rules) (now : ℕ) (x y : ExecutorView D) → x.is_open ≡ true
     → MakesRoom look rules now x y → StandsBehind look x y []
 room_stands look rules now x y is_open room = by (is_tidy_due rules x now room.pace) refl
   where
@@ -58,7 +58,7 @@ module _ {D : Type 0} (look : D → View) where
   here_still : (p : Spot D) → Goes p p
   here_still p = record {
     said = [];
-    told = (refl, sym (append-nil p.heard.told));
+    told = (refl, sym (append-nil p.client_view.told));
     stands = none_stands look p.executor p.executor [] refl nothing;
   }
 
@@ -70,40 +70,40 @@ module _ {D : Type 0} (look : D → View) where
     said = one.said ++ two.said;
     told = (
       two.told.0 ∙ one.told.0,
-      two.told.1 ∙ ap (λ (ss : List Said). ss ++ two.said) one.told.1 ∙ append_assoc p.heard.told one.said two.said,
+      two.told.1 ∙ ap (λ (ss : List Said). ss ++ two.said) one.told.1 ∙ append_assoc p.client_view.told one.said two.said,
     );
     stands = both_stand look p.executor m.executor q.executor one.said two.said one.stands two.stands;
   }
 
-  told_go : (p q : Spot D) (more : List Said) → IsTold p.heard q.heard more → StandsBehind look p.executor q.executor more → Goes p q
+  told_go : (p q : Spot D) (more : List Said) → IsTold p.client_view q.client_view more → StandsBehind look p.executor q.executor more → Goes p q
   told_go p q more told stands = record { said = more; told = told; stands = stands }
 
   -- no message
-  quiet_go : (p q : Spot D) → q.heard ≡ p.heard → StandsBehind look p.executor q.executor [] → Goes p q
+  quiet_go : (p q : Spot D) → q.client_view ≡ p.client_view → StandsBehind look p.executor q.executor [] → Goes p q
   quiet_go p q same stands =
-      told_go p q [] (subst (λ (h : Heard D). IsTold p.heard h []) (sym same) (refl, sym (append-nil p.heard.told))) stands
+      told_go p q [] (subst (λ (h : ClientView D). IsTold p.client_view h []) (sym same) (refl, sym (append-nil p.client_view.told))) stands
 
   -- no call: one question at most
-  unmoved : (p q : Spot D) → q.executor ≡ p.executor → q.heard ≡ p.heard → Goes p q
-  unmoved p q same heard = quiet_go p q heard (none_stands look p.executor q.executor [] same nothing)
+  unmoved : (p q : Spot D) → q.executor ≡ p.executor → q.client_view ≡ p.client_view → Goes p q
+  unmoved p q same client_view = quiet_go p q client_view (none_stands look p.executor q.executor [] same nothing)
 
   -- a reply that acknowledges no command
   plain_go : (form : NoticeForm) (s q : Spot D) (reply : LineReply) → Plain s.executor reply → Tells form s q (Answered reply ∷ [])
       → Goes s q
   plain_go form s q reply plain tells =
-      told_go s q (Answered reply ∷ []) tells.hears.told
+      told_go s q (Answered reply ∷ []) tells.receives.told
       (none_stands look s.executor q.executor (Answered reply ∷ []) tells.executor (says_none (Answered reply) plain.0))
 
   -- messages of an executor that went on by calls
-  tells_go : (form : NoticeForm) (p s q : Spot D) (more : List Said) → s.heard ≡ p.heard → StandsBehind look p.executor s.executor more
+  tells_go : (form : NoticeForm) (p s q : Spot D) (more : List Said) → s.client_view ≡ p.client_view → StandsBehind look p.executor s.executor more
       → Tells form s q more → Goes p q
   tells_go form p s q more same stands tells =
-      told_go p q more (subst (λ (h : Heard D). IsTold h q.heard more) same tells.hears.told)
-      (subst (λ (x : Sight D). StandsBehind look p.executor x more) (sym tells.executor) stands)
+      told_go p q more (subst (λ (h : ClientView D). IsTold h q.client_view more) same tells.receives.told)
+      (subst (λ (x : ExecutorView D). StandsBehind look p.executor x more) (sym tells.executor) stands)
 
   -- a pause
-  pauses_go : (since now : ℕ) (heard : Bool) (p q : Spot D) → Pauses since now heard p q → Goes p q
-  pauses_go since now heard p q (micros, le, same) = unmoved p q (ap (λ (s : Spot D). s.executor) same) (ap (λ (s : Spot D). s.heard) same)
+  pauses_go : (since now : ℕ) (client_view : Bool) (p q : Spot D) → Pauses since now client_view p q → Goes p q
+  pauses_go since now client_view p q (micros, le, same) = unmoved p q (ap (λ (s : Spot D). s.executor) same) (ap (λ (s : Spot D). s.client_view) same)
 
   rests_same : (start now : ℕ) (p q : Spot D) (after : ℕ) → Rests start now p q after → q.executor ≡ p.executor
   rests_same start now p q after (m, (micros, le, same), shown) =
@@ -112,7 +112,7 @@ module _ {D : Type 0} (look : D → View) where
   rests_go : (start now : ℕ) (p q : Spot D) (after : ℕ) → Rests start now p q after → Goes p q
   rests_go start now p q after (m, paused, shown) =
       both_go p m q (pauses_go start now true p m paused)
-      (unmoved m q (ap (λ (s : Spot D). s.executor) shown) (ap (λ (s : Spot D). s.heard) shown))
+      (unmoved m q (ap (λ (s : Spot D). s.executor) shown) (ap (λ (s : Spot D). s.client_view) shown))
 
   module _ (rules : Rules) where
     -- a request, after a due tidy
@@ -131,16 +131,16 @@ module _ {D : Type 0} (look : D → View) where
             serves.closes
         by false closed =
             let (refused, same) = serves.fails closed in
-            subst (λ (z : Sight D). StandsBehind look p.executor z (answered serves.given ∷ [])) (sym same)
+            subst (λ (z : ExecutorView D). StandsBehind look p.executor z (answered serves.given ∷ [])) (sym same)
             (refused_stand look p.executor serves.middle 1 (serves.given ∷ []) (ap (λ (r : Reply). r ∷ []) refused) room)
 
     -- a group commit
     together_goes : (commands : List Command) (p q : Spot D) → p.executor.is_open ≡ true → AnswersTogether look rules commands p q
         → Goes p q
     together_goes commands p q is_open together =
-        told_go p q (map answered together.given) together.tells.hears.told (by middle.is_open refl)
+        told_go p q (map answered together.given) together.tells.receives.told (by middle.is_open refl)
       where
-        middle : Sight D
+        middle : ExecutorView D
         middle = together.serves.middle
 
         room : StandsBehind look p.executor middle []
@@ -152,14 +152,14 @@ module _ {D : Type 0} (look : D → View) where
             (together.serves.takes open_still)
         by false closed =
             let (refused, same) = together.serves.fails closed in
-            subst (λ (z : Sight D). StandsBehind look p.executor z (map answered together.given)) (sym same)
+            subst (λ (z : ExecutorView D). StandsBehind look p.executor z (map answered together.given)) (sym same)
             (refused_stand look p.executor middle (length commands) together.given refused room)
 
     -- a turn of a drain
     turn_goes : (now : ℕ) (p q : Spot D) (end : TurnEnd) → p.executor.is_open ≡ true → MakesTurn look rules now p q end → Goes p q
     turn_goes now p q end is_open made = by made.middle.is_open refl
       where
-        cleared : Sight D
+        cleared : ExecutorView D
         cleared = with_empty_book p.executor
 
         room : StandsBehind look p.executor made.middle []
@@ -167,12 +167,12 @@ module _ {D : Type 0} (look : D → View) where
 
         by : (b : Bool) → made.middle.is_open ≡ b → Goes p q
         by true open_still =
-            told_go p q (noticed q.executor) (made.tells open_still).hears.told
+            told_go p q (noticed q.executor) (made.tells open_still).receives.told
             (turn_behind_room look now p.executor made.middle q.executor end room open_still (made.takes open_still))
         by false closed =
             let (ended, same) = made.fails closed in
-            quiet_go p q (ap (λ (s : Spot D). s.heard) same)
-            (subst (λ (z : Sight D). StandsBehind look p.executor z []) (sym (ap (λ (s : Spot D). s.executor) same)) room)
+            quiet_go p q (ap (λ (s : Spot D). s.client_view) same)
+            (subst (λ (z : ExecutorView D). StandsBehind look p.executor z []) (sym (ap (λ (s : Spot D). s.executor) same)) room)
 
     -- turns after which it goes on, each from an executor that is still open
     pub turns_go : (t : Terms) (start : ℕ) (p : Spot D) (turns now : ℕ) (q : Spot D)
@@ -183,7 +183,7 @@ module _ {D : Type 0} (look : D → View) where
         let so_far = turns_go t start p n before m is_open gone_on in
         let idle = not (any_busy told.executor.state) in (
           both_go p m q so_far.0 (both_go m told q (turn_goes before m told end so_far.1 made) (rests_go start before told q after rests)),
-          ap (λ (x : Sight D). x.is_open) (rests_same start before told q after rests)
+          ap (λ (x : ExecutorView D). x.is_open) (rests_same start before told q after rests)
               ∙ still_open t (n + 1) after end idle told.executor.is_open (closes look rules before m told end made) on,
         )
 
@@ -200,7 +200,7 @@ module _ {D : Type 0} (look : D → View) where
         → p.executor.is_open ≡ true → IsOpenReply look source rules p s found reply → Tells rules.form s q (Answered reply ∷ [])
         → Goes p q
     open_goes source p s q (Ok (line.Request request)) reply is_open serves tells =
-        tells_go rules.form p s q (Answered reply ∷ []) (ap (λ (t : Spot D). t.heard) serves.shown)
+        tells_go rules.form p s q (Answered reply ∷ []) (ap (λ (t : Spot D). t.client_view) serves.shown)
         (request_goes request p s reply is_open serves) tells
     open_goes source p s q (Ok (line.Drain limit)) reply is_open (now, end, is, drains) tells =
         both_go p s q (both_go p (behind p (Shown now)) s (unmoved p (behind p (Shown now)) refl refl)
@@ -211,7 +211,7 @@ module _ {D : Type 0} (look : D → View) where
         (drain_goes _ _ (behind p (Shown now)) s end is_open drains))
         (plain_go rules.form s q reply (is_plain s.executor reply (answer.Drain end) is (refl, tt)) tells)
     open_goes source p s q (Ok line.Tidy) reply is_open (end, is, tidies, same) tells =
-        both_go p s q (quiet_go p s (ap (λ (t : Spot D). t.heard) same) (tidy_stands look p.executor s.executor end is_open tidies))
+        both_go p s q (quiet_go p s (ap (λ (t : Spot D). t.client_view) same) (tidy_stands look p.executor s.executor end is_open tidies))
         (plain_go rules.form s q reply (is_plain s.executor reply (answer.Tidy end) is (refl, tt)) tells)
     open_goes source p s q (Ok line.Leave) reply is_open (is, same) tells =
         both_go p s q (stays p s same)
@@ -279,7 +279,7 @@ module _ {D : Type 0} (look : D → View) where
     winds_go p _ (more_winding now m told q winds one is_open paused) =
         both_go p m q (winds_go p m winds)
         (both_go m told q
-        (told_go m told (noticed told.executor) one.heard.tells.hears.told
-        (finish_told look one.heard.now m.executor (with_empty_book m.executor) told.executor one.heard.end refl one.is_open
-        one.heard.takes))
+        (told_go m told (noticed told.executor) one.client_view.tells.receives.told
+        (finish_told look one.client_view.now m.executor (with_empty_book m.executor) told.executor one.client_view.end refl one.is_open
+        one.client_view.takes))
         (pauses_go 0 now true told q paused))

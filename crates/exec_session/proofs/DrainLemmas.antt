@@ -4,7 +4,7 @@ use Rattle.ocf_types.specs.Boot.{any_busy}
 use Rattle.ocf_types.specs.declared.reply.TurnEnd.{TurnEnd}
 use Rattle.ocf_types.specs.declared.reply.TurnEnd.TheVariants as turn_end
 use Rattle.disk_model.specs.View.{View}
-use Rattle.executor.specs.Sights.{Sight}
+use Rattle.executor.specs.ExecutorView.{ExecutorView}
 use Rattle.exec_commands.specs.declared.ends.DrainEnd.{DrainEnd}
 use Rattle.exec_trace.specs.Edges.{rest_events}
 use Rattle.exec_trace.specs.Events.{last_shown}
@@ -53,24 +53,24 @@ short_since before since now micros le (inl short) = inl short
 short_since before since now micros le (inr (long, part)) = inr (long, omega (arith, le, part))
 
 module _ {D : Type 0} where
-  pub earlier : (before since now : ℕ) (heard : Bool) (p q : Spot D) → before ≤ since → Pauses since now heard p q
-      → Pauses before now heard p q
-  earlier before since now heard p q le (micros, short, is) = (micros, short_since before since now micros le short, is)
+  pub earlier : (before since now : ℕ) (client_view : Bool) (p q : Spot D) → before ≤ since → Pauses since now client_view p q
+      → Pauses before now client_view p q
+  earlier before since now client_view p q le (micros, short, is) = (micros, short_since before since now micros le short, is)
 
-  pub at_moment : (since now now' : ℕ) (heard : Bool) (p q : Spot D) → now ≡ now' → Pauses since now heard p q → Pauses since now' heard p q
-  at_moment since now now' heard p q same paused = subst (λ (n : ℕ). Pauses since n heard p q) same paused
+  pub at_moment : (since now now' : ℕ) (client_view : Bool) (p q : Spot D) → now ≡ now' → Pauses since now client_view p q → Pauses since now' client_view p q
+  at_moment since now now' client_view p q same paused = subst (λ (n : ℕ). Pauses since n client_view p q) same paused
 
   -- a pause, a client that still reads, and a clock reading
-  pub rests : (start since now : ℕ) (told : Spot D) (mid q : Position D) (heard : Bool) (after : ℕ) → start ≤ since → heard ≡ true
-      → Pauses since now heard told mid.at → q ≡ noted mid (Shown after) → Rests start now told q.at after
-  rests start since now told mid q heard after le hears paused is = (
+  pub rests : (start since now : ℕ) (told : Spot D) (mid q : Position D) (client_view : Bool) (after : ℕ) → start ≤ since → client_view ≡ true
+      → Pauses since now client_view told mid.at → q ≡ noted mid (Shown after) → Rests start now told q.at after
+  rests start since now told mid q client_view after le receives paused is = (
     mid.at,
-    earlier start since now true told mid.at le (subst (λ (b : Bool). Pauses since now b told mid.at) hears paused),
+    earlier start since now true told mid.at le (subst (λ (b : Bool). Pauses since now b told mid.at) receives paused),
     ap (λ (P : Position D). P.at) is,
   )
 
-  pub paused_executor : (since now : ℕ) (heard : Bool) (p q : Spot D) → Pauses since now heard p q → q.executor ≡ p.executor
-  paused_executor since now heard p q (micros, short, is) = ap (λ (s : Spot D). s.executor) is
+  pub paused_executor : (since now : ℕ) (client_view : Bool) (p q : Spot D) → Pauses since now client_view p q → q.executor ≡ p.executor
+  paused_executor since now client_view p q (micros, short, is) = ap (λ (s : Spot D). s.executor) is
 
   pub rests_executor : (start now : ℕ) (told q : Spot D) (after : ℕ) → Rests start now told q after → q.executor ≡ told.executor
   rests_executor start now told q after (m, paused, is) =
@@ -80,26 +80,26 @@ module _ {D : Type 0} where
   rests_shown start now told q after (m, paused, is) = ap (λ (s : Spot D). last_shown s.events) is ∙ shown_last m.events after
 
   -- a pause adds an event
-  pub paused_longer : (since now : ℕ) (heard : Bool) (p q : Spot D) → Pauses since now heard p q → length p.events + 1 ≤ length q.events
-  paused_longer since now heard p q (micros, short, is) =
+  pub paused_longer : (since now : ℕ) (client_view : Bool) (p q : Spot D) → Pauses since now client_view p q → length p.events + 1 ≤ length q.events
+  paused_longer since now client_view p q (micros, short, is) =
       subst (λ (s : Spot D). length p.events + 1 ≤ length s.events) (sym is)
-      (let one = longer p.events (rest_events micros) in omega (arith, one, length-append (p.events ++ rest_events micros) (Asked heard ∷ [])))
+      (let one = longer p.events (rest_events micros) in omega (arith, one, length-append (p.events ++ rest_events micros) (Asked client_view ∷ [])))
 
   -- where nobody reads the output any more, that is the last event
-  pub unheard_cause : (since now : ℕ) (heard : Bool) (p q : Spot D) → heard ≡ false → Pauses since now heard p q → MayBreakOff q.events
-  unheard_cause since now heard p q gone (micros, short, is) =
+  pub unheard_cause : (since now : ℕ) (client_view : Bool) (p q : Spot D) → client_view ≡ false → Pauses since now client_view p q → MayBreakOff q.events
+  unheard_cause since now client_view p q gone (micros, short, is) =
       unasked (p.events ++ rest_events micros) q.events
       (ap (λ (s : Spot D). s.events) is ∙ ap (λ (b : Bool). (p.events ++ rest_events micros) ++ Asked b ∷ []) gone)
 
-  pub unheard_pause : (before since now : ℕ) (heard : Bool) (p q : Spot D) → before ≤ since → heard ≡ false → Pauses since now heard p q
+  pub unheard_pause : (before since now : ℕ) (client_view : Bool) (p q : Spot D) → before ≤ since → client_view ≡ false → Pauses since now client_view p q
       → Pauses before now false p q
-  unheard_pause before since now heard p q le gone paused =
+  unheard_pause before since now client_view p q le gone paused =
       earlier before since now false p q le (subst (λ (b : Bool). Pauses since now b p q) gone paused)
 
-  pub heard_pause : (before since now : ℕ) (heard : Bool) (p q : Spot D) → before ≤ since → heard ≡ true → Pauses since now heard p q
+  pub heard_pause : (before since now : ℕ) (client_view : Bool) (p q : Spot D) → before ≤ since → client_view ≡ true → Pauses since now client_view p q
       → Pauses before now true p q
-  heard_pause before since now heard p q le hears paused =
-      earlier before since now true p q le (subst (λ (b : Bool). Pauses since now b p q) hears paused)
+  heard_pause before since now client_view p q le receives paused =
+      earlier before since now true p q le (subst (λ (b : Bool). Pauses since now b p q) receives paused)
 
   -- the end of a drain is that of the executor after the turn
   pub told_end_at : (t : Terms) (turns now : ℕ) (end : TurnEnd) (told q : Spot D) (asked : Bool) (given found : Option DrainEnd)
@@ -107,4 +107,4 @@ module _ {D : Type 0} where
       → end_at t turns now end told.executor ≡ found
   told_end_at t turns now end told q asked given found same is was so =
       told_end t turns now end (not (any_busy told.executor.state)) asked given found is
-      (was ∙ ap (λ (x : Sight D). not (any_busy x.state)) same) so
+      (was ∙ ap (λ (x : ExecutorView D). not (any_busy x.state)) same) so

@@ -3,9 +3,9 @@ use Rattle.std.proofs.Common.{◌≡◌, ◌≤◌, ℕ, Bool, true, false, List
 use Rattle.std.proofs.lemmas.List.{append-nil}
 use Rattle.std.specs.Prelude.{is_ok}
 use Rattle.exec_commands.specs.declared.notice.NoticeForm.{NoticeForm}
-use Rattle.exec_client.specs.Heard.{Hears, HearsPart}
+use Rattle.exec_client.specs.ClientView.{Receives, ReceivesPart}
 use Rattle.exec_client.specs.Said.{Said}
-use Rattle.executor.specs.Sights.{Sight}
+use Rattle.executor.specs.ExecutorView.{ExecutorView}
 use Rattle.exec_trace.specs.Edges.{EdgeView, rest_events}
 use Rattle.exec_trace.specs.Events.{later_of, last_shown}
 use Rattle.exec_trace.specs.declared.event.IoEvent.{IoEvent}
@@ -21,7 +21,7 @@ shown_last (Peeked has_line ∷ es) now = shown_last es now
 shown_last (Read done ∷ es) now = shown_last es now
 shown_last (Rested micros ∷ es) now = shown_last es now
 shown_last (Sent done ∷ es) now = shown_last es now
-shown_last (Asked heard ∷ es) now = shown_last es now
+shown_last (Asked client_view ∷ es) now = shown_last es now
 
 pub longer : (xs ys : List IoEvent) → length xs ≤ length (xs ++ ys)
 longer xs ys = omega (arith, length-append xs ys)
@@ -35,7 +35,7 @@ unasked es es' is = inl (record { before = es; last = Asked false; is_last = is;
 
 module _ {D : Type 0} where
   -- only the executor changed
-  pub moved_keeps : (x y : Sight D) (e : EdgeView D) (p : Position D) → at_of x e ≡ p → Keeps p (at_of y e)
+  pub moved_keeps : (x y : ExecutorView D) (e : EdgeView D) (p : Position D) → at_of x e ≡ p → Keeps p (at_of y e)
   moved_keeps x y e p is =
       subst (λ (P : Position D). Keeps P (at_of y e)) is
       (record { opened = refl; later = []; grows = sym (append-nil e.events) }, refl)
@@ -66,46 +66,46 @@ module _ {D : Type 0} where
   pub was_noted : (p q : Position D) (event : IoEvent) → q ≡ noted p event → Keeps p q
   was_noted p q event is = same_keeps p q (noted p event) is (noted_keeps p event)
 
-  pub pause_lasts : (since now : ℕ) (heard : Bool) (p q : Spot D) → Pauses since now heard p q → Lasts p q
-  pause_lasts since now heard p q (micros, short, is) =
+  pub pause_lasts : (since now : ℕ) (client_view : Bool) (p q : Spot D) → Pauses since now client_view p q → Lasts p q
+  pause_lasts since now client_view p q (micros, short, is) =
       subst (λ (r : Spot D). Lasts p r) (sym is) (record {
         opened = refl;
-        later = rest_events micros ++ Asked heard ∷ [];
-        grows = append_assoc p.events (rest_events micros) (Asked heard ∷ []);
+        later = rest_events micros ++ Asked client_view ∷ [];
+        grows = append_assoc p.events (rest_events micros) (Asked client_view ∷ []);
       })
 
-  pub pause_keeps : (since now : ℕ) (heard : Bool) (p q : Position D) → q.left ≡ p.left → Pauses since now heard p.at q.at → Keeps p q
-  pause_keeps since now heard p q left paused = (pause_lasts since now heard p.at q.at paused, left)
+  pub pause_keeps : (since now : ℕ) (client_view : Bool) (p q : Position D) → q.left ≡ p.left → Pauses since now client_view p.at q.at → Keeps p q
+  pause_keeps since now client_view p q left paused = (pause_lasts since now client_view p.at q.at paused, left)
 
   pub told_lasts : (form : NoticeForm) (p q : Spot D) (said : List Said) → Tells form p q said → Lasts p q
-  told_lasts form p q said tells = record { opened = tells.hears.told.0; later = Sent true ∷ []; grows = tells.events }
+  told_lasts form p q said tells = record { opened = tells.receives.told.0; later = Sent true ∷ []; grows = tells.events }
 
   pub part_lasts : (form : NoticeForm) (p q : Spot D) (said : List Said) → TellsPart form p q said → Lasts p q
-  part_lasts form p q said tells = record { opened = tells.hears.told.0; later = Sent false ∷ []; grows = tells.events }
+  part_lasts form p q said tells = record { opened = tells.receives.told.0; later = Sent false ∷ []; grows = tells.events }
 
   -- the messages of an edge to its client, from this view of the executor
-  module _ (form : NoticeForm) (said : List Said) (x : Sight D) (e e' : EdgeView D) where
+  module _ (form : NoticeForm) (said : List Said) (x : ExecutorView D) (e e' : EdgeView D) where
     abbrev Old : Spot D
-    Old = spot x e.heard e.events
+    Old = spot x e.client_view e.events
 
     abbrev New : Spot D
-    New = spot x e'.heard e'.events
+    New = spot x e'.client_view e'.events
 
-    pub sends : {E : Type 0} (r : Result Unit E) → OnOk r (Hears form e.heard e'.heard said)
+    pub sends : {E : Type 0} (r : Result Unit E) → OnOk r (Receives form e.client_view e'.client_view said)
         → e'.events ≡ e.events ++ Sent (is_ok r) ∷ [] → OnOk r (Tells form Old New said)
-    sends (Ok done) hears is = record { executor = refl; hears = hears; events = is }
-    sends (Err fault) hears is = tt
+    sends (Ok done) receives is = record { executor = refl; receives = receives; events = is }
+    sends (Err fault) receives is = tt
 
-    pub sends_part : {E : Type 0} (r : Result Unit E) → OnErr r (HearsPart form e.heard e'.heard said)
+    pub sends_part : {E : Type 0} (r : Result Unit E) → OnErr r (ReceivesPart form e.client_view e'.client_view said)
         → e'.events ≡ e.events ++ Sent (is_ok r) ∷ [] → OnErr r (TellsPart form Old New said)
-    sends_part (Ok done) hears is = tt
-    sends_part (Err fault) hears is = record { executor = refl; hears = hears; events = is }
+    sends_part (Ok done) receives is = tt
+    sends_part (Err fault) receives is = record { executor = refl; receives = receives; events = is }
 
     pub send_cause : {E : Type 0} (r : Result Unit E) → e'.events ≡ e.events ++ Sent (is_ok r) ∷ [] → OnErr r (MayBreakOff e'.events)
     send_cause (Ok done) is = tt
     send_cause (Err fault) is = unsent e.events e'.events is
 
-    pub send_keeps : (r : Bool) (p : Position D) (y : Sight D) → at_of y e ≡ p → e'.heard.opened ≡ e.heard.opened → e'.left ≡ e.left
+    pub send_keeps : (r : Bool) (p : Position D) (y : ExecutorView D) → at_of y e ≡ p → e'.client_view.opened ≡ e.client_view.opened → e'.left ≡ e.left
         → e'.events ≡ e.events ++ Sent r ∷ [] → Keeps p (at_of x e')
     send_keeps r p y is told left events =
         subst (λ (P : Position D). Keeps P (at_of x e')) is (record { opened = told; later = Sent r ∷ []; grows = events }, left)

@@ -66,7 +66,7 @@ module _ {D : Type 0} where
 
   pub lasts_event : (p q : Spot D) (event : IoEvent) → q ≡ behind p event → Lasts p q
   lasts_event p q event same = record {
-    opened = ap (λ (s : Spot D). s.heard.opened) same;
+    opened = ap (λ (s : Spot D). s.client_view.opened) same;
     later = event ∷ [];
     grows = ap (λ (s : Spot D). s.events) same;
   }

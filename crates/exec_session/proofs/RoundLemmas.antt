@@ -7,7 +7,7 @@ use Rattle.ocf_types.specs.Kinds.{Command}
 use Rattle.ocf_types.specs.declared.reply.TurnEnd.{TurnEnd}
 use Rattle.ocf_types.specs.declared.reply.TurnEnd.TheVariants.{Done}
 use Rattle.disk_model.specs.View.{View}
-use Rattle.executor.specs.Sights.{Sight}
+use Rattle.executor.specs.ExecutorView.{ExecutorView}
 use Rattle.exec_trace.specs.declared.event.IoEvent.{IoEvent}
 use Rattle.exec_trace.specs.declared.event.IoEvent.TheVariants.{Looked, Rested}
 use Rattle.exec_session.specs.Answers.{Source}
@@ -47,7 +47,7 @@ pub turns_serve : (way : Way) → way ≡ Serve → MakesTurns way
 turns_serve Run is = absurd cc
 turns_serve Serve is = tt
 
-pub open_serves : {D : Type 0} (way : Way) (x : Sight D) → way ≡ Serve → MayGoOn way x → x.is_open ≡ true
+pub open_serves : {D : Type 0} (way : Way) (x : ExecutorView D) → way ≡ Serve → MayGoOn way x → x.is_open ≡ true
 open_serves Run x is goes_on = absurd cc
 open_serves Serve x is goes_on = goes_on
 
@@ -78,7 +78,7 @@ position_is {D} q s left same same' =
     ap (λ (t : Spot D). position t q.left) same ∙ ap (λ (l : Option (List ℕ)). position s l) same'
 
 -- at most as long as the wait may be
-pub pause_less : {D : Type 0} (since now : ℕ) (x : Sight D) (es : List IoEvent) (less micros : ℕ) → less ≤ micros
+pub pause_less : {D : Type 0} (since now : ℕ) (x : ExecutorView D) (es : List IoEvent) (less micros : ℕ) → less ≤ micros
     → MayPause since now x es micros → MayPause since now x es less
 pause_less since now x es less micros le (inl (inl short)) = inl (inl (omega (arith, le, short)))
 pause_less since now x es less micros le (inl (inr (long, part))) = inl (inr (omega (arith, le, long), omega (arith, le, part)))
@@ -96,12 +96,12 @@ not_busy true is = absurd cc
 not_busy false is = refl
 
 -- until the first monitor is due, or the longest wait where there is none
-pub due_some : {D : Type 0} (x : Sight D) (es : List IoEvent) (now due micros : ℕ) → any_busy x.state ≡ false → last_shown es ≡ Some now
+pub due_some : {D : Type 0} (x : ExecutorView D) (es : List IoEvent) (now due micros : ℕ) → any_busy x.state ≡ false → last_shown es ≡ Some now
     → micros ≤ 1000 * 1000 → 1000 * now + micros ≤ 1000 * due → IsFirstMoment (all_pairs x.monitors) (Some due) → IsUntilDue x es micros
 due_some x es now due micros idle shown brief until (call, at, least) =
     record { idle = idle; moment = now; shown = shown; brief = brief; before = λ k d lt. omega (arith, until, least k d lt) }
 
-pub due_none : {D : Type 0} (x : Sight D) (es : List IoEvent) (now micros : ℕ) → any_busy x.state ≡ false → last_shown es ≡ Some now
+pub due_none : {D : Type 0} (x : ExecutorView D) (es : List IoEvent) (now micros : ℕ) → any_busy x.state ≡ false → last_shown es ≡ Some now
     → micros ≤ 1000 * 1000 → IsFirstMoment (all_pairs x.monitors) None → IsUntilDue x es micros
 due_none x es now micros idle shown brief none =
     record { idle = idle; moment = now; shown = shown; brief = brief; before = λ k d lt. omega (arith, ap length none, lt) }
@@ -134,14 +134,14 @@ module _ {D : Type 0} (since now : ℕ) where
   waits_rest p m q micros may waits same = by (nat_lt 0 micros) refl
     where
       at : Bool → Position D
-      at b = position (spot m.at.executor m.at.heard (m.at.events ++ (if b then Rested micros ∷ [] else []))) m.left
+      at b = position (spot m.at.executor m.at.client_view (m.at.events ++ (if b then Rested micros ∷ [] else []))) m.left
 
       by : (b : Bool) → nat_lt 0 micros ≡ b → Waited p q
       by true is = waits_more p m q (Rested micros) waits may (same ∙ ap at is)
       by false is =
           subst (λ (w : Position D). Waited p w)
           (sym (same ∙ ap at is
-          ∙ ap (λ (es : List IoEvent). position (spot m.at.executor m.at.heard es) m.left) (append-nil m.at.events))) waits
+          ∙ ap (λ (es : List IoEvent). position (spot m.at.executor m.at.client_view es) m.left) (append-nil m.at.events))) waits
 
 -- a poll that a wait may make
 pub wait_looked : {D : Type 0} (way : Way) (p q : Position D) (pending : Pending) → LooksOnce p q → MayWait way (midway p pending)

@@ -13,14 +13,14 @@ use Rattle.ocf_types.specs.declared.reply.TurnEnd.{TurnEnd}
 use Rattle.disk_model.specs.View.{View}
 use Rattle.executor.specs.Commands.{Serves, ServesOpen, ServesWhile}
 use Rattle.executor.specs.CommandBatches.{TakesCommands}
-use Rattle.executor.specs.Sights.{Sight}
+use Rattle.executor.specs.ExecutorView.{ExecutorView}
 use Rattle.executor.specs.TurnCalls.{TakesTurn, with_empty_book}
 use Rattle.exec_commands.specs.declared.line.Line.{Line}
 use Rattle.exec_commands.specs.declared.line.Line.TheVariants as line
 use Rattle.exec_commands.specs.declared.reply.LineReply.{LineReply}
 use Rattle.exec_commands.specs.declared.reply.LineReply.TheVariants as answer
 use Rattle.exec_client.specs.Behind.{Behind, claims, nothing, says_else}
-use Rattle.exec_client.specs.Heard.{Heard, IsTold}
+use Rattle.exec_client.specs.ClientView.{ClientView, IsTold}
 use Rattle.exec_client.specs.MayTell.{AllStand, MayAnswer, MayReply, StandsBehind}
 use Rattle.exec_client.specs.Said.{Answered, Reported, Said, answered}
 use Rattle.exec_client.specs.Tells.{noticed}
@@ -37,14 +37,14 @@ each_refused zero = nothing
 each_refused (suc n) = says_else (answered (Refused Disk)) (map answered (replicate n (Refused Disk))) [] refl (each_refused n)
 
 -- a reply that acknowledges no command, with a status or a count, if any, of this executor's state
-abbrev pub Plain : {D : Type 0} → Sight D → LineReply → Type 0
+abbrev pub Plain : {D : Type 0} → ExecutorView D → LineReply → Type 0
 Plain x given = (claims (Answered given) ≡ false) × MayReply x given
 
-pub is_plain : {D : Type 0} (x : Sight D) (r s : LineReply) → r ≡ s → Plain x s → Plain x r
+pub is_plain : {D : Type 0} (x : ExecutorView D) (r s : LineReply) → r ≡ s → Plain x s → Plain x r
 is_plain x r s same plain = subst (λ (t : LineReply). Plain x t) (sym same) plain
 
 -- the replies of a closed executor
-pub closed_plain : {D : Type 0} (x : Sight D) (source : Source) (found : Result Line Refusal) (given : LineReply)
+pub closed_plain : {D : Type 0} (x : ExecutorView D) (source : Source) (found : Result Line Refusal) (given : LineReply)
     → IsClosedReply source found given → Plain x given
 closed_plain x source (Ok (line.Meta provider agent limit)) given (meta, gives, is) = is_plain x given (answer.Meta meta) is (refl, tt)
 closed_plain x source (Ok (line.Drain limit)) given is = is_plain x given _ is (refl, tt)
@@ -58,80 +58,80 @@ closed_plain x source (Ok (line.Direct direct)) given is = is_plain x given _ is
 closed_plain x source (Err why) given is = is_plain x given _ is (refl, tt)
 
 -- the reply of an open executor to a question for the status of all resources
-pub status_plain : {D : Type 0} (x : Sight D) (given : LineReply) → x.is_open ≡ true → IsStatusReply x given → Plain x given
+pub status_plain : {D : Type 0} (x : ExecutorView D) (given : LineReply) → x.is_open ≡ true → IsStatusReply x given → Plain x given
 status_plain x given is_open (inl (statuses, is, same)) = is_plain x given (answer.Status statuses) is (refl, (is_open, same))
 status_plain x given is_open (inr (is, refuses)) = is_plain x given _ is (refl, tt)
 
 module _ {D : Type 0} (look : D → View) where
   -- one more message, which acknowledges no command and reports no result
-  pub one_more : (x y : Sight D) (s : Said) → claims s ≡ false → StandsBehind look x y [] → StandsBehind look x y (s ∷ [])
+  pub one_more : (x y : ExecutorView D) (s : Said) → claims s ≡ false → StandsBehind look x y [] → StandsBehind look x y (s ∷ [])
   one_more x y s none stands = both_stand look x y y [] (s ∷ []) stands (none_stands look y y (s ∷ []) refl (says_none s none))
 
   -- a request, after a due tidy
-  pub request_stands : (now : ℕ) (request : Request) (x m y : Sight D) (r : Reply) → StandsBehind look x m []
+  pub request_stands : (now : ℕ) (request : Request) (x m y : ExecutorView D) (r : Reply) → StandsBehind look x m []
       → Serves look now request m y r → ((y.is_open ≡ false) ↔ (r ≡ Refused Disk)) → StandsBehind look x y (answered r ∷ [])
   request_stands now request x m y r room serves closes =
       both_stand look x m y [] (answered r ∷ []) room (serves_stands look now request m y r serves (λ _. closes))
 
-  open_says : (now : ℕ) (request : Request) (x y : Sight D) (r : Reply) → x.is_open ≡ true → ServesOpen look now request x y r
+  open_says : (now : ℕ) (request : Request) (x y : ExecutorView D) (r : Reply) → x.is_open ≡ true → ServesOpen look now request x y r
       → MayAnswer y r
   open_says now (asked.Question question) x y r is_open (answers, same, memory) =
-      subst (λ (z : Sight D). MayAnswer z r) (sym same) (may_answer x question is_open r answers)
+      subst (λ (z : ExecutorView D). MayAnswer z r) (sym same) (may_answer x question is_open r answers)
   open_says now (asked.Command command) x y r is_open obeys = obeys_plain y look x y r (event_of x.state now command) obeys.0
 
-  pub request_says : (now : ℕ) (request : Request) (x y : Sight D) (r : Reply) → x.is_open ≡ true → Serves look now request x y r
+  pub request_says : (now : ℕ) (request : Request) (x y : ExecutorView D) (r : Reply) → x.is_open ≡ true → Serves look now request x y r
       → MayAnswer y r
   request_says now request x y r is_open serves =
       open_says now request x y r is_open (subst (λ (b : Bool). ServesWhile b look now request x y r) is_open serves)
 
   -- a group commit, after a due tidy
-  pub together_stand : (now : ℕ) (commands : List Command) (x m y : Sight D) (rs : List Reply) → StandsBehind look x m []
+  pub together_stand : (now : ℕ) (commands : List Command) (x m y : ExecutorView D) (rs : List Reply) → StandsBehind look x m []
       → TakesCommands look now commands m y rs → StandsBehind look x y (map answered rs)
   together_stand now commands x m y rs room takes =
       both_stand look x m y [] (map answered rs) room (commands_stand look now commands m y rs takes)
 
-  pub together_say : (now : ℕ) (commands : List Command) (x y : Sight D) (rs : List Reply) → TakesCommands look now commands x y rs
+  pub together_say : (now : ℕ) (commands : List Command) (x y : ExecutorView D) (rs : List Reply) → TakesCommands look now commands x y rs
       → AllByRecursion (MayAnswer y) rs
   together_say now commands x y rs takes = commands_plain y look now commands x y rs takes
 
   -- each of them refused for the disk
-  pub refused_stand : (x y : Sight D) (n : ℕ) (rs : List Reply) → rs ≡ replicate n (Refused Disk) → StandsBehind look x y []
+  pub refused_stand : (x y : ExecutorView D) (n : ℕ) (rs : List Reply) → rs ≡ replicate n (Refused Disk) → StandsBehind look x y []
       → StandsBehind look x y (map answered rs)
   refused_stand x y n rs same room =
       subst (λ (ts : List Reply). StandsBehind look x y (map answered ts)) (sym same)
       (both_stand look x y y [] (map answered (replicate n (Refused Disk))) room
       (none_stands look y y (map answered (replicate n (Refused Disk))) refl (each_refused n)))
 
-  pub refused_say : (y : Sight D) (n : ℕ) (rs : List Reply) → rs ≡ replicate n (Refused Disk) → AllByRecursion (MayAnswer y) rs
+  pub refused_say : (y : ExecutorView D) (n : ℕ) (rs : List Reply) → rs ≡ replicate n (Refused Disk) → AllByRecursion (MayAnswer y) rs
   refused_say y n rs same = subst (λ (ts : List Reply). AllByRecursion (MayAnswer y) ts) (sym same) (refused_plain y n)
 
   -- a tidy after the book was emptied, and then a turn
-  pub cleared_room : (x c m : Sight D) → c ≡ with_empty_book x → StandsBehind look c m [] → StandsBehind look x m []
+  pub cleared_room : (x c m : ExecutorView D) → c ≡ with_empty_book x → StandsBehind look c m [] → StandsBehind look x m []
   cleared_room x c m cleared room = both_stand look x c m [] [] (cleared_stands look x c cleared) room
 
-  pub turn_behind_room : (now : ℕ) (x m y : Sight D) (end : TurnEnd) → StandsBehind look x m [] → m.is_open ≡ true
+  pub turn_behind_room : (now : ℕ) (x m y : ExecutorView D) (end : TurnEnd) → StandsBehind look x m [] → m.is_open ≡ true
       → TakesTurn look now m y end → StandsBehind look x y (noticed y)
   turn_behind_room now x m y end room is_open takes =
       both_stand look x m y [] (noticed y) room (turn_stands look now m y end is_open takes)
 
   -- nothing was sent yet
-  pub new_stands : (heard : Heard D) (x : Sight D) → IsNew heard x → AllStand look heard x
-  new_stands heard x (opened, untold, is_open) =
-      subst (λ (o : Sight D). StandsBehind look o x heard.told) (sym opened)
+  pub new_stands : (client_view : ClientView D) (x : ExecutorView D) → IsNew client_view x → AllStand look client_view x
+  new_stands client_view x (opened, untold, is_open) =
+      subst (λ (o : ExecutorView D). StandsBehind look o x client_view.told) (sym opened)
       (subst (λ (ss : List Said). StandsBehind look x x ss) (sym untold) (none_stands look x x [] refl nothing))
 
   -- messages of an executor that went on by calls
-  pub after_told : (heard heard' : Heard D) (x y : Sight D) (said : List Said) → AllStand look heard x → StandsBehind look x y said
-      → IsTold heard heard' said → AllStand look heard' y
-  after_told heard heard' x y said stands more told =
-      subst (λ (o : Sight D). StandsBehind look o y heard'.told) (sym told.0)
-      (subst (λ (ss : List Said). StandsBehind look heard.opened y ss) (sym told.1)
-      (both_stand look heard.opened x y heard.told said stands more))
+  pub after_told : (client_view client_view' : ClientView D) (x y : ExecutorView D) (said : List Said) → AllStand look client_view x → StandsBehind look x y said
+      → IsTold client_view client_view' said → AllStand look client_view' y
+  after_told client_view client_view' x y said stands more told =
+      subst (λ (o : ExecutorView D). StandsBehind look o y client_view'.told) (sym told.0)
+      (subst (λ (ss : List Said). StandsBehind look client_view.opened y ss) (sym told.1)
+      (both_stand look client_view.opened x y client_view.told said stands more))
 
   -- the report of an opening acknowledges nothing that was recorded since
   reported : (ns : List Notice) → Behind (map Reported ns) []
   reported [] = nothing
   reported (n ∷ ns) = says_else (Reported n) (map Reported ns) [] refl (reported ns)
 
-  pub reported_stand : (x : Sight D) (ns : List Notice) → StandsBehind look x x (map Reported ns)
+  pub reported_stand : (x : ExecutorView D) (ns : List Notice) → StandsBehind look x x (map Reported ns)
   reported_stand x ns = none_stands look x x (map Reported ns) refl (reported ns)

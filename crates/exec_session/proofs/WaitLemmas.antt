@@ -8,7 +8,7 @@ use Rattle.ocf_types.specs.Kinds.{Command}
 use Rattle.ocf_types.specs.Limits.{num_max}
 use Rattle.ocf_types.specs.declared.reply.TurnEnd.TheVariants.{Done}
 use Rattle.disk_model.specs.View.{View}
-use Rattle.executor.specs.Sights.{Sight}
+use Rattle.executor.specs.ExecutorView.{ExecutorView}
 use Rattle.exec_lines.specs.Buffer.{line_bytes}
 use Rattle.exec_lines.specs.Pieces.{IsMidLine}
 use Rattle.exec_trace.specs.Events.{is_failure}
@@ -46,11 +46,11 @@ may_serve Run most is le = absurd cc
 may_serve Serve most is le = λ n few. omega (arith, le, few)
 
 -- in `run` a session goes on in any case and makes no turns, and any session goes on while its executor is open
-pub go_run : {D : Type 0} (way : Way) (x : Sight D) → way ≡ Run → MayGoOn way x
+pub go_run : {D : Type 0} (way : Way) (x : ExecutorView D) → way ≡ Run → MayGoOn way x
 go_run Run x is = tt
 go_run Serve x is = absurd cc
 
-pub go_open : {D : Type 0} (way : Way) (x : Sight D) → x.is_open ≡ true → MayGoOn way x
+pub go_open : {D : Type 0} (way : Way) (x : ExecutorView D) → x.is_open ≡ true → MayGoOn way x
 go_open Run x is_open = tt
 go_open Serve x is_open = is_open
 

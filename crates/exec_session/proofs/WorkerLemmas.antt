@@ -4,7 +4,7 @@ use Rattle.ocf_types.specs.Kinds.{Command, Reply}
 use Rattle.ocf_types.specs.declared.reply.TurnEnd.{TurnEnd}
 use Rattle.ocf_types.specs.declared.reply.TurnEnd.TheVariants.{Disk}
 use Rattle.disk_model.specs.View.{View}
-use Rattle.executor.specs.Sights.{Sight}
+use Rattle.executor.specs.ExecutorView.{ExecutorView}
 use Rattle.executor.specs.TurnCalls.{FinishesTurn, TakesTurn, with_empty_book}
 use Rattle.exec_client.specs.MayTell.{AllStand}
 use Rattle.exec_client.specs.Said.{answered}
@@ -13,119 +13,119 @@ use Rattle.exec_trace.specs.Edges.{EdgeView, noting, rested}
 use Rattle.exec_trace.specs.Events.{last_shown}
 use Rattle.exec_trace.specs.declared.event.IoEvent.{IoEvent}
 use Rattle.exec_trace.specs.declared.event.IoEvent.TheVariants.{Asked, Shown}
-use Rattle.exec_session.specs.Drains.{TurnHeard}
-use Rattle.exec_session.specs.Leaving.{FinishHeard}
+use Rattle.exec_session.specs.Drains.{TurnReceived}
+use Rattle.exec_session.specs.Leaving.{FinishReceived}
 use Rattle.exec_session.specs.Pausing.{IsShort}
 use Rattle.exec_session.specs.Rules.{MakesRoom, Rules}
 use Rattle.exec_session.specs.Spots.{Pauses, Position, Spot, Telling, Tells, TellsPart, at_of, moved, noted, spot}
-use Rattle.exec_session.specs.Together.{AnswersAll, ServesTogether, TogetherHeard}
+use Rattle.exec_session.specs.Together.{AnswersAll, ServesTogether, TogetherReceived}
 use Rattle.exec_session.specs.Broken.{BatchBreaks}
 
 module _ {D : Type 0} where
   -- a fact about a worker's view, by its fields
-  pub parts : (P : Position D → Type 0) (x : Sight D) (e : EdgeView D) (p : Position D) → at_of x e ≡ p → P p → P (at_of x e)
+  pub parts : (P : Position D → Type 0) (x : ExecutorView D) (e : EdgeView D) (p : Position D) → at_of x e ≡ p → P p → P (at_of x e)
   parts P x e p is known = subst P (sym is) known
 
   -- the other way
-  pub whole : (P : Position D → Type 0) (x : Sight D) (e : EdgeView D) (p : Position D) → at_of x e ≡ p → P (at_of x e) → P p
+  pub whole : (P : Position D → Type 0) (x : ExecutorView D) (e : EdgeView D) (p : Position D) → at_of x e ≡ p → P (at_of x e) → P p
   whole P x e p is known = subst P is known
 
   -- the executor is still open after one more event
-  pub open_noted : (x : Sight D) (e : EdgeView D) (p m : Position D) (event : IoEvent) → at_of x e ≡ m → m ≡ noted p event
+  pub open_noted : (x : ExecutorView D) (e : EdgeView D) (p m : Position D) (event : IoEvent) → at_of x e ≡ m → m ≡ noted p event
       → p.at.executor.is_open ≡ true → x.is_open ≡ true
   open_noted x e p m event is is_noted is_open = ap (λ (P : Position D). P.at.executor.is_open) (is ∙ is_noted) ∙ is_open
 
   -- a pause, and the question whether the client still reads
-  pub pauses : (since now : ℕ) (heard : Bool) (micros : ℕ) (x : Sight D) (e one two : EdgeView D) (p : Position D) → at_of x e ≡ p
-      → IsShort since now micros → one ≡ rested e micros → two ≡ noting one (Asked heard)
-      → Pauses since now heard p.at (at_of x two).at
-  pauses since now heard micros x e one two p is short rests asks =
-      whole (λ (P : Position D). Pauses since now heard P.at (at_of x two).at) x e p is (
+  pub pauses : (since now : ℕ) (client_view : Bool) (micros : ℕ) (x : ExecutorView D) (e one two : EdgeView D) (p : Position D) → at_of x e ≡ p
+      → IsShort since now micros → one ≡ rested e micros → two ≡ noting one (Asked client_view)
+      → Pauses since now client_view p.at (at_of x two).at
+  pauses since now client_view micros x e one two p is short rests asks =
+      whole (λ (P : Position D). Pauses since now client_view P.at (at_of x two).at) x e p is (
         micros,
         short,
-        ap (λ (f : EdgeView D). (at_of x f).at) (asks ∙ ap (λ (f : EdgeView D). noting f (Asked heard)) rests),
+        ap (λ (f : EdgeView D). (at_of x f).at) (asks ∙ ap (λ (f : EdgeView D). noting f (Asked client_view)) rests),
       )
 
   module _ (look : D → View) where
     -- all that was sent is recorded, with the messages since
-    pub stands_part : (x : Sight D) (e : EdgeView D) (p : Position D) → at_of x e ≡ p → AllStand look e.heard x → AllStand look p.at.heard p.at.executor
-    stands_part x e p is stands = whole (λ (P : Position D). AllStand look P.at.heard P.at.executor) x e p is stands
+    pub stands_part : (x : ExecutorView D) (e : EdgeView D) (p : Position D) → at_of x e ≡ p → AllStand look e.client_view x → AllStand look p.at.client_view p.at.executor
+    stands_part x e p is stands = whole (λ (P : Position D). AllStand look P.at.client_view P.at.executor) x e p is stands
 
   module _ (tells_so : Telling D) (look : D → View) where
-    pub turn_heard : (rules : Rules) (now : ℕ) (x c m y : Sight D) (e : EdgeView D) (p : Position D) (q : Spot D) (end : TurnEnd)
+    pub turn_heard : (rules : Rules) (now : ℕ) (x c m y : ExecutorView D) (e : EdgeView D) (p : Position D) (q : Spot D) (end : TurnEnd)
         → at_of x e ≡ p → last_shown p.at.events ≡ Some now → c ≡ with_empty_book x → MakesRoom look rules now c m → m.is_open ≡ true
-        → q.executor ≡ y → TakesTurn look now m y end → tells_so (spot y e.heard e.events) q (noticed y)
-        → TurnHeard tells_so look rules now p.at q end
+        → q.executor ≡ y → TakesTurn look now m y end → tells_so (spot y e.client_view e.events) q (noticed y)
+        → TurnReceived tells_so look rules now p.at q end
     turn_heard rules now x c m y e p q end is shown cleared room is_open same takes tells =
-        whole (λ (P : Position D). TurnHeard tells_so look rules now P.at q end) x e p is (record {
+        whole (λ (P : Position D). TurnReceived tells_so look rules now P.at q end) x e p is (record {
           shown = parts (λ (P : Position D). last_shown P.at.events ≡ Some now) x e p is shown;
           middle = m;
-          room = subst (λ (z : Sight D). MakesRoom look rules now z m) cleared room;
-          takes = λ _. subst (λ (z : Sight D). TakesTurn look now m z end) (sym same) takes;
-          tells = λ _. subst (λ (z : Sight D). tells_so (spot z e.heard e.events) q (noticed z)) (sym same) tells;
+          room = subst (λ (z : ExecutorView D). MakesRoom look rules now z m) cleared room;
+          takes = λ _. subst (λ (z : ExecutorView D). TakesTurn look now m z end) (sym same) takes;
+          tells = λ _. subst (λ (z : ExecutorView D). tells_so (spot z e.client_view e.events) q (noticed z)) (sym same) tells;
           fails = λ closed. absurd (true≢false (sym is_open ∙ closed));
         })
 
     -- the executor closed in the tidy
-    pub turn_failed : (rules : Rules) (now : ℕ) (x c m : Sight D) (e : EdgeView D) (p : Position D)
+    pub turn_failed : (rules : Rules) (now : ℕ) (x c m : ExecutorView D) (e : EdgeView D) (p : Position D)
         → at_of x e ≡ p → last_shown p.at.events ≡ Some now → c ≡ with_empty_book x → MakesRoom look rules now c m → m.is_open ≡ false
-        → TurnHeard tells_so look rules now p.at (spot m e.heard e.events) Disk
+        → TurnReceived tells_so look rules now p.at (spot m e.client_view e.events) Disk
     turn_failed rules now x c m e p is shown cleared room closed =
-        whole (λ (P : Position D). TurnHeard tells_so look rules now P.at (spot m e.heard e.events) Disk) x e p is (record {
+        whole (λ (P : Position D). TurnReceived tells_so look rules now P.at (spot m e.client_view e.events) Disk) x e p is (record {
           shown = parts (λ (P : Position D). last_shown P.at.events ≡ Some now) x e p is shown;
           middle = m;
-          room = subst (λ (z : Sight D). MakesRoom look rules now z m) cleared room;
+          room = subst (λ (z : ExecutorView D). MakesRoom look rules now z m) cleared room;
           takes = λ is_open. absurd (true≢false (sym is_open ∙ closed));
           tells = λ is_open. absurd (true≢false (sym is_open ∙ closed));
           fails = λ _. (refl, refl);
         })
 
     -- a turn that begins nothing, at the clock reading
-    pub finish_heard : (now : ℕ) (x y : Sight D) (e : EdgeView D) (p m : Position D) (q : Spot D) (end : TurnEnd)
+    pub finish_heard : (now : ℕ) (x y : ExecutorView D) (e : EdgeView D) (p m : Position D) (q : Spot D) (end : TurnEnd)
         → m ≡ noted p (Shown now) → at_of x e ≡ m → q.executor ≡ y → FinishesTurn look now (with_empty_book x) y end
-        → tells_so (spot y e.heard e.events) q (noticed y) → FinishHeard tells_so look p.at q
+        → tells_so (spot y e.client_view e.events) q (noticed y) → FinishReceived tells_so look p.at q
     finish_heard now x y e p m q end is_noted is same takes tells =
         let is_p = is ∙ is_noted in
         let x_is : x ≡ p.at.executor = ap (λ (P : Position D). P.at.executor) is_p in record {
           now = now;
           end = end;
           takes =
-              subst (λ (z : Sight D). FinishesTurn look now (with_empty_book p.at.executor) z end) (sym same)
-              (subst (λ (z : Sight D). FinishesTurn look now (with_empty_book z) y end) x_is takes);
+              subst (λ (z : ExecutorView D). FinishesTurn look now (with_empty_book p.at.executor) z end) (sym same)
+              (subst (λ (z : ExecutorView D). FinishesTurn look now (with_empty_book z) y end) x_is takes);
           tells =
               subst (λ (s : Spot D). tells_so s q (noticed q.executor)) (ap (λ (P : Position D). moved P.at q.executor) is_p)
-              (subst (λ (z : Sight D). tells_so (spot z e.heard e.events) q (noticed z)) (sym same) tells);
+              (subst (λ (z : ExecutorView D). tells_so (spot z e.client_view e.events) q (noticed z)) (sym same) tells);
         }
 
     -- a group commit
-    pub together_heard : (rules : Rules) (now : ℕ) (commands : List Command) (x y : Sight D) (e : EdgeView D) (p m : Position D) (q : Spot D)
+    pub together_heard : (rules : Rules) (now : ℕ) (commands : List Command) (x y : ExecutorView D) (e : EdgeView D) (p m : Position D) (q : Spot D)
         (given : List Reply) → m ≡ noted p (Shown now) → at_of x e ≡ m → q.executor ≡ y
-        → ServesTogether look rules now commands x y given → tells_so (spot y e.heard e.events) q (map answered given)
-        → TogetherHeard tells_so look rules commands p.at q
+        → ServesTogether look rules now commands x y given → tells_so (spot y e.client_view e.events) q (map answered given)
+        → TogetherReceived tells_so look rules commands p.at q
     together_heard rules now commands x y e p m q given is_noted is same serves tells =
         let is_p = is ∙ is_noted in
         let x_is : x ≡ p.at.executor = ap (λ (P : Position D). P.at.executor) is_p in record {
           now = now;
           given = given;
           serves =
-              subst (λ (z : Sight D). ServesTogether look rules now commands p.at.executor z given) (sym same)
-              (subst (λ (z : Sight D). ServesTogether look rules now commands z y given) x_is serves);
+              subst (λ (z : ExecutorView D). ServesTogether look rules now commands p.at.executor z given) (sym same)
+              (subst (λ (z : ExecutorView D). ServesTogether look rules now commands z y given) x_is serves);
           tells =
               subst (λ (s : Spot D). tells_so s q (map answered given)) (ap (λ (P : Position D). moved P.at q.executor) is_p)
-              (subst (λ (z : Sight D). tells_so (spot z e.heard e.events) q (map answered given)) (sym same) tells);
+              (subst (λ (z : ExecutorView D). tells_so (spot z e.client_view e.events) q (map answered given)) (sym same) tells);
         }
 
 module _ {D : Type 0} (look : D → View) (rules : Rules) where
   -- there was a command that waited
   pub all_answered : {T E : Type 0} (r : Result T E) (commands : List Command) (p q : Spot D) → (commands ≡ [] → ⊥)
-      → OnOk r (TogetherHeard (Tells rules.form) look rules commands p q) → OnOk r (AnswersAll look rules commands p q)
-  all_answered r [] p q some heard = absurd (some refl)
-  all_answered r (first ∷ others) p q some heard = heard
+      → OnOk r (TogetherReceived (Tells rules.form) look rules commands p q) → OnOk r (AnswersAll look rules commands p q)
+  all_answered r [] p q some client_view = absurd (some refl)
+  all_answered r (first ∷ others) p q some client_view = client_view
 
   pub batch_broken : {T E : Type 0} (r : Result T E) (commands : List Command) (p q : Spot D) → (commands ≡ [] → ⊥)
-      → OnErr r (TogetherHeard (TellsPart rules.form) look rules commands p q) → OnErr r (BatchBreaks look rules commands p q)
-  batch_broken r [] p q some heard = absurd (some refl)
-  batch_broken r (first ∷ others) p q some heard = heard
+      → OnErr r (TogetherReceived (TellsPart rules.form) look rules commands p q) → OnErr r (BatchBreaks look rules commands p q)
+  batch_broken r [] p q some client_view = absurd (some refl)
+  batch_broken r (first ∷ others) p q some client_view = client_view
 
   -- there was none
   pub none_answered : (commands : List Command) (p : Spot D) → (length commands == 0) ≡ true → AnswersAll look rules commands p p

@@ -10,7 +10,7 @@ use Rattle.ocf_types.specs.declared.reply.TidyEnd.TheVariants as tidy_end
 use Rattle.ocf_types.specs.declared.reply.TurnEnd.TheVariants as turn_end
 use Rattle.disk_model.specs.View.{View}
 use Rattle.executor.specs.Commands.{Serves}
-use Rattle.executor.specs.Sights.{Sight}
+use Rattle.executor.specs.ExecutorView.{ExecutorView}
 use Rattle.executor.specs.TidyCalls.{Tidies}
 use Rattle.exec_commands.specs.Lines.{line_read}
 use Rattle.exec_commands.specs.Replies.{statuses_in}
@@ -58,7 +58,7 @@ closed_tidy = answer.Tidy tidy_end.Closed
 
 -- the status of all resources at the executor's state, or that memory was refused for it: only where the executor's allocator refuses
 -- growths
-abbrev pub IsStatusReply : {D : Type 0} → Sight D → LineReply → Type 0
+abbrev pub IsStatusReply : {D : Type 0} → ExecutorView D → LineReply → Type 0
 IsStatusReply x reply =
     ((statuses : Statuses) × (reply ≡ answer.Status statuses) × (statuses_in statuses ≡ statuses_of x.state))
     ⊎ ((reply ≡ refused refusal.Memory) × IsTrue x.refuses)
@@ -102,7 +102,7 @@ pub record DrainTold {D : Type 0} (tells_so : Telling D) (look : D → View) (en
 pub record ServesNow {D : Type 0} (look : D → View) (rules : Rules) (request : Request)
     (p q : Spot D) (reply : LineReply) : Type 0 where
   pub now : ℕ
-  pub middle : Sight D
+  pub middle : ExecutorView D
   pub given : Reply
   pub told : reply ≡ answer.Request given
   pub shown : q ≡ behind (moved p q.executor) (Shown now)

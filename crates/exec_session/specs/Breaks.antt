@@ -14,7 +14,7 @@ use Rattle.exec_trace.specs.declared.event.IoEvent.{IoEvent}
 use Rattle.exec_trace.specs.declared.event.IoEvent.TheVariants.{Shown}
 use Rattle.exec_session.specs.Answers.{Source}
 use Rattle.exec_session.specs.Broken.{ReplyBreaks, BatchBreaks}
-use Rattle.exec_session.specs.Drains.{MakesTurn, TurnHeard}
+use Rattle.exec_session.specs.Drains.{MakesTurn, TurnReceived}
 use Rattle.exec_session.specs.Leaving.{LeaveBreaks}
 use Rattle.exec_session.specs.Progress.{Answers, AnswersSo}
 use Rattle.exec_session.specs.Reports.{ReadyBreaks, ReportBreaks, TellsReady, TellsReport, ended}
@@ -26,7 +26,7 @@ use Rattle.exec_session.specs.Steps.{Steps}
 
 -- A session broke off in an own turn: the client received a prefix of its notices, or of the line that says how it ended.
 pub data OwnTurnBreaks {D : Type 0} (look : D → View) (rules : Rules) (before : TurnEnd) (p q : Spot D) : Type 0 where
-  in_notices : (now : ℕ) (end : TurnEnd) → TurnHeard (TellsPart rules.form) look rules now (behind p (Shown now)) q end
+  in_notices : (now : ℕ) (end : TurnEnd) → TurnReceived (TellsPart rules.form) look rules now (behind p (Shown now)) q end
       → OwnTurnBreaks look rules before p q
   in_end : (now : ℕ) (end : TurnEnd) (noticed : Spot D) → MakesTurn look rules now (behind p (Shown now)) noticed end
       → NewsSo (TellsPart rules.form) before end noticed q → OwnTurnBreaks look rules before p q

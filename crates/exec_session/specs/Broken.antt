@@ -9,20 +9,20 @@ use Rattle.exec_commands.specs.declared.line.Line.TheVariants as line
 use Rattle.exec_trace.specs.declared.event.IoEvent.TheVariants.{Shown}
 use Rattle.exec_session.specs.declared.drain.Terms.{Terms}
 use Rattle.exec_session.specs.Answers.{DrainTold}
-use Rattle.exec_session.specs.Drains.{GoesOn, MakesTurn, TurnHeard}
+use Rattle.exec_session.specs.Drains.{GoesOn, MakesTurn, TurnReceived}
 use Rattle.exec_session.specs.Rules.{Rules}
 use Rattle.exec_session.specs.Spots.{Pauses, Spot, TellsPart, behind}
-use Rattle.exec_session.specs.Together.{TogetherHeard}
+use Rattle.exec_session.specs.Together.{TogetherReceived}
 
 -- a turn at this time broke off in its notices
 abbrev pub TurnBreaks : {D : Type 0} → (D → View) → Rules → ℕ → Spot D → Spot D → Type 0
-TurnBreaks look rules now p q = (end : TurnEnd) × TurnHeard (TellsPart rules.form) look rules now p q end
+TurnBreaks look rules now p q = (end : TurnEnd) × TurnReceived (TellsPart rules.form) look rules now p q end
 
 -- A drain broke off in a turn, of whose notices a prefix was written, or after one, where nobody read the output any more; or its loop
 -- has gone round as often as it can.
 pub data DrainBreaks {D : Type 0} (look : D → View) (rules : Rules) (t : Terms) (start : ℕ) (p q : Spot D) : Type 0 where
   in_turn : (turns now : ℕ) (m : Spot D) (end : TurnEnd) → GoesOn look rules t start p turns now m
-      → TurnHeard (TellsPart rules.form) look rules now m q end → DrainBreaks look rules t start p q
+      → TurnReceived (TellsPart rules.form) look rules now m q end → DrainBreaks look rules t start p q
   unheard : (turns now : ℕ) (m told : Spot D) (end : TurnEnd) → GoesOn look rules t start p turns now m
       → MakesTurn look rules now m told end → Pauses start now false told q → DrainBreaks look rules t start p q
   spent : (turns now : ℕ) → GoesOn look rules t start p turns now q → DrainBreaks look rules t start p q
@@ -46,4 +46,4 @@ ReplyBreaks look rules p q _ = ⊥
 -- a group commit was answered, and a prefix of its replies was written
 abbrev pub BatchBreaks : {D : Type 0} → (D → View) → Rules → List Command → Spot D → Spot D → Type 0
 BatchBreaks look rules [] p q = ⊥
-BatchBreaks look rules (first ∷ others) p q = TogetherHeard (TellsPart rules.form) look rules (first ∷ others) p q
+BatchBreaks look rules (first ∷ others) p q = TogetherReceived (TellsPart rules.form) look rules (first ∷ others) p q

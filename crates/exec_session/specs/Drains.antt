@@ -4,7 +4,7 @@ use Rattle.ocf_types.specs.Boot.{any_busy}
 use Rattle.ocf_types.specs.declared.reply.TurnEnd.{TurnEnd}
 use Rattle.ocf_types.specs.declared.reply.TurnEnd.TheVariants.{Disk, Done}
 use Rattle.disk_model.specs.View.{View}
-use Rattle.executor.specs.Sights.{Sight}
+use Rattle.executor.specs.ExecutorView.{ExecutorView}
 use Rattle.executor.specs.TurnCalls.{TakesTurn, with_empty_book}
 use Rattle.exec_commands.specs.declared.ends.DrainEnd.{DrainEnd}
 use Rattle.exec_commands.specs.declared.ends.DrainEnd.TheVariants.{Idle, Limit, Turns, Turn}
@@ -17,10 +17,10 @@ use Rattle.exec_session.specs.declared.drain.Terms.{Terms}
 
 -- A turn at this time, the last clock reading: the book is emptied, a due tidy is made, then the turn, and its notices are sent like
 -- this. If a disk fault closed the executor in the tidy, no turn is made and nothing is sent.
-pub record TurnHeard {D : Type 0} (tells_so : Telling D) (look : D → View) (rules : Rules) (now : ℕ) (p q : Spot D)
+pub record TurnReceived {D : Type 0} (tells_so : Telling D) (look : D → View) (rules : Rules) (now : ℕ) (p q : Spot D)
     (end : TurnEnd) : Type 0 where
   pub shown : last_shown p.events ≡ Some now
-  pub middle : Sight D
+  pub middle : ExecutorView D
   pub room : MakesRoom look rules now (with_empty_book p.executor) middle
   pub takes : middle.is_open ≡ true → TakesTurn look now middle q.executor end
   pub tells : middle.is_open ≡ true → tells_so (moved p q.executor) q (noticed q.executor)
@@ -28,7 +28,7 @@ pub record TurnHeard {D : Type 0} (tells_so : Telling D) (look : D → View) (ru
 
 -- the client receives all of them
 abbrev pub MakesTurn : {D : Type 0} → (D → View) → Rules → ℕ → Spot D → Spot D → TurnEnd → Type 0
-MakesTurn look rules now p q end = TurnHeard (Tells rules.form) look rules now p q end
+MakesTurn look rules now p q end = TurnReceived (Tells rules.form) look rules now p q end
 
 -- After a turn at the second time, in a drain since the first: a short pause, then the client still reads, and then the clock shows the
 -- third time.
@@ -44,7 +44,7 @@ end_behind t turns now Done idle =
 end_behind t turns now end idle = Some (Turn end)
 
 -- the same, with the view of the executor after that turn
-abbrev pub end_at : {D : Type 0} → Terms → ℕ → ℕ → TurnEnd → Sight D → Option DrainEnd
+abbrev pub end_at : {D : Type 0} → Terms → ℕ → ℕ → TurnEnd → ExecutorView D → Option DrainEnd
 end_at t turns now end e = end_behind t turns now end (not (any_busy e.state))
 
 -- This many turns were made, none of which ended the drain, each at the clock reading after the one before. The first was at the start,

@@ -2,9 +2,9 @@
 use Rattle.std.specs.Prelude.{◌≡◌, true, false, Result, Ok, Err}
 use Rattle.disk_model.specs.View.{View}
 use Rattle.child_model.specs.Children.{ChildrenView, given_up}
-use Rattle.executor.specs.Sights.{Sight}
+use Rattle.executor.specs.ExecutorView.{ExecutorView}
 use Rattle.executor.specs.declared.report.Report.{Report}
-use Rattle.exec_client.specs.Heard.{Heard}
+use Rattle.exec_client.specs.ClientView.{ClientView}
 use Rattle.exec_client.specs.MayTell.{StandsBehind}
 use Rattle.exec_trace.specs.Edges.{EdgeView}
 use Rattle.exec_faults.specs.declared.fault.Fault.{Fault}
@@ -40,16 +40,16 @@ EndsAs look source rules report p q (Err _) = ⊥
 -- the disk are given back.
 pub record Ended {D C N : Type 0} (look : D → View) (tend : C → ChildrenView) (source : Source) (rules : Rules) (report : Report N)
     (p : Position D) (edge : EdgeView D) (ended : Result Unit Fault) (disk : D) (children : C) : Type 0 where
-  pub last : Sight D
-  pub ends : EndsAs look source rules report p (position (spot last edge.heard edge.events) edge.left) ended
+  pub last : ExecutorView D
+  pub ends : EndsAs look source rules report p (position (spot last edge.client_view edge.events) edge.left) ended
   pub disk_is : disk ≡ last.disk
   pub children_are : tend children ≡ given_up last.children
 
 -- However a session ends, its executor went on by calls alone since it was opened, and is closed; and all that its client was sent is
 -- backed by what they recorded. This disk and these agents are those that it gave back.
-pub record ClosesByCalls {D : Type 0} (look : D → View) (opened : Sight D) (heard : Heard D) (disk : D) (children : ChildrenView) : Type 0 where
-  pub last : Sight D
-  pub stands : StandsBehind look opened last heard.told
+pub record ClosesByCalls {D : Type 0} (look : D → View) (opened : ExecutorView D) (client_view : ClientView D) (disk : D) (children : ChildrenView) : Type 0 where
+  pub last : ExecutorView D
+  pub stands : StandsBehind look opened last client_view.told
   pub is_closed : last.is_open ≡ false
   pub disk_is : disk ≡ last.disk
   pub children_are : children ≡ last.children

@@ -15,7 +15,7 @@ use Rattle.exec_session.specs.Spots.{Pauses, Spot, Telling, Tells, TellsPart, be
 
 -- The clock is read, and a turn that begins nothing is made at that time: the book is emptied, the turn is made, and its notices are sent
 -- like this.
-pub record FinishHeard {D : Type 0} (tells_so : Telling D) (look : D → View) (p q : Spot D) : Type 0 where
+pub record FinishReceived {D : Type 0} (tells_so : Telling D) (look : D → View) (p q : Spot D) : Type 0 where
   pub now : ℕ
   pub end : TurnEnd
   pub takes : FinishesTurn look now (with_empty_book p.executor) q.executor end
@@ -25,7 +25,7 @@ pub record FinishHeard {D : Type 0} (tells_so : Telling D) (look : D → View) (
 pub record WindsOne {D : Type 0} (tells_so : Telling D) (look : D → View) (p q : Spot D) : Type 0 where
   pub is_open : p.executor.is_open ≡ true
   pub runs : any_running p.executor.state ≡ true
-  pub heard : FinishHeard tells_so look p q
+  pub client_view : FinishReceived tells_so look p q
 
 -- Turns that begin nothing, each while an action runs, and each followed by a short pause: from one spot to another.
 pub data WindsDown {D : Type 0} (look : D → View) (rules : Rules) (p : Spot D) : Spot D → Type 0 where

@@ -1,7 +1,7 @@
 -- The messages that report an opening, that a session is ready, and how a turn ended.
 use Rattle.std.specs.Prelude.{◌≡◌, ◌⊎◌, [], ◌∷◌, length, map}
 use Rattle.executor.specs.Reports.{report_of}
-use Rattle.executor.specs.Sights.{Sight}
+use Rattle.executor.specs.ExecutorView.{ExecutorView}
 use Rattle.executor.specs.declared.report.Report.{Report}
 use Rattle.ocf_types.specs.declared.reply.TurnEnd.{TurnEnd}
 use Rattle.exec_commands.specs.declared.ends.DrainEnd.TheVariants.{Turn}
@@ -14,7 +14,7 @@ use Rattle.exec_session.specs.declared.context.Way.{Way}
 use Rattle.exec_session.specs.declared.context.Way.TheVariants.{Run, Serve}
 
 -- the report is that of the opening that gave this executor
-abbrev pub IsReportOf : {D M : Type 0} → Sight D → Report M → Type 0
+abbrev pub IsReportOf : {D M : Type 0} → ExecutorView D → Report M → Type 0
 IsReportOf x r = x.reported ≡ report_of r
 
 -- the report was sent: the interrupted actions, and then the dropped ones
@@ -29,7 +29,7 @@ ReportBreaks {D} form r p q =
     ⊎ ((m : Spot D) × Tells form p m (map Reported r.interrupted.items) × TellsPart form m q (map Reported r.dropped.items))
 
 -- the number of registered resources, and of lines of the opening's report: of interrupted and of dropped actions
-abbrev pub counts_of : {D : Type 0} → Sight D → Counts
+abbrev pub counts_of : {D : Type 0} → ExecutorView D → Counts
 counts_of x = record {
   resources = length x.state.resources;
   interrupted = length x.reported.interrupted;
@@ -37,7 +37,7 @@ counts_of x = record {
 }
 
 -- the line that a session in `serve` is ready
-abbrev pub readied : {D : Type 0} → Sight D → Said
+abbrev pub readied : {D : Type 0} → ExecutorView D → Said
 readied x = Answered (Ready (counts_of x))
 
 -- In `serve` the client receives the line that the session is ready; in `run` it is sent nothing.

@@ -2,13 +2,13 @@
 use Rattle.std.specs.Prelude.{◌≡◌, ◌≢◌, ◌⊎◌, ℕ, ◌+◌, ◌*◌, ◌<◌, ⊤, List, [], ◌∷◌, ◌++◌, length, map, true, false, Option, Result, Ok}
 use Rattle.std.specs.Io.KnownBytes.{IsAtEnd}
 use Rattle.disk_model.specs.View.{View}
-use Rattle.executor.specs.Sights.{Sight}
+use Rattle.executor.specs.ExecutorView.{ExecutorView}
 use Rattle.ocf_types.specs.Kinds.{Command}
 use Rattle.ocf_types.specs.declared.command.RequestOf.TheVariants as asked
 use Rattle.ocf_types.specs.declared.refusal.Refusal.{Refusal}
 use Rattle.ocf_types.specs.declared.reply.TurnEnd.{TurnEnd}
 use Rattle.ocf_types.specs.declared.reply.TurnEnd.TheVariants.{Disk, Done}
-use Rattle.exec_client.specs.Heard.{Heard, IsTold}
+use Rattle.exec_client.specs.ClientView.{ClientView, IsTold}
 use Rattle.exec_client.specs.MayTell.{StandsBehind}
 use Rattle.exec_client.specs.Said.{Said}
 use Rattle.exec_session.specs.declared.context.Way.{Way}
@@ -30,8 +30,8 @@ use Rattle.exec_session.specs.Spots.{Position, Spot, Telling, Tells, behind, pos
 use Rattle.exec_session.specs.Together.{AnswersTogether}
 
 -- a client of an executor that was just opened, and is open; it was sent nothing yet
-abbrev pub IsNew : {D : Type 0} → Heard D → Sight D → Type 0
-IsNew heard x = (heard.opened ≡ x) × (heard.told ≡ []) × (x.is_open ≡ true)
+abbrev pub IsNew : {D : Type 0} → ClientView D → ExecutorView D → Type 0
+IsNew client_view x = (client_view.opened ≡ x) × (client_view.told ≡ []) × (x.is_open ≡ true)
 
 -- in this mode a session may take a line after this many since its last turn
 abbrev pub MayTake : Way → ℕ → Type 0
@@ -44,7 +44,7 @@ MakesTurns Run = ⊥
 MakesTurns Serve = ⊤
 
 -- A session may go on: in `serve` only while its executor is open, as a disk fault ends it.
-abbrev pub MayGoOn : {D : Type 0} → Way → Sight D → Type 0
+abbrev pub MayGoOn : {D : Type 0} → Way → ExecutorView D → Type 0
 MayGoOn Run x = ⊤
 MayGoOn Serve x = x.is_open ≡ true
 
@@ -89,7 +89,7 @@ abbrev pub IsWait : {D : Type 0} → ℕ → ℕ → Spot D → IoEvent → Type
 IsWait since now p (Looked millis ready) = MayPause since now p.executor p.events (millis * 1000)
 IsWait since now p (Rested micros) = MayPause since now p.executor p.events micros
 IsWait since now p (Shown moment) = ⊤
-IsWait since now p (Asked heard) = heard ≡ true
+IsWait since now p (Asked client_view) = client_view ≡ true
 IsWait since now p _ = ⊥
 
 -- With these lines a session may wait, and may make a turn: each line that was read is answered, except one that asks an agent for
@@ -210,5 +210,5 @@ Finishes look source rules p q =
 -- Calls alone lead from one spot to another, with these messages, which are backed by what the calls recorded.
 pub record GoesByCalls {D : Type 0} (look : D → View) (p q : Spot D) : Type 0 where
   pub said : List Said
-  pub told : IsTold p.heard q.heard said
+  pub told : IsTold p.client_view q.client_view said
   pub stands : StandsBehind look p.executor q.executor said

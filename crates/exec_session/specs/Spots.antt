@@ -1,9 +1,9 @@
 -- Where a session is: its executor, what its client has received, the log of questions and answers, and what its reader has left.
 use Rattle.std.specs.Prelude.{◌≡◌, ◌≤◌, ◌⊎◌, ℕ, Bool, true, false, List, [], ◌∷◌, ◌++◌, length, Option}
 use Rattle.ocf_types.specs.Limits.{num_max}
-use Rattle.executor.specs.Sights.{Sight}
+use Rattle.executor.specs.ExecutorView.{ExecutorView}
 use Rattle.exec_commands.specs.declared.notice.NoticeForm.{NoticeForm}
-use Rattle.exec_client.specs.Heard.{Heard, Hears, HearsPart}
+use Rattle.exec_client.specs.ClientView.{ClientView, Receives, ReceivesPart}
 use Rattle.exec_client.specs.Said.{Said}
 use Rattle.exec_trace.specs.Edges.{EdgeView, rest_events}
 use Rattle.exec_trace.specs.Events.{EndsInFailure}
@@ -13,13 +13,13 @@ use Rattle.exec_session.specs.Pausing.{IsShort}
 
 -- a spot: the executor, what the client has received, and the log of questions to reader, client and clock
 pub record Spot (D : Type 0) : Type 0 where
-  pub executor : Sight D
-  pub heard : Heard D
+  pub executor : ExecutorView D
+  pub client_view : ClientView D
   pub events : List IoEvent
 
 -- a spot by its fields
-abbrev pub spot : {D : Type 0} → Sight D → Heard D → List IoEvent → Spot D
-spot executor heard events = record { executor = executor; heard = heard; events = events }
+abbrev pub spot : {D : Type 0} → ExecutorView D → ClientView D → List IoEvent → Spot D
+spot executor client_view events = record { executor = executor; client_view = client_view; events = events }
 
 -- a position: the spot of a session, and what its reader has left, where that is known
 pub record Position (D : Type 0) : Type 0 where
@@ -32,7 +32,7 @@ position at left = record { at = at; left = left }
 
 -- the spot after one more event
 abbrev pub behind : {D : Type 0} → Spot D → IoEvent → Spot D
-behind p event = spot p.executor p.heard (p.events ++ event ∷ [])
+behind p event = spot p.executor p.client_view (p.events ++ event ∷ [])
 
 -- how a client is sent messages: from one spot to another
 abbrev pub Telling : Type 0 → Type 1
@@ -41,13 +41,13 @@ Telling D = Spot D → Spot D → List Said → Type 0
 -- The messages were sent, and the client receives all of them.
 pub record Tells {D : Type 0} (form : NoticeForm) (p q : Spot D) (said : List Said) : Type 0 where
   pub executor : q.executor ≡ p.executor
-  pub hears : Hears form p.heard q.heard said
+  pub receives : Receives form p.client_view q.client_view said
   pub events : q.events ≡ p.events ++ Sent true ∷ []
 
 -- Sending broke off after a prefix of the messages.
 pub record TellsPart {D : Type 0} (form : NoticeForm) (p q : Spot D) (said : List Said) : Type 0 where
   pub executor : q.executor ≡ p.executor
-  pub hears : HearsPart form p.heard q.heard said
+  pub receives : ReceivesPart form p.client_view q.client_view said
   pub events : q.events ≡ p.events ++ Sent false ∷ []
 
 -- Why a session may break off: the last question failed, or its loops have gone round as often as they can.
@@ -56,7 +56,7 @@ MayBreakOff events = EndsInFailure events ⊎ (num_max ≤ length events)
 
 -- While a session goes on, the opening of its executor stays, and the log of questions grows.
 pub record Lasts {D : Type 0} (p q : Spot D) : Type 0 where
-  pub opened : q.heard.opened ≡ p.heard.opened
+  pub opened : q.client_view.opened ≡ p.client_view.opened
   pub later : List IoEvent
   pub grows : q.events ≡ p.events ++ later
 
@@ -65,12 +65,12 @@ abbrev pub Keeps : {D : Type 0} → Position D → Position D → Type 0
 Keeps p q = Lasts p.at q.at × (q.left ≡ p.left)
 
 -- the spot with this executor
-abbrev pub moved : {D : Type 0} → Spot D → Sight D → Spot D
-moved p executor = spot executor p.heard p.events
+abbrev pub moved : {D : Type 0} → Spot D → ExecutorView D → Spot D
+moved p executor = spot executor p.client_view p.events
 
 -- the spot after a pause of this many microseconds
 abbrev pub paused : {D : Type 0} → Spot D → ℕ → Spot D
-paused p micros = spot p.executor p.heard (p.events ++ rest_events micros)
+paused p micros = spot p.executor p.client_view (p.events ++ rest_events micros)
 
 -- the position after one more event that is no read
 abbrev pub noted : {D : Type 0} → Position D → IoEvent → Position D
@@ -79,8 +79,8 @@ noted p event = position (behind p.at event) p.left
 -- A short pause after a turn at the second time, where nothing has ended or begun since the first; then the client was asked whether it
 -- still reads, with this answer.
 abbrev pub Pauses : {D : Type 0} → ℕ → ℕ → Bool → Spot D → Spot D → Type 0
-Pauses since now heard p q = (micros : ℕ) × IsShort since now micros × (q ≡ behind (paused p micros) (Asked heard))
+Pauses since now client_view p q = (micros : ℕ) × IsShort since now micros × (q ≡ behind (paused p micros) (Asked client_view))
 
 -- the position of a session with this executor and this edge
-abbrev pub at_of : {D : Type 0} → Sight D → EdgeView D → Position D
-at_of executor edge = position (spot executor edge.heard edge.events) edge.left
+abbrev pub at_of : {D : Type 0} → ExecutorView D → EdgeView D → Position D
+at_of executor edge = position (spot executor edge.client_view edge.events) edge.left

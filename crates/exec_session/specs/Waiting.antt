@@ -4,7 +4,7 @@ use Rattle.std.specs.Io.KnownBytes.{IsAtEnd}
 use Rattle.ocf_types.specs.Kinds.{Command}
 use Rattle.ocf_types.specs.declared.reply.TurnEnd.{TurnEnd}
 use Rattle.disk_model.specs.View.{View}
-use Rattle.executor.specs.Sights.{Sight}
+use Rattle.executor.specs.ExecutorView.{ExecutorView}
 use Rattle.exec_lines.specs.Buffer.{line_bytes}
 use Rattle.exec_lines.specs.Pieces.{IsMidLine}
 use Rattle.exec_trace.specs.declared.event.IoEvent.{IoEvent}
@@ -158,7 +158,7 @@ pub record TakesLines {D E : Type 0} (look : D → View) (source : Source) (rule
       → Comes look source rules p own lines_a_turn t result
 
 -- whether the input has ended, and whether the session goes on: in `serve` it does not once its executor is closed
-abbrev pub IsTaken : {D : Type 0} → Way → Sight D → Bool → Taken → Type 0
+abbrev pub IsTaken : {D : Type 0} → Way → ExecutorView D → Bool → Taken → Type 0
 IsTaken way x has_ended More = (has_ended ≡ false) × MayGoOn way x
 IsTaken way x has_ended End = (has_ended ≡ true) × MayGoOn way x
 IsTaken way x has_ended Closed = MakesTurns way × (x.is_open ≡ false)

@@ -3,7 +3,7 @@ ghost use Rattle.std.specs.Prelude.{◌≡◌, true, Some};
 ghost use Rattle.exec_session.specs.Answers.{DrainTold, DrainsFor};
 ghost use Rattle.exec_session.specs.Broken.{DrainBreaks, DrainBreaksFor, DrainEndsEarly};
 ghost use Rattle.exec_session.specs.Drains.{Drains, end_behind};
-ghost use Rattle.exec_session.specs.Leaving.{FinishHeard, LeaveBreaks, LeavesFrom};
+ghost use Rattle.exec_session.specs.Leaving.{FinishReceived, LeaveBreaks, LeavesFrom};
 ghost use Rattle.exec_session.specs.Rules.{rules_of};
 ghost use Rattle.exec_session.specs.Spots.{Tells, TellsPart};
 ghost use Rattle.exec_session.specs.Steps.{Steps, StepsTo};
@@ -133,8 +133,8 @@ impl<'a, R: Input, D: Disk + Drop, C: Children + Drop, T: Client<D, C>, K: Clock
     // Makes a turn now that begins nothing, and sends its notices.
     fn finish_turn<M>(&mut self, context: &RunContext<M>, pause: &mut Pause) -> Result<(), Failed>
         requires open { self.old.at.executor.is_open ≡ true }
-        ensures made { Steps (FinishHeard (Tells context.now.form) D.view self.old.at)
-            (FinishHeard (TellsPart context.now.form) D.view self.old.at) self.old self.new result }
+        ensures made { Steps (FinishReceived (Tells context.now.form) D.view self.old.at)
+            (FinishReceived (TellsPart context.now.form) D.view self.old.at) self.old self.new result }
     {
         let now = self.now();
         pause.before_turn(self.edge.clock(), now);

@@ -110,7 +110,7 @@ impl<'a, R: Input, D: Disk + Drop, C: Children + Drop, T: Client<D, C>, K: Clock
         executor: Executor<D, C>,
         room: LineRoom,
     ) -> Session<'a, R, D, C, T, K>
-        requires fresh { IsNew edge.heard executor }
+        requires fresh { IsNew edge.client_view executor }
         ensures place { result.desk.worker ≡ at_of executor edge.entry }
         ensures clear { IsClear result.desk.pending }
         ensures none { result.own ≡ Done }
@@ -215,12 +215,12 @@ pub fn run_lines<
     opened: (Executor<D, C>, Report),
     room: LineRoom,
 ) -> Run<'a, R, D, C, T, K>
-    requires fresh { IsNew edge.heard opened.0 }
+    requires fresh { IsNew edge.client_view opened.0 }
     requires reported { IsReportOf opened.0 opened.1 }
     ensures ends { Ended D.view C.view (M.gives context.now.metadata.now) (rules_of context.now) opened.1
         (at_of opened.0 edge.entry)
         result.edge result.ended result.disk result.children }
-    ensures told { ClosesByCalls D.view opened.0 result.edge.heard result.disk
+    ensures told { ClosesByCalls D.view opened.0 result.edge.client_view result.disk
         (C.view result.children) }
     ensures none_lives { (C.view result.children).live ≡ [] }
     ensures memory { IfErr result.ended (HasCause T.refuses) }

@@ -48,7 +48,7 @@ impl<'a, R: Input, D: Disk + Drop, C: Children + Drop, T: Client<D, C>, K: Clock
 
     ghost view = { λ w. at_of w.executor w.edge };
 
-    ghost invariant = { λ w. AllStand D.view w.edge.heard w.executor };
+    ghost invariant = { λ w. AllStand D.view w.edge.client_view w.executor };
 }
 
 impl<'a, R: Input, D: Disk + Drop, C: Children + Drop, T: Client<D, C>, K: Clock> Worker<
@@ -62,7 +62,7 @@ impl<'a, R: Input, D: Disk + Drop, C: Children + Drop, T: Client<D, C>, K: Clock
     /// An executor that was just opened, and a client that was sent nothing yet.
     #[tactic(auto, using(crate::proofs::TellLemmas::new_stands))]
     pub fn new(edge: Edge<'a, R, D, C, T, K>, executor: Executor<D, C>) -> Worker<'a, R, D, C, T, K>
-        requires fresh { IsNew edge.heard executor }
+        requires fresh { IsNew edge.client_view executor }
         ensures { result ≡ at_of executor edge.entry }
     {
         Worker { edge, executor }
@@ -71,7 +71,7 @@ impl<'a, R: Input, D: Disk + Drop, C: Children + Drop, T: Client<D, C>, K: Clock
     /// The edge and the executor.
     pub fn into_parts(self) -> (Edge<'a, R, D, C, T, K>, Executor<D, C>)
         ensures parts { at_of result.1 result.0 ≡ self.entry }
-        ensures stands { AllStand D.view result.0.heard result.1 }
+        ensures stands { AllStand D.view result.0.client_view result.1 }
     {
         let Worker { edge, executor } = self;
         (edge, executor)

@@ -1,7 +1,7 @@
 pub mod Seen
 pub mod Store
 pub mod Resting
-pub mod Contents
+pub mod RegistryView
 pub mod MonitorsAfter
 pub mod Lawful
 pub mod Answers

@@ -48,11 +48,11 @@ impl<A: Allocator + Copy> Model for Registry<A> {
     ghost use Rattle.indexmap.specs.IndexMap.{spare};
     ghost use Rattle.ocf_types.specs.Resource.{no_history};
     ghost use Rattle.exec_state.specs.Seen.{seen_all, monitors_all};
-    ghost use Rattle.exec_state.specs.Contents.{Contents};
+    ghost use Rattle.exec_state.specs.RegistryView.{RegistryView};
     ghost use Rattle.exec_state.specs.Resting.{RestBefore};
     ghost use Rattle.exec_state.specs.Store.{dues_by_id};
 
-    ghost Value = { Contents };
+    ghost Value = { RegistryView };
 
     ghost view = { λ r. record {
       resources = seen_all r.resources.entries;

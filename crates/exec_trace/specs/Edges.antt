@@ -1,6 +1,6 @@
 -- The view of a session's edge.
 use Rattle.std.specs.Prelude.{ℕ, nat_lt, if◌then◌else◌, List, [], ◌∷◌, ◌++◌, Option}
-use Rattle.exec_client.specs.Heard.{Heard}
+use Rattle.exec_client.specs.ClientView.{ClientView}
 use Rattle.exec_trace.specs.declared.event.IoEvent.{IoEvent}
 use Rattle.exec_trace.specs.declared.event.IoEvent.TheVariants.{Rested}
 
@@ -8,12 +8,12 @@ use Rattle.exec_trace.specs.declared.event.IoEvent.TheVariants.{Rested}
 -- answers
 pub record EdgeView (D : Type 0) : Type 0 where
   pub left : Option (List ℕ)
-  pub heard : Heard D
+  pub client_view : ClientView D
   pub events : List IoEvent
 
 -- the view after one more event
 abbrev pub noting : {D : Type 0} → EdgeView D → IoEvent → EdgeView D
-noting e event = record { left = e.left; heard = e.heard; events = e.events ++ event ∷ [] }
+noting e event = record { left = e.left; client_view = e.client_view; events = e.events ++ event ∷ [] }
 
 -- the events of a pause of this many microseconds: a pause of 0 has none
 abbrev pub rest_events : ℕ → List IoEvent
@@ -21,4 +21,4 @@ rest_events micros = if nat_lt 0 micros then Rested micros ∷ [] else []
 
 -- the view after such a pause
 abbrev pub rested : {D : Type 0} → EdgeView D → ℕ → EdgeView D
-rested e micros = record { left = e.left; heard = e.heard; events = e.events ++ rest_events micros }
+rested e micros = record { left = e.left; client_view = e.client_view; events = e.events ++ rest_events micros }

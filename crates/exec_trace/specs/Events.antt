@@ -18,7 +18,7 @@ last_shown (e ∷ events) = last_shown events
 abbrev pub is_failure : IoEvent → Bool
 is_failure (Read done) = not done
 is_failure (Sent done) = not done
-is_failure (Asked heard) = not heard
+is_failure (Asked client_view) = not client_view
 is_failure _ = false
 
 -- the last event is a failure

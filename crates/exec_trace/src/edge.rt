@@ -3,7 +3,7 @@ ghost use Rattle.std.specs.Prelude.{◌≡◌, [], ◌∷◌, ◌++◌, ◌≤�
 ghost use Rattle.ocf_types.specs.Numbers.{IsMoment};
 ghost use Rattle.exec_lines.specs.Buffer.{line_bytes};
 ghost use Rattle.exec_lines.specs.Pieces.{IsMidLine, IsNext};
-ghost use Rattle.exec_client.specs.Heard.{Hears, HearsPart, IsTold};
+ghost use Rattle.exec_client.specs.ClientView.{Receives, ReceivesPart, IsTold};
 ghost use Rattle.exec_client.specs.MayTell.{MayTell};
 ghost use Rattle.exec_client.specs.Said.{said_in};
 ghost use Rattle.exec_trace.specs.Edges.{EdgeView, noting, rested};
@@ -49,7 +49,7 @@ impl<'a, R: Input, D: Disk + Drop, C: Children + Drop, T: Client<D, C>, K: Clock
 
     ghost coded = { Prim.hlevel (codes, json_value.the_row.coded) };
 
-    ghost view = { λ e. record { left = R.remaining e.reader; heard = T.heard e.client; events = e.past.items } };
+    ghost view = { λ e. record { left = R.remaining e.reader; client_view = T.client_view e.client; events = e.past.items } };
 
     ghost invariant = { λ e. e.fault ≡ Memory → IsTrue T.refuses };
 }
@@ -64,7 +64,7 @@ impl<'a, R: Input, D: Disk + Drop, C: Children + Drop, T: Client<D, C>, K: Clock
 > {
     /// Nothing was asked yet.
     pub fn new(reader: R, client: T, clock: &'a K) -> Edge<'a, R, D, C, T, K>
-        ensures { result ≡ record { left = R.remaining reader; heard = T.heard client; events = [] } }
+        ensures { result ≡ record { left = R.remaining reader; client_view = T.client_view client; events = [] } }
     {
         Edge {
             reader,
@@ -107,7 +107,7 @@ impl<'a, R: Input, D: Disk + Drop, C: Children + Drop, T: Client<D, C>, K: Clock
             → IfOk result (λ next. MatchOption next
             (IsMidLine left (line_bytes buffer.new) self.new.left)
             (λ n. IsNext left n (line_bytes buffer.new) self.new.left)) }
-        ensures heard { self.new.heard ≡ self.old.heard }
+        ensures client_view { self.new.client_view ≡ self.old.client_view }
         ensures noted { self.new.events ≡ self.old.events ++ Read (is_ok result) ∷ [] }
     {
         let read = gather_line(&mut self.reader, buffer);
@@ -149,10 +149,10 @@ impl<'a, R: Input, D: Disk + Drop, C: Children + Drop, T: Client<D, C>, K: Clock
         form: NoticeForm,
         what: &Told,
     ) -> Result<(), Failed>
-        requires may_tell { MayTell D.view self.old.heard executor.now what.now }
-        ensures told { IsTold self.old.heard self.new.heard (said_in what.now) }
-        ensures hears { OnOk result (Hears form.entry self.old.heard self.new.heard (said_in what.now)) }
-        ensures breaks { OnErr result (HearsPart form.entry self.old.heard self.new.heard (said_in what.now)) }
+        requires may_tell { MayTell D.view self.old.client_view executor.now what.now }
+        ensures told { IsTold self.old.client_view self.new.client_view (said_in what.now) }
+        ensures receives { OnOk result (Receives form.entry self.old.client_view self.new.client_view (said_in what.now)) }
+        ensures breaks { OnErr result (ReceivesPart form.entry self.old.client_view self.new.client_view (said_in what.now)) }
         ensures left { self.new.left ≡ self.old.left }
         ensures noted { self.new.events ≡ self.old.events ++ Sent (is_ok result) ∷ [] }
     {
@@ -187,15 +187,15 @@ impl<'a, R: Input, D: Disk + Drop, C: Children + Drop, T: Client<D, C>, K: Clock
     pub fn is_heard(&mut self) -> bool
         ensures noted { self.new ≡ noting self.old (Asked result) }
     {
-        let heard = self.client.is_heard();
-        self.past.note(&IoEvent::Asked { heard });
-        heard
+        let client_view = self.client.is_heard();
+        self.past.note(&IoEvent::Asked { client_view });
+        client_view
     }
 
     /// The reader and the client, and the log of what they and the clock were asked.
     pub fn into_parts(self) -> (R, T, Past<IoEvent>)
         ensures left { R.remaining result.0 ≡ self.entry.left }
-        ensures heard { T.heard result.1 ≡ self.entry.heard }
+        ensures client_view { T.client_view result.1 ≡ self.entry.client_view }
         ensures events { result.2.items ≡ self.entry.events }
     {
         let Edge {

@@ -16,5 +16,5 @@ pub enum IoEvent {
     /// A message to the client: whether all of it was sent. Otherwise writing failed, or there was no memory for a line.
     Sent { done: bool },
     /// Whether anybody may still read the output.
-    Asked { heard: bool },
+    Asked { client_view: bool },
 }

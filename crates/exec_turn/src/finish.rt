@@ -1,7 +1,7 @@
 //! A turn that begins nothing.
 ghost use Rattle.std.specs.Prelude.{◌≡◌, ◌≢◌, ◌↔◌, ◌<◌, ◌*◌, true, false, length};
 ghost use Rattle.ocf_types.specs.Answer.{moment};
-ghost use Rattle.exec_ledger.specs.Held.{due_in};
+ghost use Rattle.exec_ledger.specs.LedgerView.{due_in};
 ghost use Rattle.exec_ledger.specs.Scenes.{scene_of};
 ghost use Rattle.exec_turn.specs.Actives.{any_running};
 ghost use Rattle.exec_turn.specs.Turns.{ChildrenMatch, Finishes, told_of};

@@ -10,10 +10,10 @@ use Rattle.child_model.specs.Children.{ChildrenView, given_up}
 use Rattle.exec_ledger.specs.Actives.{KeepsRuns, Active, active_of, all_in, runs_of}
 use Rattle.ocf_types.specs.declared.reply.Notice.{Notice}
 use Rattle.ocf_env.specs.Places.{SiteView}
-use Rattle.exec_ledger.specs.Held.{Held}
+use Rattle.exec_ledger.specs.LedgerView.{LedgerView}
 use Rattle.exec_turn.specs.Turns.{ChildrenMatch}
 use Rattle.executor.specs.Reports.{ReportView}
-use Rattle.executor.specs.Sights.{Tends, sight}
+use Rattle.executor.specs.ExecutorView.{ChildrenKeep, executor_view}
 
 -- where the running actions are as they were, their agent processes still live
 pub kept_matched : (s t : State) (v : ChildrenView) → KeepsRuns s t → ChildrenMatch s v → ChildrenMatch t v
@@ -30,8 +30,8 @@ kept_matched s t v keeps matched =
     }
 
 -- so the executor's part of the invariant is kept with the ledger's
-pub kept_tends : {D : Type 0} (h k : Held D) (v : ChildrenView) (w : SiteView) (n m : List Notice) (r : ReportView)
-    → KeepsRuns h.state k.state → Tends (sight h v w n r) → Tends (sight k v w m r)
+pub kept_tends : {D : Type 0} (h k : LedgerView D) (v : ChildrenView) (w : SiteView) (n m : List Notice) (r : ReportView)
+    → KeepsRuns h.state k.state → ChildrenKeep (executor_view h v w n r) → ChildrenKeep (executor_view k v w m r)
 kept_tends h k v w n m r keeps tends = record { matched = kept_matched h.state k.state v keeps tends.matched; admits = tends.admits }
 
 -- a resource that is not busy runs nothing

@@ -8,59 +8,59 @@ use Rattle.ocf_types.specs.declared.reply.TidyEnd.{TidyEnd}
 use Rattle.ocf_types.specs.declared.reply.TurnEnd.{TurnEnd}
 use Rattle.disk_model.specs.View.{View}
 use Rattle.exec_ledger.specs.Commands.{Obeys}
-use Rattle.exec_ledger.specs.Held.{Held}
+use Rattle.exec_ledger.specs.LedgerView.{LedgerView}
 use Rattle.exec_ledger.specs.Pieces.{Effects}
 use Rattle.executor.specs.Commands.{ServesOpen}
 use Rattle.executor.specs.FinishCalls.{FinishedWhile}
 use Rattle.executor.specs.Lives.{Abandoned, Calls, Cleared, Does, Exchange, Finished, Batch, Tidied, Took}
 use Rattle.executor.specs.Sessions.{Input, TakesWhile}
-use Rattle.executor.specs.Sights.{Sight, ledger_of}
+use Rattle.executor.specs.ExecutorView.{ExecutorView, ledger_of}
 use Rattle.executor.specs.TidyCalls.{TidiesWhile}
 use Rattle.executor.specs.declared.session.InputOf.TheVariants as input
 
 -- both are as they were
-pub record Lasts {D : Type 0} (x y : Sight D) : Type 0 where
+pub record Lasts {D : Type 0} (x y : ExecutorView D) : Type 0 where
   pub reported : y.reported ≡ x.reported
   pub refuses : y.refuses ≡ x.refuses
 
-same_lasts : {D : Type 0} (x y : Sight D) → y ≡ x → Lasts x y
-same_lasts x y same = record { reported = ap (λ (z : Sight _). z.reported) same; refuses = ap (λ (z : Sight _). z.refuses) same }
+same_lasts : {D : Type 0} (x y : ExecutorView D) → y ≡ x → Lasts x y
+same_lasts x y same = record { reported = ap (λ (z : ExecutorView _). z.reported) same; refuses = ap (λ (z : ExecutorView _). z.refuses) same }
 
 module _ {D : Type 0} (look : D → View) where
-  obeyed : (v : Result Event Refusal) (x y : Sight D) (r : Reply) → Obeys look v (ledger_of x) (ledger_of y) r → y.refuses ≡ x.refuses
-  obeyed (Err refusal) x y r obeys = ap (λ (h : Held D). h.refuses) obeys.1
+  obeyed : (v : Result Event Refusal) (x y : ExecutorView D) (r : Reply) → Obeys look v (ledger_of x) (ledger_of y) r → y.refuses ≡ x.refuses
+  obeyed (Err refusal) x y r obeys = ap (λ (h : LedgerView D). h.refuses) obeys.1
   obeyed (Ok e) x y r obeys = obeys.allocator
 
-  served : (now : ℕ) (request : Request) (x y : Sight D) (r : Reply) → ServesOpen look now request x y r → Lasts x y
+  served : (now : ℕ) (request : Request) (x y : ExecutorView D) (r : Reply) → ServesOpen look now request x y r → Lasts x y
   served now (asked.Question q) x y r serves = same_lasts x y serves.1
   served now (asked.Command c) x y r serves =
       record { reported = serves.1.reported; refuses = obeyed (event_of x.state now c) x y r serves.0 }
 
-  taken : (b : Bool) (i : Input) (x y : Sight D) (r : Reply) (d : Effects) → TakesWhile b look i x y r d → Lasts x y
+  taken : (b : Bool) (i : Input) (x y : ExecutorView D) (r : Reply) (d : Effects) → TakesWhile b look i x y r d → Lasts x y
   taken true (input.Request now request) x y r d takes = served now request x y r takes.serves
   taken true (input.Turn now) x y r d takes = record { reported = takes.takes.reported; refuses = takes.takes.allocator }
   taken false i x y r d takes = same_lasts x y takes.1
 
-  finished : (b : Bool) (now : ℕ) (x y : Sight D) (end : TurnEnd) (d : Effects) → FinishedWhile b look now x y end d → Lasts x y
+  finished : (b : Bool) (now : ℕ) (x y : ExecutorView D) (end : TurnEnd) (d : Effects) → FinishedWhile b look now x y end d → Lasts x y
   finished true now x y end d (takes, does) = record { reported = takes.reported; refuses = takes.allocator }
   finished false now x y end d takes = same_lasts x y takes.1
 
-  tidied : (b : Bool) (x y : Sight D) (end : TidyEnd) → TidiesWhile b look x y end → Lasts x y
-  tidied true x y end tidies = record { reported = tidies.1.reported; refuses = ap (λ (h : Held D). h.refuses) tidies.0.same }
+  tidied : (b : Bool) (x y : ExecutorView D) (end : TidyEnd) → TidiesWhile b look x y end → Lasts x y
+  tidied true x y end tidies = record { reported = tidies.1.reported; refuses = ap (λ (h : LedgerView D). h.refuses) tidies.0.same }
   tidied false x y end tidies = same_lasts x y tidies.1
 
-  pub call_lasts : (e : Exchange) (x y : Sight D) (d : Effects) → Does look e x y d → Lasts x y
+  pub call_lasts : (e : Exchange) (x y : ExecutorView D) (d : Effects) → Does look e x y d → Lasts x y
   call_lasts (Took i r) x y d does = taken x.is_open i x y r d does
   call_lasts (Batch now cs rs) x y d does =
-      record { reported = does.beside.reported; refuses = ap (λ (h : Held D). h.refuses) does.takes.records.went.same }
+      record { reported = does.beside.reported; refuses = ap (λ (h : LedgerView D). h.refuses) does.takes.records.went.same }
   call_lasts (Finished now end) x y d does = finished x.is_open now x y end d does
   call_lasts (Tidied end) x y d does = tidied x.is_open x y end does.0
   call_lasts Cleared x y d does =
-      record { reported = ap (λ (z : Sight D). z.reported) does.0; refuses = ap (λ (z : Sight D). z.refuses) does.0 }
+      record { reported = ap (λ (z : ExecutorView D). z.reported) does.0; refuses = ap (λ (z : ExecutorView D). z.refuses) does.0 }
   call_lasts Abandoned x y d does =
-      record { reported = ap (λ (z : Sight D). z.reported) does.0; refuses = ap (λ (z : Sight D). z.refuses) does.0 }
+      record { reported = ap (λ (z : ExecutorView D). z.reported) does.0; refuses = ap (λ (z : ExecutorView D). z.refuses) does.0 }
 
-  pub report_stays : (x y : Sight D) (es : List Exchange) (d : Effects) → Calls look x es y d → y.reported ≡ x.reported
+  pub report_stays : (x y : ExecutorView D) (es : List Exchange) (d : Effects) → Calls look x es y d → y.reported ≡ x.reported
   report_stays x y [] d calls = (same_lasts x y calls.0).reported
   report_stays x y (e ∷ es) d (mid, first, later, does, calls, is) =
       report_stays mid y es later calls ∙ (call_lasts e x mid first does).reported

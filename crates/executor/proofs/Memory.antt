@@ -22,7 +22,7 @@ use Rattle.executor.specs.Lives.{Abandoned, Calls, Cleared, Does, Exchange, Fini
 use Rattle.executor.specs.Machine.{LacksMemory}
 use Rattle.exec_ledger.specs.Pieces.{Effects}
 use Rattle.executor.specs.Sessions.{Input, TakesATurn, TakesWhile}
-use Rattle.executor.specs.Sights.{Sight, due_in, ledger_of}
+use Rattle.executor.specs.ExecutorView.{ExecutorView, due_in, ledger_of}
 use Rattle.executor.specs.declared.session.InputOf.TheVariants as input
 use Rattle.executor.proofs.Lasting.{call_lasts}
 
@@ -46,7 +46,7 @@ among b rs all (k, lt, is) =
 
 module _ {D : Type 0} (look : D → View) where
   -- requests
-  asked_refused : (v : Result Event Refusal) (now : ℕ) (c : Command) (x y : Sight D) (r : Reply) → event_of x.state now c ≡ v
+  asked_refused : (v : Result Event Refusal) (now : ℕ) (c : Command) (x y : ExecutorView D) (r : Reply) → event_of x.state now c ≡ v
       → Obeys look v (ledger_of x) (ledger_of y) r → r ≡ reply.Refused Memory → IsTrue x.refuses
   asked_refused (Err refusal) now c x y r is obeys lacks =
       let told : reply.Refused refusal ≡ reply.Refused Memory = sym obeys.0 ∙ lacks in
@@ -54,13 +54,13 @@ module _ {D : Type 0} (look : D → View) where
       absurd (no_memory x.state now c (is ∙ ap (λ (w : Refusal). Err w) same))
   asked_refused (Ok e) now c x y r is obeys lacks = (obeys.memory lacks).1
 
-  served : (now : ℕ) (request : Request) (x y : Sight D) (r : Reply) → ServesOpen look now request x y r → r ≡ reply.Refused Memory
+  served : (now : ℕ) (request : Request) (x y : ExecutorView D) (r : Reply) → ServesOpen look now request x y r → r ≡ reply.Refused Memory
       → IsTrue x.refuses
   served now (asked.Question q) x y r serves lacks = serves.2 lacks
   served now (asked.Command c) x y r serves lacks = asked_refused (event_of x.state now c) now c x y r refl serves.0 lacks
 
   -- turns
-  ended : (now : ℕ) (x y : Sight D) (r : Reply) (d : Effects) → TakesATurn look now x y r d → r ≡ reply.Turn turn_end.Memory → IsTrue x.refuses
+  ended : (now : ℕ) (x y : ExecutorView D) (r : Reply) (d : Effects) → TakesATurn look now x y r d → r ≡ reply.Turn turn_end.Memory → IsTrue x.refuses
   ended now x y r d takes lacks =
       let told : reply.Turn takes.end ≡ reply.Turn turn_end.Memory = sym takes.replies ∙ lacks in
       let same : takes.end ≡ turn_end.Memory = cc in
@@ -68,7 +68,7 @@ module _ {D : Type 0} (look : D → View) where
       (subst (λ (e : TurnEnd). IsTurn e (scene x.state (due_in x) x.place (moment x.state now) x.refuses) t.effects y.told) same
       t.does).0.picked.1 refl
 
-  taken : (b : Bool) (i : Input) (x y : Sight D) (r : Reply) (d : Effects) → TakesWhile b look i x y r d → LacksMemory (Took i r)
+  taken : (b : Bool) (i : Input) (x y : ExecutorView D) (r : Reply) (d : Effects) → TakesWhile b look i x y r d → LacksMemory (Took i r)
       → IsTrue x.refuses
   taken true (input.Request now request) x y r d takes lacks = served now request x y r takes.serves lacks
   taken true (input.Turn now) x y r d takes lacks = ended now x y r d takes lacks
@@ -79,7 +79,7 @@ module _ {D : Type 0} (look : D → View) where
       let told : reply.Turn turn_end.Closed ≡ reply.Turn turn_end.Memory = sym takes.0 ∙ lacks in
       let no : ⊥ = cc in absurd no
 
-  pub memory_told : (e : Exchange) (x y : Sight D) (d : Effects) → Does look e x y d → LacksMemory e → IsTrue x.refuses
+  pub memory_told : (e : Exchange) (x y : ExecutorView D) (d : Effects) → Does look e x y d → LacksMemory e → IsTrue x.refuses
   memory_told (Took i r) x y d does lacks = taken x.is_open i x y r d does lacks
   memory_told (Batch now cs rs) x y d does lacks =
       let told = does.takes.told in
@@ -91,7 +91,7 @@ module _ {D : Type 0} (look : D → View) where
   memory_told Abandoned x y d does lacks = absurd lacks
 
   -- so where no growth is refused no call reports want of memory
-  pub memory_there : (x y : Sight D) (es : List Exchange) (d : Effects) → Calls look x es y d → x.refuses ≡ false
+  pub memory_there : (x y : ExecutorView D) (es : List Exchange) (d : Effects) → Calls look x es y d → x.refuses ≡ false
       → AllByRecursion (λ e. LacksMemory e → ⊥) es
   memory_there x y [] d calls none = tt
   memory_there x y (e ∷ es) d (mid, first, later, does, calls, is) none = (

@@ -14,33 +14,33 @@ use Rattle.ocf_types.specs.declared.reply.TidyEnd.TheVariants.{Closed}
 use Rattle.disk_model.specs.View.{View}
 use Rattle.exec_state.specs.Answers.{IsReplyOrMemory}
 use Rattle.exec_ledger.specs.Commands.{TakesCommand}
-use Rattle.exec_ledger.specs.Held.{Held, While}
+use Rattle.exec_ledger.specs.LedgerView.{LedgerView, While}
 use Rattle.exec_ledger.specs.Laws.{of_closed}
 use Rattle.exec_ledger.specs.Shares.{Batch as SharedBatch, Share, Single, TakesCommands as LedgerTakesCommands, TakesShare, TakesShares}
 use Rattle.exec_ledger.specs.Tidying.{Tidies as LedgerTidies}
 use Rattle.exec_ledger.proofs.Keeping.{same_runs}
-use Rattle.executor.specs.CallLaws.{same_sight}
+use Rattle.executor.specs.CallLaws.{same_view}
 use Rattle.executor.specs.BatchLaws.{still_beside, with_ledger}
-use Rattle.executor.specs.Sights.{IsTended, Sight, ledger_of}
+use Rattle.executor.specs.ExecutorView.{ChildrenInvariant, ExecutorView, ledger_of}
 use Rattle.executor.specs.TidyCalls.{TidiesWhile}
 use Rattle.executor.proofs.Keeping.{kept_tends}
 
 module _ {D : Type 0} (look : D → View) (now : ℕ) where
   -- a ledger that ended open began open
-  pub command_open : (b : Bool) (c : Command) (r : Reply) (h k : Held D) → TakesCommand look now c h k r → k.is_open ≡ true → h.is_open ≡ b
+  pub command_open : (b : Bool) (c : Command) (r : Reply) (h k : LedgerView D) → TakesCommand look now c h k r → k.is_open ≡ true → h.is_open ≡ b
       → h.is_open ≡ true
   command_open true c r h k takes is was = was
-  command_open false c r h k takes is was = sym (ap (λ (x : Held D). x.is_open) (of_closed _ _ was takes).1) ∙ is
+  command_open false c r h k takes is was = sym (ap (λ (x : LedgerView D). x.is_open) (of_closed _ _ was takes).1) ∙ is
 
-  share_open : (s : Share) (h k : Held D) → TakesShare look now s h k → k.is_open ≡ true → h.is_open ≡ true
+  share_open : (s : Share) (h k : LedgerView D) → TakesShare look now s h k → k.is_open ≡ true → h.is_open ≡ true
   share_open (Single c r) h k takes is = command_open h.is_open c r h k takes is refl
   share_open (SharedBatch cs rs) h k takes is = takes.was_open
 
-  shares_open : (ss : List Share) (h k : Held D) → TakesShares look now ss h k → k.is_open ≡ true → h.is_open ≡ true
-  shares_open [] h k same is = sym (ap (λ (x : Held D). x.is_open) same) ∙ is
+  shares_open : (ss : List Share) (h k : LedgerView D) → TakesShares look now ss h k → k.is_open ≡ true → h.is_open ≡ true
+  shares_open [] h k same is = sym (ap (λ (x : LedgerView D). x.is_open) same) ∙ is
   shares_open (s ∷ ss) h k (mid, one, rest) is = share_open s h mid one (shares_open ss mid k rest is)
 
-  pub commands_open : (cs : List Command) (rs : List Reply) (h k : Held D) → LedgerTakesCommands look now cs h k rs → k.is_open ≡ true
+  pub commands_open : (cs : List Command) (rs : List Reply) (h k : LedgerView D) → LedgerTakesCommands look now cs h k rs → k.is_open ≡ true
       → h.is_open ≡ true
   commands_open cs rs h k takes is = shares_open takes.shares h k takes.takes is
 
@@ -64,14 +64,14 @@ question_kept s q r answers = given_kept (reply_to s q) r (by q) answers
     by (question.History id) is = said_kept (resource_at s id) _ (λ x bad. cc) is
 
 -- a tidy of a ledger is one of its executor, and leaves what is beside it
-pub tidy_taken : {D : Type 0} (look : D → View) (b : Bool) (x : Sight D) (h : Held D) (end : TidyEnd)
+pub tidy_taken : {D : Type 0} (look : D → View) (b : Bool) (x : ExecutorView D) (h : LedgerView D) (end : TidyEnd)
     → While b (LedgerTidies look (ledger_of x) h end) ((end ≡ Closed) × (h ≡ ledger_of x)) → TidiesWhile b look x (with_ledger x h) end
 tidy_taken look true x h end tidies = (tidies, still_beside x h)
-tidy_taken look false x h end tidies = (tidies.0, same_sight x (with_ledger x h) tidies.1 (still_beside x h))
+tidy_taken look false x h end tidies = (tidies.0, same_view x (with_ledger x h) tidies.1 (still_beside x h))
 
-pub tidied_tends : {D : Type 0} (look : D → View) (b : Bool) (x : Sight D) (h : Held D) (end : TidyEnd) → x.is_open ≡ b
-    → While b (LedgerTidies look (ledger_of x) h end) ((end ≡ Closed) × (h ≡ ledger_of x)) → IsTended x → IsTended (with_ledger x h)
+pub tidied_tends : {D : Type 0} (look : D → View) (b : Bool) (x : ExecutorView D) (h : LedgerView D) (end : TidyEnd) → x.is_open ≡ b
+    → While b (LedgerTidies look (ledger_of x) h end) ((end ≡ Closed) × (h ≡ ledger_of x)) → ChildrenInvariant x → ChildrenInvariant (with_ledger x h)
 tidied_tends look true x h end was tidies tended is =
-    kept_tends (ledger_of x) h x.children x.site x.told x.told x.reported (same_runs x.state h.state (ap (λ (y : Held _). y.state) tidies.same)) (tended was)
+    kept_tends (ledger_of x) h x.children x.site x.told x.told x.reported (same_runs x.state h.state (ap (λ (y : LedgerView _). y.state) tidies.same)) (tended was)
 tidied_tends look false x h end was tidies tended is =
-    absurd (true≢false (sym is ∙ ap (λ (y : Held _). y.is_open) tidies.1 ∙ was))
+    absurd (true≢false (sym is ∙ ap (λ (y : LedgerView _). y.is_open) tidies.1 ∙ was))

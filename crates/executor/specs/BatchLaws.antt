@@ -6,24 +6,24 @@ use Rattle.ocf_types.specs.Kinds.{Command, Reply}
 use Rattle.ocf_types.specs.declared.command.RequestOf.TheVariants as asked
 use Rattle.disk_model.specs.View.{View}
 use Rattle.exec_ledger.specs.Commands.{TakesCommand}
-use Rattle.exec_ledger.specs.Held.{Held}
+use Rattle.exec_ledger.specs.LedgerView.{LedgerView}
 use Rattle.exec_ledger.specs.Laws.{of_closed, of_open, while_closed, while_open}
 use Rattle.exec_ledger.specs.Pieces.{Effects, followed_by, no_effects, batch_effects}
 use Rattle.exec_ledger.specs.Shares.{Share, Single, TakesShare, TakesShares, commands_of as shared_commands, replies_of as shared_replies}
 use Rattle.exec_ledger.specs.Shares.{Batch as SharedBatch}
-use Rattle.executor.specs.CallLaws.{request_taken, same_sight}
+use Rattle.executor.specs.CallLaws.{request_taken, same_view}
 use Rattle.executor.specs.Commands.{Serves}
 use Rattle.executor.specs.Lives.{Calls, Does, Exchange, Batch, Took}
 use Rattle.executor.specs.CommandBatches.{CallsCommands, IsAt, TakesCommands, commands_of, replies_of}
 use Rattle.executor.specs.Sessions.{TakesWhile}
-use Rattle.executor.specs.Sights.{Beside, Sight, ledger_of, sight}
+use Rattle.executor.specs.ExecutorView.{OnlyLedgerChanges, ExecutorView, ledger_of, executor_view}
 use Rattle.executor.specs.declared.session.InputOf.TheVariants as input
 
 -- an executor with another ledger, all beside it as it was
-abbrev pub with_ledger : {D : Type 0} → Sight D → Held D → Sight D
-with_ledger x h = sight h x.children x.site x.told x.reported
+abbrev pub with_ledger : {D : Type 0} → ExecutorView D → LedgerView D → ExecutorView D
+with_ledger x h = executor_view h x.children x.site x.told x.reported
 
-pub still_beside : {D : Type 0} (x : Sight D) (h : Held D) → Beside x (with_ledger x h)
+pub still_beside : {D : Type 0} (x : ExecutorView D) (h : LedgerView D) → OnlyLedgerChanges x (with_ledger x h)
 still_beside x h = record { children = refl; site = refl; told = refl; reported = refl }
 
 -- a single command or a batch as a call
@@ -47,14 +47,14 @@ at_once now (Single c r ∷ ss) = (refl, at_once now ss)
 at_once now (SharedBatch cs rs ∷ ss) = (refl, at_once now ss)
 
 module _ {D : Type 0} (look : D → View) (now : ℕ) where
-  pub command_served : (b : Bool) (c : Command) (r : Reply) (x : Sight D) (h : Held D) → x.is_open ≡ b
+  pub command_served : (b : Bool) (c : Command) (r : Reply) (x : ExecutorView D) (h : LedgerView D) → x.is_open ≡ b
       → TakesCommand look now c (ledger_of x) h r → Serves look now (asked.Command c) x (with_ledger x h) r
   command_served true c r x h was does = while_open _ was ((of_open _ _ was does).0, still_beside x h)
   command_served false c r x h was does =
       let rests = of_closed _ _ was does in
-      while_closed _ was (rests.0, same_sight x (with_ledger x h) rests.1 (still_beside x h))
+      while_closed _ was (rests.0, same_view x (with_ledger x h) rests.1 (still_beside x h))
 
-  command_taken : (b : Bool) (c : Command) (r : Reply) (x : Sight D) (h : Held D) → x.is_open ≡ b
+  command_taken : (b : Bool) (c : Command) (r : Reply) (x : ExecutorView D) (h : LedgerView D) → x.is_open ≡ b
       → TakesCommand look now c (ledger_of x) h r
       → (d : Effects) × TakesWhile b look (input.Request now (asked.Command c)) x (with_ledger x h) r d
   command_taken true c r x h was does =
@@ -63,15 +63,15 @@ module _ {D : Type 0} (look : D → View) (now : ℕ) where
   command_taken false c r x h was does =
       let takes = of_closed _ _ was does in
       request_taken false look now (asked.Command c) x (with_ledger x h) r
-      (takes.0, same_sight x (with_ledger x h) takes.1 (still_beside x h)) (λ bad. absurd (true≢false (sym bad)))
+      (takes.0, same_view x (with_ledger x h) takes.1 (still_beside x h)) (λ bad. absurd (true≢false (sym bad)))
 
-  share_taken : (s : Share) (x : Sight D) (h : Held D) → TakesShare look now s (ledger_of x) h
+  share_taken : (s : Share) (x : ExecutorView D) (h : LedgerView D) → TakesShare look now s (ledger_of x) h
       → (d : Effects) × Does look (exchange_of now s) x (with_ledger x h) d
   share_taken (Single c r) x h takes = command_taken x.is_open c r x h refl takes
   share_taken (SharedBatch cs rs) x h takes =
       (batch_effects h.is_open takes.events, record { takes = takes; beside = still_beside x h; does = refl })
 
-  shares_taken : (ss : List Share) (x : Sight D) (h : Held D) → TakesShares look now ss (ledger_of x) h
+  shares_taken : (ss : List Share) (x : ExecutorView D) (h : LedgerView D) → TakesShares look now ss (ledger_of x) h
       → (d : Effects) × Calls look x (map (exchange_of now) ss) (with_ledger x h) d
   shares_taken [] x h same = (no_effects, (λ i. with_ledger x (same i), refl))
   shares_taken (s ∷ ss) x h (mid, one, rest) =
@@ -80,14 +80,14 @@ module _ {D : Type 0} (look : D → View) (now : ℕ) where
       (followed_by first.0 later.0, (with_ledger x mid, first.0, later.0, first.1, later.1, refl))
 
   -- commands that were taken are calls
-  pub commands_called : (cs : List Command) (rs : List Reply) (x y : Sight D) → TakesCommands look now cs x y rs
+  pub commands_called : (cs : List Command) (rs : List Reply) (x y : ExecutorView D) → TakesCommands look now cs x y rs
       → CallsCommands look now cs x y rs
   commands_called cs rs x y (takes, beside) =
       let h = ledger_of y in
       let all = shares_taken takes.shares x h takes.takes in
-      let same : y ≡ with_ledger x h = same_sight (with_ledger x h) y refl
+      let same : y ≡ with_ledger x h = same_view (with_ledger x h) y refl
       (record { children = beside.children; site = beside.site; told = beside.told; reported = beside.reported }) in
-      subst (λ (z : Sight D). CallsCommands look now cs x z rs) (sym same) (record {
+      subst (λ (z : ExecutorView D). CallsCommands look now cs x z rs) (sym same) (record {
         exchanges = map (exchange_of now) takes.shares;
         effects = all.0;
         calls = all.1;

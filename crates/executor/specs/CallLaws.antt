@@ -12,17 +12,17 @@ use Rattle.executor.specs.Commands.{ServesWhile}
 use Rattle.executor.specs.Lives.{Calls, Exchange}
 use Rattle.exec_ledger.specs.Pieces.{Effects, followed_by, no_effects}
 use Rattle.executor.specs.Sessions.{TakesWhile, request_effects}
-use Rattle.executor.specs.Sights.{Beside, Sight, ledger_of, sight}
+use Rattle.executor.specs.ExecutorView.{OnlyLedgerChanges, ExecutorView, ledger_of, executor_view}
 use Rattle.executor.specs.TurnCalls.{TurnsWhile}
 use Rattle.executor.specs.declared.session.InputOf.TheVariants as input
 
 -- executors are the same whose ledgers are, and all that is beside them
-pub same_sight : {D : Type 0} (x y : Sight D) → ledger_of y ≡ ledger_of x → Beside x y → y ≡ x
-same_sight x y same beside =
-    λ i. sight (same i) (beside.children i) (beside.site i) (beside.told i) (beside.reported i)
+pub same_view : {D : Type 0} (x y : ExecutorView D) → ledger_of y ≡ ledger_of x → OnlyLedgerChanges x y → y ≡ x
+same_view x y same beside =
+    λ i. executor_view (same i) (beside.children i) (beside.site i) (beside.told i) (beside.reported i)
 
 -- a request that was served was taken
-pub request_taken : {D : Type 0} (b : Bool) (look : D → View) (now : ℕ) (request : Request) (x y : Sight D) (reply : Reply)
+pub request_taken : {D : Type 0} (b : Bool) (look : D → View) (now : ℕ) (request : Request) (x y : ExecutorView D) (reply : Reply)
     → ServesWhile b look now request x y reply → (b ≡ true → ((y.is_open ≡ false) ↔ (reply ≡ Refused Disk)))
     → (d : Effects) × TakesWhile b look (input.Request now request) x y reply d
 request_taken true look now request x y reply serves closes =
@@ -30,7 +30,7 @@ request_taken true look now request x y reply serves closes =
 request_taken false look now request x y reply serves closes = (no_effects, (serves.0, serves.1, refl))
 
 -- a turn that was made was taken
-pub turn_taken : {D : Type 0} (b : Bool) (look : D → View) (now : ℕ) (x y : Sight D) (end : TurnEnd)
+pub turn_taken : {D : Type 0} (b : Bool) (look : D → View) (now : ℕ) (x y : ExecutorView D) (end : TurnEnd)
     → TurnsWhile b look now x y end → (d : Effects) × TakesWhile b look (input.Turn now) x y (Turn end) d
 turn_taken true look now x y end turns = (turns.turns.effects, record { end = end; takes = turns; replies = refl; does = refl })
 turn_taken false look now x y end turns = (no_effects, (ap (λ (e : TurnEnd). Turn e) turns.0, turns.1, refl))
@@ -54,11 +54,11 @@ followed_by_none a =
 
 module _ {D : Type 0} (look : D → View) where
   -- calls after others
-  pub calls_behind : (x y z : Sight D) (es fs : List Exchange) (a b : Effects) → Calls look x es y a → Calls look y fs z b
+  pub calls_behind : (x y z : ExecutorView D) (es fs : List Exchange) (a b : Effects) → Calls look x es y a → Calls look y fs z b
       → Calls look x (es ++ fs) z (followed_by a b)
   calls_behind x y z [] fs a b (same, none) later =
       subst (λ (d : Effects). Calls look x fs z d) (sym (ap (λ (d : Effects). followed_by d b) none))
-      (subst (λ (w : Sight D). Calls look w fs z b) same later)
+      (subst (λ (w : ExecutorView D). Calls look w fs z b) same later)
   calls_behind x y z (e ∷ es) fs a b (mid, first, rest, does, calls, is) later = (
     mid,
     first,

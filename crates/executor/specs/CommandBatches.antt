@@ -7,13 +7,13 @@ use Rattle.disk_model.specs.View.{View}
 use Rattle.executor.specs.Lives.{Calls, Exchange, Batch, Took}
 use Rattle.exec_ledger.specs.Pieces.{Effects}
 use Rattle.exec_ledger.specs.Shares.{TakesCommands as LedgerTakesCommands}
-use Rattle.executor.specs.Sights.{Beside, Sight, ledger_of}
+use Rattle.executor.specs.ExecutorView.{OnlyLedgerChanges, ExecutorView, ledger_of}
 use Rattle.executor.specs.declared.session.InputOf.TheVariants as input
 
 -- An executor takes commands one after the other at this moment, none left out, each with one reply: those of a batch have one
 -- record.
-abbrev pub TakesCommands : {D : Type 0} → (D → View) → ℕ → List Command → Sight D → Sight D → List Reply → Type 0
-TakesCommands look now commands old new given = LedgerTakesCommands look now commands (ledger_of old) (ledger_of new) given × Beside old new
+abbrev pub TakesCommands : {D : Type 0} → (D → View) → ℕ → List Command → ExecutorView D → ExecutorView D → List Reply → Type 0
+TakesCommands look now commands old new given = LedgerTakesCommands look now commands (ledger_of old) (ledger_of new) given × OnlyLedgerChanges old new
 
 -- the commands of a call, and the replies to them
 abbrev pub commands_of : Exchange → List Command
@@ -33,7 +33,7 @@ IsAt now (Batch at commands replies) = at ≡ now
 IsAt now _ = ⊥
 
 -- The same as calls, one after the other: each a command by itself, or a batch.
-pub record CallsCommands {D : Type 0} (look : D → View) (now : ℕ) (commands : List Command) (old new : Sight D) (given : List Reply) : Type 0 where
+pub record CallsCommands {D : Type 0} (look : D → View) (now : ℕ) (commands : List Command) (old new : ExecutorView D) (given : List Reply) : Type 0 where
   pub exchanges : List Exchange
   pub effects : Effects
   pub calls : Calls look old exchanges new effects

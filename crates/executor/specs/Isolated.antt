@@ -30,7 +30,7 @@ use Rattle.exec_turn.specs.Polls.{IsPoll, ending, entries_of}
 use Rattle.exec_turn.specs.Starts.{refused_end}
 use Rattle.exec_ledger.specs.Replies.{acknowledged}
 use Rattle.executor.specs.Lives.{Exchange, Finished, Took}
-use Rattle.executor.specs.Sights.{Sight, due_in}
+use Rattle.executor.specs.ExecutorView.{ExecutorView, due_in}
 use Rattle.executor.specs.declared.session.InputOf.TheVariants as input
 
 -- the resource, if it is registered, the due moment of each of its monitors, by call, and numbers above all that were handed in
@@ -41,7 +41,7 @@ pub record Isolated : Type 0 where
   pub next_run : ℕ
 
 -- this machine, as an executor has the resource
-abbrev pub isolated_of : {D : Type 0} → Sight D → List ℕ → Isolated
+abbrev pub isolated_of : {D : Type 0} → ExecutorView D → List ℕ → Isolated
 isolated_of x id = record { resource = resource_at x.state id; due = due_in x id; next_call = x.state.next_call; next_run = x.state.next_run }
 
 -- the resource after a change that names it

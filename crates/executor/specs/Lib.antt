@@ -1,4 +1,4 @@
-pub mod Sights
+pub mod ExecutorView
 pub mod Reports
 pub mod Interruptions
 pub mod Commands

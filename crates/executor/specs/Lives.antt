@@ -23,7 +23,7 @@ use Rattle.executor.specs.Interruptions.{dropped, interrupted}
 use Rattle.executor.specs.FinishCalls.{FinishedWhile}
 use Rattle.executor.specs.BatchCalls.{TakesBatch}
 use Rattle.executor.specs.Sessions.{Input, TakesWhile}
-use Rattle.executor.specs.Sights.{Sight}
+use Rattle.executor.specs.ExecutorView.{ExecutorView}
 use Rattle.executor.specs.TidyCalls.{TidiesWhile}
 use Rattle.executor.specs.TurnCalls.{abandoned, with_empty_book}
 
@@ -39,7 +39,7 @@ pub data Exchange : Type 0 where
   Abandoned : Exchange
 
 -- what a call does, from one view of the executor to another
-abbrev pub Does : {D : Type 0} → (D → View) → Exchange → Sight D → Sight D → Effects → Type 0
+abbrev pub Does : {D : Type 0} → (D → View) → Exchange → ExecutorView D → ExecutorView D → Effects → Type 0
 Does look (Took i reply) old new effects = TakesWhile old.is_open look i old new reply effects
 Does look (Batch now commands replies) old new effects = TakesBatch look now commands old new replies effects
 Does look (Finished now end) old new effects = FinishedWhile old.is_open look now old new end effects
@@ -48,10 +48,10 @@ Does look Cleared old new effects = (new ≡ with_empty_book old) × (effects �
 Does look Abandoned old new effects = (new ≡ abandoned old) × (effects ≡ no_effects)
 
 -- one call after the other; a session is the calls of its inputs
-abbrev pub Calls : {D : Type 0} → (D → View) → Sight D → List Exchange → Sight D → Effects → Type 0
+abbrev pub Calls : {D : Type 0} → (D → View) → ExecutorView D → List Exchange → ExecutorView D → Effects → Type 0
 Calls look old [] new effects = (new ≡ old) × (effects ≡ no_effects)
 Calls {D} look old (e ∷ es) new effects =
-    (mid : Sight D) × (first : Effects) × (later : Effects) × Does look e old mid first × Calls look mid es new later
+    (mid : ExecutorView D) × (first : Effects) × (later : Effects) × Does look e old mid first × Calls look mid es new later
     × (effects ≡ followed_by first later)
 
 -- An incarnation whose opening was done: the disk that its opening was handed, and when; the executor as it was opened, as the calls
@@ -60,9 +60,9 @@ Calls {D} look old (e ∷ es) new effects =
 pub record Service (D : Type 0) : Type 0 where
   pub disk : D
   pub now : ℕ
-  pub opened : Sight D
-  pub returned : Sight D
-  pub last : Sight D
+  pub opened : ExecutorView D
+  pub returned : ExecutorView D
+  pub last : ExecutorView D
   pub done : Effects
   pub under_way : Effects
   pub stop : ℕ

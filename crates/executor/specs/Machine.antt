@@ -19,7 +19,7 @@ use Rattle.exec_state.specs.Answers.{IsReplyOrMemory}
 use Rattle.two_parts.specs.Head.{last_epoch}
 use Rattle.exec_journal.specs.Place.{Place}
 use Rattle.exec_journal.specs.Batches.{IsTooLong}
-use Rattle.exec_ledger.specs.Held.{While}
+use Rattle.exec_ledger.specs.LedgerView.{While}
 use Rattle.exec_ledger.specs.Pieces.{Effects, followed_by, no_effects, batch_effects}
 use Rattle.exec_ledger.specs.Scenes.{due_after_all, scene}
 use Rattle.exec_ledger.specs.Together.{Answered, failed}

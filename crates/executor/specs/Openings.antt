@@ -22,7 +22,7 @@ use Rattle.executor.specs.declared.opening.OpenError.{OpenError}
 use Rattle.executor.specs.declared.opening.OpenError.TheVariants as why
 use Rattle.executor.specs.Interruptions.{dropped, interrupted}
 use Rattle.exec_ledger.specs.Boots.{BootsFrom, LacksBoot, booted}
-use Rattle.executor.specs.Sights.{IsSound, Sight, due_in}
+use Rattle.executor.specs.ExecutorView.{ExecutorInvariant, ExecutorView, due_in}
 
 -- An opening at this moment of the state found on these parts: the state after its boot, all recurring monitors due at that moment,
 -- and the notices of the actions that ran and of those that were queued.
@@ -59,7 +59,7 @@ pub record OpensDisk (old new : View) (now : ℕ) : Type 0 where
   pub unwritten : (old.honest → IsQuiet old.reads) → Unwritten old new
 
 -- an executor over these children, after they were given up: none of them was started for a later state than its own
-pub record IsOver {D : Type 0} (from : ChildrenView) (x : Sight D) : Type 0 where
+pub record IsOver {D : Type 0} (from : ChildrenView) (x : ExecutorView D) : Type 0 where
   pub is_open : x.is_open ≡ true
   pub children : x.children ≡ given_up from
   pub told : x.told ≡ []
@@ -73,10 +73,10 @@ pub record IsUnready (from to : ChildrenView) (s : State) (fault : OpenError) : 
   pub memory : fault ≡ why.Memory → (to ≡ given_up from) × (from.last_run < s.next_run)
 
 -- The executor was opened: from one view of the disk and these children, and with these notices, which it remembers.
-pub record Opened {D : Type 0} (look : D → View) (old : View) (from : ChildrenView) (now : ℕ) (x : Sight D)
+pub record Opened {D : Type 0} (look : D → View) (old : View) (from : ChildrenView) (now : ℕ) (x : ExecutorView D)
     (was_running was_queued : List Notice) : Type 0 where
   pub over : IsOver from x
-  pub sound : IsSound look x
+  pub sound : ExecutorInvariant look x
   pub starts : (look x.disk).honest → Starts old.reads now x.state (due_in x) was_running was_queued
   pub reported : x.reported ≡ record { interrupted = was_running; dropped = was_queued }
   pub did : OpensDisk old (look x.disk) now

@@ -7,7 +7,7 @@ use Rattle.executor.specs.Lives.{Calls, Exchange, Finished, InOpening, InService
 use Rattle.executor.specs.Machine.{Label}
 use Rattle.executor.specs.Runs.{Opening, Seen, Serving}
 use Rattle.exec_ledger.specs.Pieces.{Effects}
-use Rattle.executor.specs.Sights.{Sight}
+use Rattle.executor.specs.ExecutorView.{ExecutorView}
 use Rattle.executor.specs.declared.session.InputOf.TheVariants as input
 
 -- the notices of a call, of those that an executor holds after it: of a turn, of an executor that was open
@@ -17,7 +17,7 @@ notices_of true (Finished now end) told = told
 notices_of _ _ told = []
 
 -- the label of a call of an executor that was open or not
-abbrev pub label_in : {D : Type 0} → (D → View) → Bool → Exchange → Sight D → Sight D → Effects → Label
+abbrev pub label_in : {D : Type 0} → (D → View) → Bool → Exchange → ExecutorView D → ExecutorView D → Effects → Label
 label_in look was_open e old new effects = record {
   exchange = e;
   answers = effects.entries;
@@ -28,7 +28,7 @@ label_in look was_open e old new effects = record {
 }
 
 -- the labels of calls, one after the other
-abbrev pub labels : {D : Type 0} → (look : D → View) → (old : Sight D) → (es : List Exchange) → (new : Sight D) → (effects : Effects)
+abbrev pub labels : {D : Type 0} → (look : D → View) → (old : ExecutorView D) → (es : List Exchange) → (new : ExecutorView D) → (effects : Effects)
     → Calls look old es new effects → List Label
 labels look old [] new effects calls = []
 labels look old (e ∷ es) new effects (mid, first, later, does, rest, is) = label_in look old.is_open e old mid first ∷ labels look mid es new later rest

@@ -3,14 +3,14 @@ use Rattle.std.specs.Prelude.{◌≡◌, Bool}
 use Rattle.ocf_types.specs.declared.reply.TidyEnd.{TidyEnd}
 use Rattle.ocf_types.specs.declared.reply.TidyEnd.TheVariants.{Closed}
 use Rattle.disk_model.specs.View.{View}
-use Rattle.exec_ledger.specs.Held.{While}
+use Rattle.exec_ledger.specs.LedgerView.{While}
 use Rattle.exec_ledger.specs.Tidying.{Tidies as LedgerTidies}
-use Rattle.executor.specs.Sights.{Beside, Sight, ledger_of}
+use Rattle.executor.specs.ExecutorView.{OnlyLedgerChanges, ExecutorView, ledger_of}
 
 -- what a tidy of an open executor does: from one view of it to another
-abbrev pub Tidies : {D : Type 0} → (D → View) → Sight D → Sight D → TidyEnd → Type 0
-Tidies look old new end = LedgerTidies look (ledger_of old) (ledger_of new) end × Beside old new
+abbrev pub Tidies : {D : Type 0} → (D → View) → ExecutorView D → ExecutorView D → TidyEnd → Type 0
+Tidies look old new end = LedgerTidies look (ledger_of old) (ledger_of new) end × OnlyLedgerChanges old new
 
 -- the same while it is open or closed: a closed one does nothing
-abbrev pub TidiesWhile : Bool → {D : Type 0} → (D → View) → Sight D → Sight D → TidyEnd → Type 0
+abbrev pub TidiesWhile : Bool → {D : Type 0} → (D → View) → ExecutorView D → ExecutorView D → TidyEnd → Type 0
 TidiesWhile is_open look old new end = While is_open (Tidies look old new end) ((end ≡ Closed) × (new ≡ old))

@@ -5,15 +5,15 @@ use Rattle.ocf_types.specs.declared.reply.TurnEnd.{TurnEnd}
 use Rattle.ocf_types.specs.declared.reply.TurnEnd.TheVariants.{BookFull, Closed, Disk}
 use Rattle.disk_model.specs.View.{View}
 use Rattle.child_model.specs.Children.{emptied, given_up}
-use Rattle.exec_ledger.specs.Held.{While}
+use Rattle.exec_ledger.specs.LedgerView.{While}
 use Rattle.exec_ledger.specs.Scenes.{scene}
 use Rattle.exec_turn.specs.Turn.{IsFinish, IsTurn, TurnKind}
 use Rattle.exec_turn.specs.Turns.{TurnsAs}
-use Rattle.executor.specs.Sights.{Sight, due_in}
+use Rattle.executor.specs.ExecutorView.{ExecutorView, due_in}
 
 -- An open executor makes a turn of a kind at this moment, for which the book has to take this many entries a resource: from one view
 -- of it to another.
-pub record MakesTurn {D : Type 0} (kind : TurnKind) (entries : ℕ) (look : D → View) (now : ℕ) (old new : Sight D) (end : TurnEnd) : Type 0 where
+pub record MakesTurn {D : Type 0} (kind : TurnKind) (entries : ℕ) (look : D → View) (now : ℕ) (old new : ExecutorView D) (end : TurnEnd) : Type 0 where
   pub turns : TurnsAs kind look old.disk new.disk
       (scene old.state (due_in old) old.place (moment old.state now) old.refuses) new.state (due_in new) old.children new.children new.told end
   -- its site, its allocator and the report of its opening stay
@@ -27,23 +27,23 @@ pub record MakesTurn {D : Type 0} (kind : TurnKind) (entries : ℕ) (look : D �
   pub closes : (new.is_open ≡ false) ↔ (end ≡ Disk)
 
 -- a turn that begins what has to begin: a poll, a kill and a start are three entries
-abbrev pub TakesTurn : {D : Type 0} → (D → View) → ℕ → Sight D → Sight D → TurnEnd → Type 0
+abbrev pub TakesTurn : {D : Type 0} → (D → View) → ℕ → ExecutorView D → ExecutorView D → TurnEnd → Type 0
 TakesTurn look now old new end = MakesTurn IsTurn 3 look now old new end
 
 -- one that begins nothing: a poll and a kill are two
-abbrev pub FinishesTurn : {D : Type 0} → (D → View) → ℕ → Sight D → Sight D → TurnEnd → Type 0
+abbrev pub FinishesTurn : {D : Type 0} → (D → View) → ℕ → ExecutorView D → ExecutorView D → TurnEnd → Type 0
 FinishesTurn look now old new end = MakesTurn IsFinish 2 look now old new end
 
 -- both, of an executor that is open or closed: a closed one does nothing
-abbrev pub TurnsWhile : Bool → {D : Type 0} → (D → View) → ℕ → Sight D → Sight D → TurnEnd → Type 0
+abbrev pub TurnsWhile : Bool → {D : Type 0} → (D → View) → ℕ → ExecutorView D → ExecutorView D → TurnEnd → Type 0
 TurnsWhile is_open look now old new end = While is_open (TakesTurn look now old new end) ((end ≡ Closed) × (new ≡ old))
 
-abbrev pub FinishesWhile : Bool → {D : Type 0} → (D → View) → ℕ → Sight D → Sight D → TurnEnd → Type 0
+abbrev pub FinishesWhile : Bool → {D : Type 0} → (D → View) → ℕ → ExecutorView D → ExecutorView D → TurnEnd → Type 0
 FinishesWhile is_open look now old new end = While is_open (FinishesTurn look now old new end) ((end ≡ Closed) × (new ≡ old))
 
 -- the executor after its children's book was emptied, and after it gave up its children, which closes it
-abbrev pub with_empty_book : {D : Type 0} → Sight D → Sight D
+abbrev pub with_empty_book : {D : Type 0} → ExecutorView D → ExecutorView D
 with_empty_book x = record x { children = emptied x.children }
 
-abbrev pub abandoned : {D : Type 0} → Sight D → Sight D
+abbrev pub abandoned : {D : Type 0} → ExecutorView D → ExecutorView D
 abandoned x = record x { is_open = false; children = given_up x.children }

@@ -27,11 +27,11 @@ pub struct Executor<D: Disk + Drop, C: Children + Drop, A: Grows = Global> {
 impl<D: Disk + Drop, C: Children + Drop, A: Grows> Model for Executor<D, C, A> {
     ghost use Rattle.exec_turn.specs.Turns.{told_of};
     ghost use Rattle.executor.specs.Reports.{reported_of};
-    ghost use Rattle.executor.specs.Sights.{IsTended, Sight, sight};
+    ghost use Rattle.executor.specs.ExecutorView.{ChildrenInvariant, ExecutorView, executor_view};
 
-    ghost Value = { Sight D };
+    ghost Value = { ExecutorView D };
 
-    ghost view = { λ e. sight e.ledger (C.view e.children) e.site (told_of e.batches) (reported_of e.reported) };
+    ghost view = { λ e. executor_view e.ledger (C.view e.children) e.site (told_of e.batches) (reported_of e.reported) };
 
-    ghost invariant = { λ e. IsTended (sight e.ledger (C.view e.children) e.site (told_of e.batches) (reported_of e.reported)) };
+    ghost invariant = { λ e. ChildrenInvariant (executor_view e.ledger (C.view e.children) e.site (told_of e.batches) (reported_of e.reported)) };
 }

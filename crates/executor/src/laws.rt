@@ -25,7 +25,7 @@ ghost use Rattle.executor.specs.Parts.{AreRising, DistinctKeys, IsAnswered, entr
 ghost use Rattle.exec_ledger.specs.Together.{Answered};
 ghost use Rattle.exec_ledger.specs.Pieces.{Effects};
 ghost use Rattle.executor.specs.Sessions.{Input, Session};
-ghost use Rattle.executor.specs.Sights.{Sight};
+ghost use Rattle.executor.specs.ExecutorView.{ExecutorView};
 ghost use Rattle.executor.specs.Isolated.{Alone, Isolated, cut, isolated_after_all, isolated_of};
 ghost use Rattle.executor.specs.declared.opening.OpenError.{OpenError};
 ghost use Rattle.executor.specs.declared.opening.OpenError.TheVariants as why;
@@ -41,20 +41,20 @@ use ocf_types::laws::{lawful_states, layouts};
 /// handed in. The law holds while none of its replies reports a shortage that resources share, each turn ends done, and moments
 /// do not go back; the replies to others do not matter.
 pub fn each_alone<D: Disk>()
-    ensures alone { (x z : Sight D) (calls : List Exchange) (d : Effects) (id : List ℕ)
+    ensures alone { (x z : ExecutorView D) (calls : List Exchange) (d : Effects) (id : List ℕ)
         → DistinctKeys x.state → Calls D.view x calls z d
         → AllByRecursion IsAnswered (part id calls) → AreRising x.state.clock calls
         → Alone id (isolated_of x id) (part id calls)
         (entries_of_runs (own_runs id x.state d.events) d.entries)
         (events_of id d.events) }
     // the machine ends where the calls end
-    ensures ends { (x z : Sight D) (calls : List Exchange) (d : Effects) (id : List ℕ)
+    ensures ends { (x z : ExecutorView D) (calls : List Exchange) (d : Effects) (id : List ℕ)
         → Calls D.view x calls z d
         → AllByRecursion IsAnswered (part id calls) → AreRising x.state.clock calls
         → StandsAt (isolated_after_all (isolated_of x id) (events_of id d.events))
         (isolated_of z id) }
     // the same of a session, whose calls are its inputs with their replies
-    ensures session { (x z : Sight D) (inputs : List Input) (replies : List Reply) (d : Effects)
+    ensures session { (x z : ExecutorView D) (inputs : List Input) (replies : List Reply) (d : Effects)
         (id : List ℕ)
         → DistinctKeys x.state → Session D.view x inputs replies z d
         → AllByRecursion IsAnswered (part id (as_calls inputs replies))
@@ -63,7 +63,7 @@ pub fn each_alone<D: Disk>()
         (entries_of_runs (own_runs id x.state d.events) d.entries)
         (events_of id d.events) }
     // and of a batch of commands, even if its record failed
-    ensures batch { (now : ℕ) (x : Sight D) (commands : List Command) (replies : List Reply)
+    ensures batch { (now : ℕ) (x : ExecutorView D) (commands : List Command) (replies : List Reply)
         (es : List Event) (id : List ℕ)
         → Answered now x.state commands replies es
         → AllByRecursion IsAnswered (part_of id (Batch now commands replies))
@@ -82,30 +82,30 @@ pub fn parts_join()
 
 /// A session is the calls of its inputs.
 pub fn session_is_calls<D: Disk>()
-    ensures { (x z : Sight D) (inputs : List Input) (replies : List Reply) (d : Effects)
+    ensures { (x z : ExecutorView D) (inputs : List Input) (replies : List Reply) (d : Effects)
         → Session D.view x inputs replies z d
         → Calls D.view x (as_calls inputs replies) z d }
 {}
 
 /// Commands that were taken together are calls, one after the other: each a command by itself, or a batch.
 pub fn commands_are_calls<D: Disk>()
-    ensures { (now : ℕ) (commands : List Command) (given : List Reply) (x y : Sight D)
+    ensures { (now : ℕ) (commands : List Command) (given : List Reply) (x y : ExecutorView D)
         → TakesCommands D.view now commands x y given
         → CallsCommands D.view now commands x y given }
 {}
 
 /// An executor remembers the report of its opening, whatever is called.
 pub fn report_stays<D: Disk>()
-    ensures { (x y : Sight D) (calls : List Exchange) (d : Effects) → Calls D.view x calls y d
+    ensures { (x y : ExecutorView D) (calls : List Exchange) (d : Effects) → Calls D.view x calls y d
         → y.reported ≡ x.reported }
 {}
 
 /// Want of memory is reported only where the executor's allocator refuses memory: with an allocator that never refuses, no call
 /// reports it.
 pub fn memory_is_there<D: Disk>()
-    ensures told { (x y : Sight D) (call : Exchange) (d : Effects) → Does D.view call x y d
+    ensures told { (x y : ExecutorView D) (call : Exchange) (d : Effects) → Does D.view call x y d
         → LacksMemory call → IsTrue x.refuses }
-    ensures none { (x y : Sight D) (calls : List Exchange) (d : Effects) → Calls D.view x calls y d
+    ensures none { (x y : ExecutorView D) (calls : List Exchange) (d : Effects) → Calls D.view x calls y d
         → x.refuses ≡ false → AllByRecursion (λ call. LacksMemory call → ⊥) calls }
 {}
 
@@ -157,7 +157,7 @@ pub fn whole_life<D: Disk>()
         → (c : Image) → LifeLeaves D.view start life c
         → Roomy c }
     ensures opened { (start : State) (life : List (Sitting D)) (old : D) (from : ChildrenView)
-        (now : ℕ) (x : Sight D) (ran queued : List Notice)
+        (now : ℕ) (x : ExecutorView D) (ran queued : List Notice)
         → IsLife D.view start life → GoesOnFrom D.view start life old
         → Opened D.view (D.view old) from now x ran queued
         → (D.view x.disk).honest → OpensBehind start life now x.state ran queued }

@@ -26,7 +26,7 @@ const HEAD: usize = HEAD_LEN as usize;
 
 // A part's file, and the bytes that were read of it, from the first to the last.
 #[derive(Drop)]
-struct Sight<A: Allocator = Global> {
+struct ExecutorView<A: Allocator = Global> {
     file: Option<File>,
     bytes: Vec<u8, A>,
 }
@@ -65,24 +65,24 @@ fn read_whole<A: Allocator>(alloc: A, file: &File) -> io::Result<Vec<u8, A>> {
     Ok(bytes)
 }
 
-impl<A: Allocator + Copy> Sight<A> {
+impl<A: Allocator + Copy> ExecutorView<A> {
     // Reads a part's file, if there is one.
     fn of<R: Files<File = File>>(
         rt: &R,
         alloc: A,
         dir: &str,
         part: Part,
-    ) -> Result<Sight<A>, OpenFault>
+    ) -> Result<ExecutorView<A>, OpenFault>
         ensures { IfErr result (IsOfPart part) }
     {
         if entry_of(rt, alloc, dir, part)? == Entry::Missing {
             let bytes = Vec::new(alloc);
-            return Ok(Sight { file: None, bytes });
+            return Ok(ExecutorView { file: None, bytes });
         }
         let path = format!(in alloc; "{dir}/{}", file_name(part))?;
         let file = of_part(part, File::open(rt, path.as_str()))?;
         let bytes = of_part(part, read_whole(alloc, &file))?;
-        Ok(Sight {
+        Ok(ExecutorView {
             file: Some(file),
             bytes,
         })
@@ -116,14 +116,14 @@ pub(crate) fn examined<R: Files<File = File>, A: Allocator + Copy>(
     let OpenFault::Gone(part) = loss else {
         return loss;
     };
-    match Sight::of(rt, alloc, dir, other_part(part)) {
-        Ok(sight) => told_loss(loss, sight.bytes.as_slice()),
+    match ExecutorView::of(rt, alloc, dir, other_part(part)) {
+        Ok(executor_view) => told_loss(loss, executor_view.bytes.as_slice()),
         Err(fault) => fault,
     }
 }
 
 // Refuses a pair of which one file is gone, by the bytes that were read of both.
-fn refuse_lost<A: Allocator + Copy>(a: &Sight<A>, b: &Sight<A>) -> Result<(), OpenFault> {
+fn refuse_lost<A: Allocator + Copy>(a: &ExecutorView<A>, b: &ExecutorView<A>) -> Result<(), OpenFault> {
     let there = if a.bytes.is_empty() { b } else { a };
     match refuse_loss(a.entry(), b.entry()) {
         Ok(()) => Ok(()),
@@ -140,8 +140,8 @@ fn look<R: Files<File = File>, A: Allocator + Copy>(
     ensures { IfOk result
         (λ found. IfSome found (λ d. IsFresh (view_of d).reads d × (view_of d).honest)) }
 {
-    let a = Sight::of(rt, alloc, dir, Part::A)?;
-    let b = Sight::of(rt, alloc, dir, Part::B)?;
+    let a = ExecutorView::of(rt, alloc, dir, Part::A)?;
+    let b = ExecutorView::of(rt, alloc, dir, Part::B)?;
     let a_stands = of_part(Part::A, a.stands())?;
     let b_stands = of_part(Part::B, b.stands())?;
     if !(a_stands && b_stands) {

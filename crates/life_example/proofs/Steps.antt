@@ -17,7 +17,7 @@ use Rattle.executor.specs.Promise.{IsKept}
 use Rattle.executor.specs.Runs.{Runs}
 use Rattle.executor.specs.SeenLives.{seen}
 use Rattle.executor.specs.Sessions.{Effects, Input, no_effects}
-use Rattle.executor.specs.Sights.{Sight}
+use Rattle.executor.specs.ExecutorView.{ExecutorView}
 use Rattle.executor.specs.declared.opening.OpenError.{OpenError}
 use Rattle.life_example.specs.History.{IsHistory, IsPromised, IsSitting}
 
@@ -28,7 +28,7 @@ unanswered (i ∷ is) = refl
 
 module _ {D : Type 0} (look : D → View) where
   -- an incarnation of an executor that was opened and made calls
-  pub served : (old new : D) (from : ChildrenView) (now : ℕ) (opened last : Sight D) (ran queued : List Notice) (calls : List Exchange)
+  pub served : (old new : D) (from : ChildrenView) (now : ℕ) (opened last : ExecutorView D) (ran queued : List Notice) (calls : List Exchange)
       (d : Effects) → Opened look (look old) from now opened ran queued → Calls look opened calls last d → new ≡ last.disk
       → IsSitting look calls old new
   served old new from now opened last ran queued calls d opens made same = record {

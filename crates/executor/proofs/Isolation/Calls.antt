@@ -21,7 +21,7 @@ use Rattle.executor.specs.Lives.{Abandoned, Calls, Cleared, Exchange, Finished, 
 use Rattle.executor.specs.Lives.{Does as Called}
 use Rattle.executor.specs.Parts.{AreRising, DistinctKeys, IsAnswered, IsPlain, entries_of_runs, events_of, is_about, moment_in, own_runs, part, part_of}
 use Rattle.executor.specs.Sessions.{Input, Session, TakesWhile}
-use Rattle.executor.specs.Sights.{Sight, due_in}
+use Rattle.executor.specs.ExecutorView.{ExecutorView, due_in}
 use Rattle.executor.specs.Isolated.{Alone, Isolated, IsolatedPoll, cut, isolated_after_all, isolated_of, running_in}
 use Rattle.executor.specs.declared.session.InputOf.TheVariants as input
 use Rattle.executor.proofs.Isolation.Batches.{AllRefused, AreToldOf, IsStep, failed_told, own_command, plain_first, batch_alone, told_so}
@@ -50,7 +50,7 @@ module _ {D : Type 0} (look : D → View) (mine : ℕ → Bool) (id : List ℕ) 
   no_events effects none = ap (λ (x : Effects). events_of id x.events) none
 
   -- the machine agrees with the executor after a call
-  stands_behind : (at : ℕ) (y : Isolated) (old new : Sight D) (es : List Event) → Went mine id at old new es
+  stands_behind : (at : ℕ) (y : Isolated) (old new : ExecutorView D) (es : List Event) → Went mine id at old new es
       → Stands y old.state (due_in old) id → Stands (isolated_after_all y (events_of id es)) new.state (due_in new) id
   stands_behind at y old new es went stands =
       let own : events_of id (es ++ went.more) ≡ events_of id es = filter-append (names_it id) es went.more
@@ -61,7 +61,7 @@ module _ {D : Type 0} (look : D → View) (mine : ℕ → Bool) (id : List ℕ) 
       (sym went.does.due) (stands_all y old.state (due_in old) id (es ++ went.more) stands went.does.next)))
 
   -- the machine takes its part of a request, and of any call
-  request_alone : (open_now b : Bool) (y : Isolated) (now : ℕ) (old new : Sight D) (r : Reply) (d : Effects) (request : Request)
+  request_alone : (open_now b : Bool) (y : Isolated) (now : ℕ) (old new : ExecutorView D) (r : Reply) (d : Effects) (request : Request)
       → is_about id request ≡ b → old.state.clock ≤ cut now → (b ≡ true → IsPlain r) → Stands y old.state (due_in old) id
       → TakesWhile open_now look (input.Request now request) old new r d
       → IsStep b id y (Took (input.Request now request) r) (own_entries d.entries) (events_of id d.events)
@@ -82,7 +82,7 @@ module _ {D : Type 0} (look : D → View) (mine : ℕ → Bool) (id : List ℕ) 
   one_alone true y e es vs step = (es, [], vs, [], sym (append-nil es), sym (append-nil vs), step, (refl, refl))
   one_alone false y e es vs step = step
 
-  turn_alone : (open_now : Bool) (y : Isolated) (now : ℕ) (old new : Sight D) (r : Reply) (d : Effects) → old.state.clock ≤ cut now
+  turn_alone : (open_now : Bool) (y : Isolated) (now : ℕ) (old new : ExecutorView D) (r : Reply) (d : Effects) → old.state.clock ≤ cut now
       → IsPlain r → Stands y old.state (due_in old) id → AreApart old.state → AreOwn mine id (active old.state) → AllBeginOwn mine id d.events
       → TakesWhile open_now look (input.Turn now) old new r d
       → IsStep true id y (Took (input.Turn now) r) (own_entries d.entries) (events_of id d.events)
@@ -91,7 +91,7 @@ module _ {D : Type 0} (look : D → View) (mine : ℕ → Bool) (id : List ℕ) 
       turn_isolated now old new r d (turn_done look now old new r d clock plain takes) mine id y stands apart own begins
   turn_alone false y now old new r d clock plain stands apart own begins takes = absurd (closed_plain (input.Turn now) r takes.0 plain)
 
-  finish_alone : (open_now : Bool) (y : Isolated) (now : ℕ) (end : TurnEnd) (old new : Sight D) (d : Effects) → old.state.clock ≤ cut now
+  finish_alone : (open_now : Bool) (y : Isolated) (now : ℕ) (end : TurnEnd) (old new : ExecutorView D) (d : Effects) → old.state.clock ≤ cut now
       → end ≡ turn_end.Done → Stands y old.state (due_in old) id → AreApart old.state → AreOwn mine id (active old.state)
       → FinishedWhile open_now look now old new end d
       → IsStep true id y (Finished now end) (own_entries d.entries) (events_of id d.events)
@@ -105,7 +105,7 @@ module _ {D : Type 0} (look : D → View) (mine : ℕ → Bool) (id : List ℕ) 
   finish_alone false y now end old new d clock done stands apart own takes =
       absurd (let bad : turn_end.Closed ≡ turn_end.Done = sym takes.0 ∙ done in cc)
 
-  call_alone : (at : ℕ) (y : Isolated) (e : Exchange) (old new : Sight D) (d : Effects) → old.state.clock ≤ moment_in at e
+  call_alone : (at : ℕ) (y : Isolated) (e : Exchange) (old new : ExecutorView D) (d : Effects) → old.state.clock ≤ moment_in at e
       → AllByRecursion IsAnswered (part_of id e) → Stands y old.state (due_in old) id → AreApart old.state
       → AreOwn mine id (active old.state) → AllBeginOwn mine id d.events → Called look e old new d
       → Alone id y (part_of id e) (own_entries d.entries) (events_of id d.events)
@@ -143,7 +143,7 @@ module _ {D : Type 0} (look : D → View) (mine : ℕ → Bool) (id : List ℕ) 
   call_alone at y Abandoned old new d clock plain stands apart own begins does = (no_entries d does.1, no_events d does.1)
 
   -- the events of calls are new
-  calls_fresh : (at : ℕ) (es : List Exchange) (x z : Sight D) (d : Effects) → x.state.clock ≤ at → AreRising at es
+  calls_fresh : (at : ℕ) (es : List Exchange) (x z : ExecutorView D) (d : Effects) → x.state.clock ≤ at → AreRising at es
       → AllByRecursion IsAnswered (part id es) → Calls look x es z d → AreFresh x.state d.events
   calls_fresh at [] x z d clock rises plain calls = subst (λ (k : Effects). AreFresh x.state k.events) (sym calls.1) tt
   calls_fresh at (e ∷ es) x z d clock rises plain (mid, first, later, does, rest, all) =
@@ -164,12 +164,12 @@ module _ {D : Type 0} (look : D → View) (mine : ℕ → Bool) (id : List ℕ) 
           (subst (AreFresh x.state) (sym (append-nil first.events)) new_first)
 
   -- the machine after calls
-  calls_stand : (at : ℕ) (es : List Exchange) (y : Isolated) (x z : Sight D) (d : Effects) → x.state.clock ≤ at → AreRising at es
+  calls_stand : (at : ℕ) (es : List Exchange) (y : Isolated) (x z : ExecutorView D) (d : Effects) → x.state.clock ≤ at → AreRising at es
       → AllByRecursion IsAnswered (part id es) → Stands y x.state (due_in x) id → Calls look x es z d
       → Stands (isolated_after_all y (events_of id d.events)) z.state (due_in z) id
   calls_stand at [] y x z d clock rises plain stands calls =
       subst (λ (k : Effects). Stands (isolated_after_all y (events_of id k.events)) z.state (due_in z) id) (sym calls.1)
-      (subst (λ (w : Sight D). Stands y w.state (due_in w) id) (sym calls.0) stands)
+      (subst (λ (w : ExecutorView D). Stands y w.state (due_in w) id) (sym calls.0) stands)
   calls_stand at (e ∷ es) y x z d clock rises plain stands (mid, first, later, does, rest, all) =
       let went = call_went look mine id at e x mid first (le_trans clock rises.0) (each_first IsAnswered (part_of id e) (part id es) plain) does in
       let y2 = isolated_after_all y (events_of id first.events) in
@@ -181,7 +181,7 @@ module _ {D : Type 0} (look : D → View) (mine : ℕ → Bool) (id : List ℕ) 
       ∙ single-append y (events_of id first.events) (events_of id later.events))) there
 
   -- its part of calls is a behaviour of the machine
-  alone : (at : ℕ) (es : List Exchange) (y : Isolated) (x z : Sight D) (d : Effects) → x.state.clock ≤ at → AreRising at es
+  alone : (at : ℕ) (es : List Exchange) (y : Isolated) (x z : ExecutorView D) (d : Effects) → x.state.clock ≤ at → AreRising at es
       → AllByRecursion IsAnswered (part id es) → Stands y x.state (due_in x) id → AreApart x.state → AreOwn mine id (active x.state)
       → AllBeginOwn mine id d.events → Calls look x es z d → Alone id y (part id es) (own_entries d.entries) (events_of id d.events)
   unfolding own_entries
@@ -210,7 +210,7 @@ module _ {D : Type 0} (look : D → View) (mine : ℕ → Bool) (id : List ℕ) 
       (parts_join id y y2 (part_of id e) (part id es) (own_entries first.entries) (own_entries later.entries) (events_of id first.events)
       (events_of id later.events) one (stands_self y2) behind)))
 
-module _ {D : Type 0} (look : D → View) (x z : Sight D) where
+module _ {D : Type 0} (look : D → View) (x z : ExecutorView D) where
   -- the law
   pub each_alone : (es : List Exchange) (d : Effects) (id : List ℕ) → DistinctKeys x.state → Calls look x es z d
       → AllByRecursion IsAnswered (part id es) → AreRising x.state.clock es
@@ -240,7 +240,7 @@ module _ {D : Type 0} (look : D → View) (x z : Sight D) where
       each_alone (as_calls inputs replies) d id apart (session_is_calls look x z inputs replies d session) plain rises
 
 -- the law of a batch
-pub commands_alone : {D : Type 0} (now : ℕ) (x : Sight D) (commands : List Command) (replies : List Reply) (es : List Event) (id : List ℕ)
+pub commands_alone : {D : Type 0} (now : ℕ) (x : ExecutorView D) (commands : List Command) (replies : List Reply) (es : List Event) (id : List ℕ)
     → Answered now x.state commands replies es → AllByRecursion IsAnswered (part_of id (Batch now commands replies)) → x.state.clock ≤ cut now
     → Alone id (isolated_of x id) (part_of id (Batch now commands replies)) [] (events_of id es)
 commands_alone now x commands replies es id answered plain clock =

@@ -16,7 +16,7 @@ use Rattle.exec_turn.specs.Polls.{Polled, polls, results}
 use Rattle.exec_turn.specs.Turn.{EachPolled, IsFinish, OnlyResults}
 use Rattle.executor.specs.Isolated.{Isolated, IsolatedPoll, cut, running_in}
 use Rattle.executor.specs.Parts.{events_of}
-use Rattle.executor.specs.Sights.{Sight, due_in}
+use Rattle.executor.specs.ExecutorView.{ExecutorView, due_in}
 use Rattle.executor.specs.TurnCalls.{FinishesTurn}
 use Rattle.executor.proofs.Isolation.Changes.{Stands}
 use Rattle.executor.proofs.Isolation.Requests.{Does, moment_is, seen}
@@ -24,7 +24,7 @@ use Rattle.executor.proofs.Isolation.CommandBatches.{AreOwn, IsEnd, ends_fresh, 
 use Rattle.executor.proofs.Isolation.Turns.{AreApart, clock_behind, ends_at, own_polls}
 
 -- A turn that begins nothing ended done, at the moment that was handed in.
-pub record FinishDone {D : Type 0} (now : ℕ) (old new : Sight D) (effects : Effects) : Type 0 where
+pub record FinishDone {D : Type 0} (now : ℕ) (old new : ExecutorView D) (effects : Effects) : Type 0 where
   pub polled : List Polled
   pub each_polled : EachPolled (scene old.state (due_in old) old.place (cut now) old.refuses) polled
   pub entries : effects.entries ≡ polls (cut now) polled
@@ -32,7 +32,7 @@ pub record FinishDone {D : Type 0} (now : ℕ) (old new : Sight D) (effects : Ef
   pub state : new.state ≡ after_all old.state effects.events
   pub due : due_in new ≡ due_after_all old.state (due_in old) effects.events
 
-pub finish_done : {D : Type 0} (look : D → View) (now : ℕ) (old new : Sight D) (end : TurnEnd) (takes : FinishesTurn look now old new end)
+pub finish_done : {D : Type 0} (look : D → View) (now : ℕ) (old new : ExecutorView D) (end : TurnEnd) (takes : FinishesTurn look now old new end)
     → old.state.clock ≤ cut now → end ≡ Done → FinishDone now old new takes.turns.effects
 finish_done look now old new end takes clock is_done =
     let turns = takes.turns in
@@ -49,7 +49,7 @@ finish_done look now old new end takes clock is_done =
       due = turns.due_is;
     }
 
-module _ {D : Type 0} (now : ℕ) (old new : Sight D) (effects : Effects) (finish : FinishDone now old new effects) where
+module _ {D : Type 0} (now : ℕ) (old new : ExecutorView D) (effects : Effects) (finish : FinishDone now old new effects) where
   -- the state after it is that after its events
   pub finish_does : old.state.clock ≤ cut now → Does (cut now) (seen old) (seen new) effects.events
   finish_does clock =

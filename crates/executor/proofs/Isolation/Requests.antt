@@ -23,8 +23,8 @@ use Rattle.exec_ledger.specs.Replies.{IsReplyTo, KeepsRunning, acknowledged, rec
 use Rattle.exec_ledger.specs.Together.{Adds}
 use Rattle.exec_ledger.specs.Pieces.{Effects, batch_effects}
 use Rattle.executor.specs.Sessions.{TakesRequest, command_effects}
-use Rattle.executor.specs.CallLaws.{same_sight}
-use Rattle.executor.specs.Sights.{Sight, due_in, ledger_of}
+use Rattle.executor.specs.CallLaws.{same_view}
+use Rattle.executor.specs.ExecutorView.{ExecutorView, due_in, ledger_of}
 use Rattle.executor.specs.Isolated.{Follows, cut}
 use Rattle.executor.proofs.Isolation.Changes.{AreFresh, IsFresh}
 
@@ -33,7 +33,7 @@ pub record Seen : Type 0 where
   pub state : State
   pub due : Due
 
-abbrev pub seen : {D : Type 0} → Sight D → Seen
+abbrev pub seen : {D : Type 0} → ExecutorView D → Seen
 seen x = record { state = x.state; due = due_in x }
 
 -- the same after these events
@@ -130,7 +130,7 @@ pub record Commands (now : ℕ) (c : Command) (old new : Seen) (reply : Reply) (
   pub keep : AllByRecursion (λ e. KeepsRunning e.change) effects.events
   pub follows : IsPlain reply → Follows (event_of old.state now c) reply effects.events
 
-pub commands : {D : Type 0} (look : D → View) (now : ℕ) (c : Command) (old new : Sight D) (reply : Reply) (effects : Effects)
+pub commands : {D : Type 0} (look : D → View) (now : ℕ) (c : Command) (old new : ExecutorView D) (reply : Reply) (effects : Effects)
     → old.state.clock ≤ cut now
     → TakesRequest look now (asked.Command c) old new reply effects → Commands now c (seen old) (seen new) reply effects
 commands {D} look now c old new reply effects clock takes =
@@ -172,7 +172,7 @@ commands {D} look now c old new reply effects clock takes =
     by (Err why) is serves = record {
       no_entries = refl;
       names = tt;
-      does = rested (cut now) (seen old) (seen new) clock (ap seen (same_sight old new serves.1 takes.serves.1));
+      does = rested (cut now) (seen old) (seen new) clock (ap seen (same_view old new serves.1 takes.serves.1));
       keep = tt;
       follows = λ plain. subst (λ (w : Result Event Refusal). Follows w reply []) (sym is) (serves.0, refl);
     }

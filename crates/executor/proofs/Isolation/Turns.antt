@@ -32,7 +32,7 @@ use Rattle.executor.specs.Parts.{IsPlain, events_of}
 use Rattle.exec_ledger.specs.Laws.{same_entries, same_events}
 use Rattle.exec_ledger.specs.Pieces.{Effects}
 use Rattle.executor.specs.Sessions.{TakesATurn}
-use Rattle.executor.specs.Sights.{Sight, due_in}
+use Rattle.executor.specs.ExecutorView.{ExecutorView, due_in}
 use Rattle.executor.specs.Isolated.{Isolated, IsolatedPoll, IsolatedTurn, cut, running_in, isolated_after_all}
 use Rattle.executor.proofs.Isolation.Changes.{AreFresh, IsFresh, Stands, stands_all}
 use Rattle.executor.proofs.Isolation.Lists.{each_first, each_last, each_map, each_of_all, each_unmap, filter-map}
@@ -93,7 +93,7 @@ own_polls mine id at y s ps each bytes apart runs resource =
     (isolated_poll id at (running_in y) own (each_filter (λ p. IsPoll p.poll) (λ p. bytes_eq id p.who.id) ps bytes) who))
 
 -- A turn that ended done, at the moment that was handed in.
-pub record TurnDone {D : Type 0} (now : ℕ) (old new : Sight D) (given : Reply) (effects : Effects) : Type 0 where
+pub record TurnDone {D : Type 0} (now : ℕ) (old new : ExecutorView D) (given : Reply) (effects : Effects) : Type 0 where
   pub done : given ≡ reply.Turn Done
   pub t : Told Done (scene old.state (due_in old) old.place (cut now) old.refuses)
   pub entries : effects.entries ≡ polls (cut now) t.polled ++ starts t.clock t.started
@@ -101,7 +101,7 @@ pub record TurnDone {D : Type 0} (now : ℕ) (old new : Sight D) (given : Reply)
   pub state : new.state ≡ after_all old.state effects.events
   pub due : due_in new ≡ due_after_all old.state (due_in old) effects.events
 
-pub turn_done : {D : Type 0} (look : D → View) (now : ℕ) (old new : Sight D) (given : Reply) (effects : Effects) → old.state.clock ≤ cut now
+pub turn_done : {D : Type 0} (look : D → View) (now : ℕ) (old new : ExecutorView D) (given : Reply) (effects : Effects) → old.state.clock ≤ cut now
     → IsPlain given
     → TakesATurn look now old new given effects → TurnDone now old new given effects
 turn_done {D} look now old new given effects clock plain takes =
@@ -124,7 +124,7 @@ turn_done {D} look now old new given effects clock plain takes =
       due = turns.due_is ∙ ap (due_after_all old.state (due_in old)) (sym batch);
     }
 
-module _ {D : Type 0} (now : ℕ) (old new : Sight D) (given : Reply) (effects : Effects) (turn : TurnDone now old new given effects) where
+module _ {D : Type 0} (now : ℕ) (old new : ExecutorView D) (given : Reply) (effects : Effects) (turn : TurnDone now old new given effects) where
   at : ℕ
   at = cut now
 

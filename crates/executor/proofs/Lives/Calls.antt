@@ -12,25 +12,25 @@ use Rattle.executor.specs.Lives.{Abandoned, Calls, Cleared, Does, Exchange, Fini
 use Rattle.executor.specs.FinishCalls.{FinishedWhile}
 use Rattle.executor.specs.Machine.{AnswersClosed}
 use Rattle.executor.specs.BatchCalls.{TakesBatch}
-use Rattle.executor.specs.Sights.{Sight}
-use Rattle.exec_ledger.specs.Held.{Held}
+use Rattle.executor.specs.ExecutorView.{ExecutorView}
+use Rattle.exec_ledger.specs.LedgerView.{LedgerView}
 use Rattle.executor.proofs.Sessions.Growing.{Onward, leads_open, leads_still, leads_turn, onward, onward_at, onward_joined}
 
 module _ {D : Type 0} (look : D → View) where
   -- calls of a closed executor leave it closed, over the same disk, and do nothing
-  pub record Closed (x y : Sight D) (d : Effects) : Type 0 where
+  pub record Closed (x y : ExecutorView D) (d : Effects) : Type 0 where
     pub is_closed : y.is_open ≡ false
     pub disk : y.disk ≡ x.disk
     pub nothing : d ≡ no_effects
 
-  stays_closed : (x y : Sight D) (d : Effects) → x.is_open ≡ false → y ≡ x → d ≡ no_effects → Closed x y d
+  stays_closed : (x y : ExecutorView D) (d : Effects) → x.is_open ≡ false → y ≡ x → d ≡ no_effects → Closed x y d
   stays_closed x y d closed same nothing = record {
-    is_closed = ap (λ (z : Sight D). z.is_open) same ∙ closed;
-    disk = ap (λ (z : Sight D). z.disk) same;
+    is_closed = ap (λ (z : ExecutorView D). z.is_open) same ∙ closed;
+    disk = ap (λ (z : ExecutorView D). z.disk) same;
     nothing = nothing;
   }
 
-  pub does_nothing : (e : Exchange) (x y : Sight D) (d : Effects) → x.is_open ≡ false → Does look e x y d
+  pub does_nothing : (e : Exchange) (x y : ExecutorView D) (d : Effects) → x.is_open ≡ false → Does look e x y d
       → AnswersClosed e × Closed x y d
   does_nothing (Took i reply) x y d closed does =
       let none = of_closed _ _ closed does in (none.0, stays_closed x y d closed none.1 none.2)
@@ -41,14 +41,14 @@ module _ {D : Type 0} (look : D → View) where
       let none = of_closed _ _ closed does.0 in (none.0, stays_closed x y d closed none.1 does.1)
   does_nothing Cleared x y d closed does = (
     tt,
-    record { is_closed = ap (λ (z : Sight D). z.is_open) does.0 ∙ closed; disk = ap (λ (z : Sight D). z.disk) does.0; nothing = does.1 },
+    record { is_closed = ap (λ (z : ExecutorView D). z.is_open) does.0 ∙ closed; disk = ap (λ (z : ExecutorView D). z.disk) does.0; nothing = does.1 },
   )
   does_nothing Abandoned x y d closed does = (
     tt,
-    record { is_closed = ap (λ (z : Sight D). z.is_open) does.0; disk = ap (λ (z : Sight D). z.disk) does.0; nothing = does.1 },
+    record { is_closed = ap (λ (z : ExecutorView D). z.is_open) does.0; disk = ap (λ (z : ExecutorView D). z.disk) does.0; nothing = does.1 },
   )
 
-  pub calls_closed : (x z : Sight D) (es : List Exchange) (d : Effects) → x.is_open ≡ false → Calls look x es z d → Closed x z d
+  pub calls_closed : (x z : ExecutorView D) (es : List Exchange) (d : Effects) → x.is_open ≡ false → Calls look x es z d → Closed x z d
   calls_closed x z [] d closed calls = stays_closed x z d closed calls.0 calls.1
   calls_closed x z (e ∷ es) d closed (mid, first, later, does, rest, is) =
       let one = (does_nothing e x mid first closed does).1 in
@@ -60,7 +60,7 @@ module _ {D : Type 0} (look : D → View) where
       }
 
   -- a batch has the crash condition of any call
-  batch_going : (o : Bool) (x y : Sight D) (es : List Event) → y.is_open ≡ o
+  batch_going : (o : Bool) (x y : ExecutorView D) (es : List Event) → y.is_open ≡ o
       → Leaves look x.disk y.disk x.state (after_all x.state (batch_effects o es).events) (batch_effects o es)
       → y.state ≡ after_all x.state es → Onward look x y (batch_effects o es)
   batch_going true x y es is_open leaves state = record { crash = leaves; state = λ _. state; whole = λ _. refl }
@@ -70,21 +70,21 @@ module _ {D : Type 0} (look : D → View) where
     whole = λ is_open. absurd (false≢true (sym closed ∙ is_open));
   }
 
-  batch_onward : (x y : Sight D) (now : ℕ) (commands : List Command) (replies : List Reply) (d : Effects)
+  batch_onward : (x y : ExecutorView D) (now : ℕ) (commands : List Command) (replies : List Reply) (d : Effects)
       → TakesBatch look now commands x y replies d → Onward look x y d
   batch_onward x y now commands replies d takes =
       let batch = takes.takes.records in
       subst (λ (e : Effects). Onward look x y e) (sym takes.does)
-      (batch_going y.is_open x y takes.takes.events refl batch.crash (ap (λ (h : Held D). h.state) batch.went.same))
+      (batch_going y.is_open x y takes.takes.events refl batch.crash (ap (λ (h : LedgerView D). h.state) batch.went.same))
 
   -- so has a turn that begins nothing
-  finish_onward : (x y : Sight D) (now : ℕ) (end : TurnEnd) (d : Effects) → FinishedWhile true look now x y end d → Onward look x y d
+  finish_onward : (x y : ExecutorView D) (now : ℕ) (end : TurnEnd) (d : Effects) → FinishedWhile true look now x y end d → Onward look x y d
   finish_onward x y now end d (takes, does) =
       subst (λ (e : Effects). Onward look x y e) (sym does) (onward look x y _ (leads_turn look now x y end takes))
 
   module _ (lawful : (d : D) → (look d).honest → Lawful (look d)) where
     -- one more call, of an open executor
-    taken_more : (o : Bool) (w x y : Sight D) (e : Exchange) (a d : Effects) → x.is_open ≡ o → Does look e x y d → Onward look w x a
+    taken_more : (o : Bool) (w x y : ExecutorView D) (e : Exchange) (a d : Effects) → x.is_open ≡ o → Does look e x y d → Onward look w x a
         → Onward look w y (followed_by a d)
     taken_more true w x y (Took i reply) a d is_open does so_far =
         onward_joined look w x y a d is_open so_far
@@ -101,11 +101,11 @@ module _ {D : Type 0} (look : D → View) where
         (onward_joined look w x y a no_effects is_open so_far (onward_at look x y no_effects tidies.crash (λ _. refl)))
     taken_more true w x y Cleared a d is_open does so_far =
         subst (λ (b : Effects). Onward look w y b) (sym (followed_by_none a) ∙ ap (followed_by a) (sym does.1))
-        (subst (λ (z : Sight D). Onward look w z a) (sym does.0)
+        (subst (λ (z : ExecutorView D). Onward look w z a) (sym does.0)
         (record { crash = so_far.crash; state = so_far.state; whole = so_far.whole }))
     taken_more true w x y Abandoned a d is_open does so_far =
         subst (λ (b : Effects). Onward look w y b) (sym (followed_by_none a) ∙ ap (followed_by a) (sym does.1))
-        (subst (λ (z : Sight D). Onward look w z a) (sym does.0)
+        (subst (λ (z : ExecutorView D). Onward look w z a) (sym does.0)
         (record { crash = so_far.crash; state = λ bad. absurd (false≢true bad); whole = λ bad. absurd (false≢true bad) }))
     taken_more false w x y e a d closed does so_far =
         let none = (does_nothing e x y d closed does).1 in
@@ -116,10 +116,10 @@ module _ {D : Type 0} (look : D → View) where
         })
 
     -- any more calls
-    pub calls_more : (w x z : Sight D) (es : List Exchange) (a d : Effects) → Calls look x es z d → Onward look w x a
+    pub calls_more : (w x z : ExecutorView D) (es : List Exchange) (a d : Effects) → Calls look x es z d → Onward look w x a
         → Onward look w z (followed_by a d)
     calls_more w x z [] a d calls so_far =
-        subst (λ (y : Sight D). Onward look w y (followed_by a d)) (sym calls.0)
+        subst (λ (y : ExecutorView D). Onward look w y (followed_by a d)) (sym calls.0)
         (subst (λ (b : Effects). Onward look w x b) (sym (followed_by_none a) ∙ ap (followed_by a) (sym calls.1)) so_far)
     calls_more w x z (e ∷ es) a d (mid, first, later, does, rest, is) so_far =
         subst (λ (b : Effects). Onward look w z b) (sym (followed_by_assoc a first later) ∙ ap (followed_by a) (sym is))

@@ -19,7 +19,7 @@ use Rattle.executor.specs.Lives.{BeginsAs, EndsOpening, GoesOnFrom, MayBoot, InO
 use Rattle.executor.specs.Openings.{NotOpened, Opened, StartsLike}
 use Rattle.exec_ledger.specs.Boots.{booted}
 use Rattle.executor.specs.Interruptions.{dropped, interrupted}
-use Rattle.executor.specs.Sights.{Sight}
+use Rattle.executor.specs.ExecutorView.{ExecutorView}
 use Rattle.executor.specs.declared.opening.OpenError.{OpenError}
 use Rattle.executor.specs.declared.opening.OpenError.TheVariants as why
 use Rattle.executor.proofs.Openings.Ends.{read_only}
@@ -142,7 +142,7 @@ module _ {D : Type 0} (look : D → View) (law : WhatStands) (once : OneFinding)
       )
 
   -- so an opening after a history gives the state after the events that remain, and reports the actions that ran
-  pub opened_behind : (life : List (Sitting D)) (old : D) (from : ChildrenView) (now : ℕ) (x : Sight D) (ran queued : List Notice)
+  pub opened_behind : (life : List (Sitting D)) (old : D) (from : ChildrenView) (now : ℕ) (x : ExecutorView D) (ran queued : List Notice)
       → IsLife look start life → GoesOnFrom look start life old → Opened look (look old) from now x ran queued → (look x.disk).honest
       → OpensBehind start life now x.state ran queued
   opened_behind life old from now x ran queued is goes_on opens honest =

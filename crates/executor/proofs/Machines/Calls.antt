@@ -29,9 +29,9 @@ use Rattle.exec_ledger.specs.Pieces.{Effects, no_effects, batch_effects}
 use Rattle.exec_ledger.specs.Scenes.{due_after_all}
 use Rattle.executor.specs.SeenLives.{label_in, labels}
 use Rattle.executor.specs.Sessions.{TakesATurn, TakesRequest, command_effects}
-use Rattle.exec_ledger.specs.Held.{Held, due_in as held_due}
-use Rattle.executor.specs.CallLaws.{same_sight}
-use Rattle.executor.specs.Sights.{Beside, Sight, due_in, ledger_of}
+use Rattle.exec_ledger.specs.LedgerView.{LedgerView, due_in as held_due}
+use Rattle.executor.specs.CallLaws.{same_view}
+use Rattle.executor.specs.ExecutorView.{OnlyLedgerChanges, ExecutorView, due_in, ledger_of}
 use Rattle.exec_ledger.specs.Tidying.{Tidies}
 use Rattle.executor.specs.TurnCalls.{MakesTurn}
 use Rattle.executor.specs.declared.session.InputOf.TheVariants as input
@@ -39,7 +39,7 @@ use Rattle.executor.proofs.Lives.Calls.{does_nothing}
 use Rattle.executor.proofs.Memory.{memory_told}
 
 -- an executor as the machine
-abbrev pub machine_of : {D : Type 0} → Sight D → Machine
+abbrev pub machine_of : {D : Type 0} → ExecutorView D → Machine
 machine_of x = record { is_open = x.is_open; state = x.state; due = due_in x; refuses = x.refuses }
 
 pub same_machine : (m n : Machine) → m.is_open ≡ n.is_open → m.state ≡ n.state → m.due ≡ n.due → m.refuses ≡ n.refuses → m ≡ n
@@ -80,16 +80,16 @@ quiet_command (Err refusal) reply = refl
 quiet_command (Ok e) reply = refl
 
 module _ {D : Type 0} (look : D → View) where
-  still : (x y : Sight D) (d : Effects) → y ≡ x → d ≡ no_effects → GoesOn [] (machine_of x) (machine_of y) d
+  still : (x y : ExecutorView D) (d : Effects) → y ≡ x → d ≡ no_effects → GoesOn [] (machine_of x) (machine_of y) d
   still x y d same none = (ap machine_of same, none)
 
   -- a label with the device's failures, and the position of the journal's next record
-  abbrev step_of : Sight D → Sight D → Label
+  abbrev step_of : ExecutorView D → ExecutorView D → Label
   step_of x y = label_in look true Cleared x y no_effects
 
   -- a command
-  records : (now : ℕ) (c : Command) (x y : Sight D) (reply : Reply) (e : Event) → event_of x.state now c ≡ Ok e
-      → Records look e (ledger_of x) (ledger_of y) reply → Beside x y → x.is_open ≡ true → (y.is_open ≡ false → reply ≡ Refused Disk) → (reply ≡ Refused Disk → y.is_open ≡ false)
+  records : (now : ℕ) (c : Command) (x y : ExecutorView D) (reply : Reply) (e : Event) → event_of x.state now c ≡ Ok e
+      → Records look e (ledger_of x) (ledger_of y) reply → OnlyLedgerChanges x y → x.is_open ≡ true → (y.is_open ≡ false → reply ≡ Refused Disk) → (reply ≡ Refused Disk → y.is_open ≡ false)
       → TakesOne (step_of x y) now c reply (machine_of x) (machine_of y) (command_effects (Ok e) reply)
   records now c x y reply e is r beside was closes closed = by r.told
     where
@@ -115,7 +115,7 @@ module _ {D : Type 0} (look : D → View) where
             ),
           )
       by (inr (inl full)) =
-          inr (e, is, full, r.full full, (ap machine_of (same_sight x y (r.unchanged (inl full)) beside), same_effects e reply [] [] (ap (recorded e) full) (ap (pending e) full)))
+          inr (e, is, full, r.full full, (ap machine_of (same_view x y (r.unchanged (inl full)) beside), same_effects e reply [] [] (ap (recorded e) full) (ap (pending e) full)))
       by (inr (inr (inl memory))) =
           inl (
             reply ∷ [],
@@ -123,7 +123,7 @@ module _ {D : Type 0} (look : D → View) where
             answers x.state now c reply [] (Ok e) is (inr (memory, (r.memory memory).0, refl)),
             inl (
               refl,
-              (ap machine_of (same_sight x y (r.unchanged (inr memory)) beside), same_effects e reply [] [] (ap (recorded e) memory) (ap (pending e) memory)),
+              (ap machine_of (same_view x y (r.unchanged (inr memory)) beside), same_effects e reply [] [] (ap (recorded e) memory) (ap (pending e) memory)),
             ),
           )
       by (inr (inr (inr disk))) =
@@ -138,7 +138,7 @@ module _ {D : Type 0} (look : D → View) where
             ),
           )
 
-  one_command : (now : ℕ) (c : Command) (x y : Sight D) (reply : Reply) (d : Effects) → TakesRequest look now (asked.Command c) x y reply d
+  one_command : (now : ℕ) (c : Command) (x y : ExecutorView D) (reply : Reply) (d : Effects) → TakesRequest look now (asked.Command c) x y reply d
       → x.is_open ≡ true → TakesOne (step_of x y) now c reply (machine_of x) (machine_of y) d
   one_command now c x y reply d takes was =
       subst (λ (k : Effects). TakesOne (step_of x y) now c reply (machine_of x) (machine_of y) k) (sym takes.does)
@@ -147,11 +147,11 @@ module _ {D : Type 0} (look : D → View) where
       by : (v : Result Event Refusal) → event_of x.state now c ≡ v → Obeys look v (ledger_of x) (ledger_of y) reply
           → TakesOne (step_of x y) now c reply (machine_of x) (machine_of y) (command_effects v reply)
       by (Err refusal) is serves =
-          inl (reply ∷ [], [], answers x.state now c reply [] (Err refusal) is (serves.0, refl), inl (refl, still x y no_effects (same_sight x y serves.1 takes.serves.1) refl))
+          inl (reply ∷ [], [], answers x.state now c reply [] (Err refusal) is (serves.0, refl), inl (refl, still x y no_effects (same_view x y serves.1 takes.serves.1) refl))
       by (Ok e) is serves = records now c x y reply e is serves takes.serves.1 was takes.closes.0 takes.closes.1
 
   -- a batch of commands
-  batch_so : (o : Bool) (now : ℕ) (cs : List Command) (rs : List Reply) (x y : Sight D) (d : Effects) (t : TakesBatch look now cs x y rs d)
+  batch_so : (o : Bool) (now : ℕ) (cs : List Command) (rs : List Reply) (x y : ExecutorView D) (d : Effects) (t : TakesBatch look now cs x y rs d)
       → y.is_open ≡ o → TakesAll (step_of x y) now cs (batch_replies o t.takes.meant) (machine_of x) (machine_of y) (batch_effects o t.takes.events)
   batch_so true now cs rs x y d t is = (
     t.takes.meant,
@@ -160,8 +160,8 @@ module _ {D : Type 0} (look : D → View) where
     inl (
       refl,
       (
-        same_machine (machine_of y) _ (is ∙ sym t.takes.was_open) (ap (λ (h : Held D). h.state) t.takes.records.went.same)
-            t.takes.records.went.due (ap (λ (h : Held D). h.refuses) t.takes.records.went.same),
+        same_machine (machine_of y) _ (is ∙ sym t.takes.was_open) (ap (λ (h : LedgerView D). h.state) t.takes.records.went.same)
+            t.takes.records.went.due (ap (λ (h : LedgerView D). h.refuses) t.takes.records.went.same),
         refl,
       ),
     ),
@@ -171,13 +171,13 @@ module _ {D : Type 0} (look : D → View) where
     t.takes.events,
     t.takes.answered,
     inr (
-      (λ none. false≢true (sym is ∙ ap (λ (h : Held D). h.is_open) (t.takes.records.unchanged none) ∙ t.takes.was_open)),
+      (λ none. false≢true (sym is ∙ ap (λ (h : LedgerView D). h.is_open) (t.takes.records.unchanged none) ∙ t.takes.was_open)),
       refl,
       (t.takes.records.cause is, (is, refl)),
     ),
   )
 
-  one_batch : (now : ℕ) (cs : List Command) (rs : List Reply) (x y : Sight D) (d : Effects) → TakesBatch look now cs x y rs d
+  one_batch : (now : ℕ) (cs : List Command) (rs : List Reply) (x y : ExecutorView D) (d : Effects) → TakesBatch look now cs x y rs d
       → TakesAll (step_of x y) now cs rs (machine_of x) (machine_of y) d
   one_batch now cs rs x y d t =
       subst (λ (l : List Reply). TakesAll (step_of x y) now cs l (machine_of x) (machine_of y) d) (sym t.takes.told)
@@ -185,7 +185,7 @@ module _ {D : Type 0} (look : D → View) where
       (batch_so y.is_open now cs rs x y d t refl))
 
   -- a turn of a kind, by its label
-  turn_so : (kind : TurnKind) (each now : ℕ) (x y : Sight D) (end : TurnEnd) (e : Exchange) (t : MakesTurn kind each look now x y end)
+  turn_so : (kind : TurnKind) (each now : ℕ) (x y : ExecutorView D) (end : TurnEnd) (e : Exchange) (t : MakesTurn kind each look now x y end)
       → MovesTurn kind each end (moment x.state now)
       (record { exchange = e; answers = t.turns.effects.entries; notices = y.told; room = x.children.room; place = x.place; faults = ((look x.disk).failures, (look y.disk).failures) })
       (machine_of x) (machine_of y) t.turns.effects
@@ -198,13 +198,13 @@ module _ {D : Type 0} (look : D → View) where
     cause = t.turns.cause;
   }
 
-  one_finish : (now : ℕ) (x y : Sight D) (end : TurnEnd) (d : Effects) → FinishedWhile true look now x y end d
+  one_finish : (now : ℕ) (x y : ExecutorView D) (end : TurnEnd) (d : Effects) → FinishedWhile true look now x y end d
       → MovesOpen (Finished now end) (label_in look true (Finished now end) x y d) (machine_of x) (machine_of y) d
   one_finish now x y end d (takes, does) =
       subst (λ (k : Effects). MovesTurn IsFinish 2 end (moment x.state now) (label_in look true (Finished now end) x y k) (machine_of x) (machine_of y) k)
       (sym does) (turn_so IsFinish 2 now x y end (Finished now end) takes)
 
-  one_turn : (now : ℕ) (x y : Sight D) (reply : Reply) (d : Effects) → TakesATurn look now x y reply d
+  one_turn : (now : ℕ) (x y : ExecutorView D) (reply : Reply) (d : Effects) → TakesATurn look now x y reply d
       → MovesOpen (Took (input.Turn now) reply) (label_in look true (Took (input.Turn now) reply) x y d) (machine_of x) (machine_of y) d
   one_turn now x y reply d takes = (
     takes.end,
@@ -215,15 +215,15 @@ module _ {D : Type 0} (look : D → View) where
   )
 
   -- a tidy
-  tidied_open : (x y : Sight D) (d : Effects) (end : TidyEnd) → (end ≡ tidy.Disk → ⊥) → Tidies look (ledger_of x) (ledger_of y) end
+  tidied_open : (x y : ExecutorView D) (d : Effects) (end : TidyEnd) → (end ≡ tidy.Disk → ⊥) → Tidies look (ledger_of x) (ledger_of y) end
       → d ≡ no_effects → x.is_open ≡ true → GoesOn [] (machine_of x) (machine_of y) d
   tidied_open x y d end other t none was = (
-    same_machine (machine_of y) _ (is_true y.is_open (λ shut. other (t.closes.0 shut)) ∙ sym was) (ap (λ (h : Held D). h.state) t.same)
-        (ap held_due t.same) (ap (λ (h : Held D). h.refuses) t.same),
+    same_machine (machine_of y) _ (is_true y.is_open (λ shut. other (t.closes.0 shut)) ∙ sym was) (ap (λ (h : LedgerView D). h.state) t.same)
+        (ap held_due t.same) (ap (λ (h : LedgerView D). h.refuses) t.same),
     none,
   )
 
-  one_tidy : (end : TidyEnd) (x y : Sight D) (d : Effects) → Tidies look (ledger_of x) (ledger_of y) end → d ≡ no_effects → x.is_open ≡ true
+  one_tidy : (end : TidyEnd) (x y : ExecutorView D) (d : Effects) → Tidies look (ledger_of x) (ledger_of y) end → d ≡ no_effects → x.is_open ≡ true
       → TidyEnds end (label_in look true (Tidied end) x y d) (machine_of x) (machine_of y) d
   one_tidy tidy.Done x y d t none was = tidied_open x y d tidy.Done (λ is. cc) t none was
   one_tidy tidy.EpochSpent x y d t none was = (t.spent.0 refl, tidied_open x y d tidy.EpochSpent (λ is. cc) t none was)
@@ -231,7 +231,7 @@ module _ {D : Type 0} (look : D → View) where
   one_tidy tidy.Closed x y d t none was = t.not_closed refl
 
   -- an open executor
-  moves_open : (e : Exchange) (x y : Sight D) (d : Effects) → x.is_open ≡ true → Does look e x y d
+  moves_open : (e : Exchange) (x y : ExecutorView D) (d : Effects) → x.is_open ≡ true → Does look e x y d
       → MovesOpen e (label_in look true e x y d) (machine_of x) (machine_of y) d
   moves_open (Took (input.Request now (asked.Question q)) reply) x y d was does =
       let t : TakesRequest look now (asked.Question q) x y reply d =
@@ -251,9 +251,9 @@ module _ {D : Type 0} (look : D → View) where
       ((same_entries does.1, refl), one_tidy end x y d t.0 does.1 was)
   moves_open Cleared x y d was does = ((same_entries does.1, refl), (ap machine_of does.0, does.1))
   moves_open Abandoned x y d was does =
-      ((same_entries does.1, refl), (ap (λ (z : Sight D). z.is_open) does.0, does.1))
+      ((same_entries does.1, refl), (ap (λ (z : ExecutorView D). z.is_open) does.0, does.1))
 
-  moves : (o : Bool) (e : Exchange) (x y : Sight D) (d : Effects) → x.is_open ≡ o → Does look e x y d
+  moves : (o : Bool) (e : Exchange) (x y : ExecutorView D) (d : Effects) → x.is_open ≡ o → Does look e x y d
       → MovesWhile o (label_in look o e x y d) (machine_of x) (machine_of y) d
   moves true e x y d was does = (moves_open e x y d was does, memory_told look e x y d does)
   moves false e x y d was does =
@@ -261,14 +261,14 @@ module _ {D : Type 0} (look : D → View) where
       ((same_entries none.1.nothing, refl), none.0, (none.1.is_closed, none.1.nothing))
 
   -- calls, one after the other
-  pub moves_all : (es : List Exchange) (x y : Sight D) (d : Effects) (calls : Calls look x es y d)
+  pub moves_all : (es : List Exchange) (x y : ExecutorView D) (d : Effects) (calls : Calls look x es y d)
       → MovesAll (labels look x es y d calls) (machine_of x) (machine_of y) d
   moves_all [] x y d calls = (ap machine_of calls.0, calls.1)
   moves_all (e ∷ es) x y d (mid, first, later, does, rest, is) =
       (machine_of mid, first, later, moves x.is_open e x mid first refl does, moves_all es mid y later rest, is)
 
   -- the answers in their labels are those that their children gave
-  pub labels_answers : (es : List Exchange) (x y : Sight D) (d : Effects) (calls : Calls look x es y d)
+  pub labels_answers : (es : List Exchange) (x y : ExecutorView D) (d : Effects) (calls : Calls look x es y d)
       → flat_map (λ l. l.answers) (labels look x es y d calls) ≡ d.entries
   labels_answers [] x y d calls = sym (same_entries calls.1)
   labels_answers (e ∷ es) x y d (mid, first, later, does, rest, is) =

@@ -21,7 +21,7 @@ use Rattle.exec_ledger.specs.Boots.{booted}
 use Rattle.executor.specs.Interruptions.{dropped, interrupted}
 use Rattle.executor.specs.SeenLives.{labels, seen}
 use Rattle.exec_ledger.specs.Pieces.{followed_by}
-use Rattle.executor.specs.Sights.{due_in}
+use Rattle.executor.specs.ExecutorView.{due_in}
 use Rattle.executor.specs.declared.opening.OpenError.{OpenError}
 use Rattle.executor.specs.declared.opening.OpenError.TheVariants as why
 use Rattle.exec_ledger.specs.Laws.{WhatStands}

@@ -26,8 +26,8 @@ use Rattle.executor.specs.declared.opening.OpenError.TheVariants as why
 use Rattle.exec_ledger.specs.Boots.{Boots, BootsFrom, LacksBoot, booted}
 use Rattle.executor.specs.Openings.{IsQuiet, LacksRoom, NotOpened, Opened, OpensDisk, StartsLike, told_fault, told_slot, IsForeign, IsOver, IsOwn, IsUnready}
 use Rattle.executor.specs.Interruptions.{dropped, interrupted}
-use Rattle.exec_ledger.specs.Held.{Held}
-use Rattle.executor.specs.Sights.{Sight, due_in, ledger_of}
+use Rattle.exec_ledger.specs.LedgerView.{LedgerView}
+use Rattle.executor.specs.ExecutorView.{ExecutorView, due_in, ledger_of}
 use Rattle.exec_turn.specs.Turns.{ChildrenMatch}
 use Rattle.exec_ledger.proofs.Booting.{boot_quiet}
 use Rattle.executor.proofs.Keeping.{quiet_matched}
@@ -154,7 +154,7 @@ unready once old new p s from to now fault opens is = elim is.either [
 ]
 
 module _ {D : Type 0} (look : D → View) (law : WhatStands) (once : (c : Image) (s t : State) → FoundAs s c → FoundAs t c → s ≡ t)
-    (old : View) (from : ChildrenView) (now : ℕ) (mid : Sight D) (over : IsOver from mid)
+    (old : View) (from : ChildrenView) (now : ℕ) (mid : ExecutorView D) (over : IsOver from mid)
     (opens : OpensAt mid.place mid.state old (look mid.disk)) where
   -- memory was refused before the boot
   pub report_refused : (d : D) (to : ChildrenView) → d ≡ mid.disk → to ≡ mid.children → NotOpened old (look d) from to now why.Memory
@@ -164,7 +164,7 @@ module _ {D : Type 0} (look : D → View) (law : WhatStands) (once : (c : Image)
       (λ h. record { state = mid.state; found = opens.found h; earlier = over.rising })
       (λ h. own_children once old.reads mid.state from (opens.found h) over.rising))
 
-  module _ (new : Held D) where
+  module _ (new : LedgerView D) where
     both_passed : Passed (look mid.disk) (look new.disk) → Passed old (look new.disk)
     both_passed passed = passed_on old (look mid.disk) (look new.disk) opens.opens.crash.passed passed
 
@@ -184,7 +184,7 @@ module _ {D : Type 0} (look : D → View) (law : WhatStands) (once : (c : Image)
       where
         rests : (old.honest → IsQuiet old.reads) → (b : Bool) → any_busy mid.state ≡ b → Unwritten old (look new.disk)
         rests is_quiet false not =
-            subst (λ (x : Held D). Unwritten old (look x.disk)) (sym (quiet not)) (opens.opens.unwritten (λ h. (is_quiet h).0))
+            subst (λ (x : LedgerView D). Unwritten old (look x.disk)) (sym (quiet not)) (opens.opens.unwritten (λ h. (is_quiet h).0))
         rests is_quiet true busy =
             let never : (look new.disk).honest → ⊥ = λ h. let mid_h = crash.passed.honest h in
             true≢false (sym busy ∙ (is_quiet (opens.opens.crash.passed.honest mid_h)).1 mid.state (opens.found mid_h)) in
@@ -219,7 +219,7 @@ module _ {D : Type 0} (look : D → View) (law : WhatStands) (once : (c : Image)
         (stands_before h (law.stays lacks.place lacks.state old.reads lacks.stands))).0 in
         subst (λ p. LacksBoot p.tail mid.state) at here
 
-    pub opened : (x : Unit) (final : Sight D) (ran queued : List Notice) → Boots look now (ledger_of mid) new (Ok x) → final.is_open ≡ true
+    pub opened : (x : Unit) (final : ExecutorView D) (ran queued : List Notice) → Boots look now (ledger_of mid) new (Ok x) → final.is_open ≡ true
         → final.state ≡ new.state → final.disk ≡ new.disk → final.place ≡ new.place
         → due_in final ≡ due_at final.state (moment mid.state now) → final.children ≡ mid.children → final.told ≡ mid.told
         → final.reported ≡ record { interrupted = ran; dropped = queued }

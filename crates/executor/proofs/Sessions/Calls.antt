@@ -6,9 +6,9 @@ use Rattle.executor.specs.Joins.{as_calls}
 use Rattle.executor.specs.Lives.{Calls}
 use Rattle.exec_ledger.specs.Pieces.{Effects}
 use Rattle.executor.specs.Sessions.{Input, Session}
-use Rattle.executor.specs.Sights.{Sight}
+use Rattle.executor.specs.ExecutorView.{ExecutorView}
 
-pub session_is_calls : {D : Type 0} (look : D → View) (x z : Sight D) (is : List Input) (rs : List Reply) (d : Effects)
+pub session_is_calls : {D : Type 0} (look : D → View) (x z : ExecutorView D) (is : List Input) (rs : List Reply) (d : Effects)
     → Session look x is rs z d → Calls look x (as_calls is rs) z d
 session_is_calls look x z [] [] d session = session
 session_is_calls look x z [] (r ∷ rs) d session = absurd session

@@ -12,7 +12,7 @@ use Rattle.disk_model.specs.View.{View, Lawful}
 use Rattle.child_model.specs.declared.answer.Entry.{Entry}
 use Rattle.exec_ledger.specs.Scenes.{due_after_all}
 use Rattle.executor.specs.Sessions.{Input, Session, TakesWhile, request_effects, Leads, Sits, TakesOpen, command_effects}
-use Rattle.executor.specs.Sights.{Beside, Sight, due_in, ledger_of, IsSound, Keeps}
+use Rattle.executor.specs.ExecutorView.{OnlyLedgerChanges, ExecutorView, due_in, ledger_of, ExecutorInvariant, ExecutorKeeps}
 use Rattle.ocf_types.specs.Answer.{event_of}
 use Rattle.ocf_types.specs.declared.command.RequestOf.TheVariants as asked
 use Rattle.ocf_types.specs.declared.refusal.Refusal.{Refusal}
@@ -24,20 +24,20 @@ use Rattle.exec_ledger.specs.Pieces.{Effects, Leaves, followed_by, no_effects}
 use Rattle.exec_ledger.specs.Commands.{Obeys}
 use Rattle.executor.specs.Commands.{ServesOpen}
 use Rattle.exec_ledger.specs.Replies.{pending}
-use Rattle.executor.specs.CallLaws.{followed_by_assoc, followed_by_none, same_sight}
+use Rattle.executor.specs.CallLaws.{followed_by_assoc, followed_by_none, same_view}
 use Rattle.exec_turn.specs.Turn.{TurnKind}
 use Rattle.executor.specs.TurnCalls.{MakesTurn}
 use Rattle.executor.specs.declared.session.InputOf.TheVariants as input
 
 -- one more input
-pub session_more : {D : Type 0} (look : D → View) (x y z : Sight D) (is : List Input) (rs : List Reply) (i : Input) (r : Reply)
+pub session_more : {D : Type 0} (look : D → View) (x y z : ExecutorView D) (is : List Input) (rs : List Reply) (i : Input) (r : Reply)
     (a b : Effects)
     → Session look x is rs y a → TakesWhile y.is_open look i y z r b → Session look x (is ++ i ∷ []) (rs ++ r ∷ []) z (followed_by a b)
 session_more look x y z [] [] i r a b s t = (
   z,
   b,
   no_effects,
-  subst (λ (v : Sight _). TakesWhile v.is_open look i v z r b) s.0 t,
+  subst (λ (v : ExecutorView _). TakesWhile v.is_open look i v z r b) s.0 t,
   (refl, refl),
   ap (λ (d : Effects). followed_by d b) s.1
       ∙ sym (followed_by_none b),
@@ -55,8 +55,8 @@ session_more look x y z (j ∷ is) (q ∷ rs) i r a b (m, first, later, takes, r
 )
 
 -- without effects a crash leaves what it might have left before
-pub leads_start : {D : Type 0} (look : D → View) (law : WhatStands) (x : Sight D) → ((look x.disk).honest → Lawful (look x.disk))
-    → Keeps look x → Leads look x x no_effects
+pub leads_start : {D : Type 0} (look : D → View) (law : WhatStands) (x : ExecutorView D) → ((look x.disk).honest → Lawful (look x.disk))
+    → ExecutorKeeps look x → Leads look x x no_effects
 leads_start look law x lawful keeps = record {
   crash = settled_leaves law x.place x.state look x.disk lawful keeps.journal keeps.room;
   book = sym (append-nil x.children.book);
@@ -69,13 +69,13 @@ leads_start look law x lawful keeps = record {
 
 -- The effects of calls, even where the children's book was emptied: from one view of an executor to another. An executor that a disk
 -- fault closed may have gone on to a state that is not recorded.
-pub record Onward {D : Type 0} (look : D → View) (old new : Sight D) (effects : Effects) : Type 0 where
+pub record Onward {D : Type 0} (look : D → View) (old new : ExecutorView D) (effects : Effects) : Type 0 where
   pub crash : Leaves look old.disk new.disk old.state (after_all old.state effects.events) effects
   pub state : new.is_open ≡ true → new.state ≡ after_all old.state effects.events
   pub whole : new.is_open ≡ true → effects.pending ≡ []
 
 -- where the state is the one that is recorded
-pub onward_at : {D : Type 0} (look : D → View) (x y : Sight D) (d : Effects)
+pub onward_at : {D : Type 0} (look : D → View) (x y : ExecutorView D) (d : Effects)
     → Leaves look x.disk y.disk x.state y.state d → (y.is_open ≡ true → d.pending ≡ []) → Onward look x y d
 onward_at look x y d leaves whole = record {
   crash = subst (λ (t : State). Leaves look x.disk y.disk x.state t d) leaves.state leaves;
@@ -83,11 +83,11 @@ onward_at look x y d leaves whole = record {
   whole = whole;
 }
 
-pub onward : {D : Type 0} (look : D → View) (x y : Sight D) (d : Effects) → Leads look x y d → Onward look x y d
+pub onward : {D : Type 0} (look : D → View) (x y : ExecutorView D) (d : Effects) → Leads look x y d → Onward look x y d
 onward look x y d leads = onward_at look x y d leads.crash leads.whole
 
 -- where calls left it open, its state is the recorded one
-pub leads_still : {D : Type 0} (look : D → View) (w x : Sight D) (a : Effects) → ((look x.disk).honest → Lawful (look x.disk))
+pub leads_still : {D : Type 0} (look : D → View) (w x : ExecutorView D) (a : Effects) → ((look x.disk).honest → Lawful (look x.disk))
     → x.is_open ≡ true → Onward look w x a → Leads look x x no_effects
 leads_still look w x a lawful is_open so_far = record {
   crash = no_call look x.disk x.state lawful
@@ -106,10 +106,10 @@ no_pending : (e : Event) (reply : Reply) → (reply ≡ Refused Disk → ⊥) �
 no_pending e (Refused Disk) not_disk = absurd (not_disk refl)
 no_pending e reply not_disk = refl
 
-leads_command : {D : Type 0} (look : D → View) (x y : Sight D) (r : Result Event Refusal) (reply : Reply) → Leads look x x no_effects
-    → Obeys look r (ledger_of x) (ledger_of y) reply → Beside x y → ((y.is_open ≡ false) ↔ (reply ≡ Refused Disk)) → Leads look x y (command_effects r reply)
+leads_command : {D : Type 0} (look : D → View) (x y : ExecutorView D) (r : Result Event Refusal) (reply : Reply) → Leads look x x no_effects
+    → Obeys look r (ledger_of x) (ledger_of y) reply → OnlyLedgerChanges x y → ((y.is_open ≡ false) ↔ (reply ≡ Refused Disk)) → Leads look x y (command_effects r reply)
 leads_command look x y (Err refusal) reply still obeys beside closes =
-    subst (λ (z : Sight _). Leads look x z no_effects) (sym (same_sight x y obeys.1 beside)) still
+    subst (λ (z : ExecutorView _). Leads look x z no_effects) (sym (same_view x y obeys.1 beside)) still
 leads_command look x y (Ok e) reply still records beside closes = record {
   crash = records.crash;
   book = ap (λ (c : ChildrenView). c.book) beside.children ∙ sym (append-nil x.children.book);
@@ -120,16 +120,16 @@ leads_command look x y (Ok e) reply still records beside closes = record {
   whole = λ is_open. no_pending e reply (λ disk. absurd (true≢false (sym is_open ∙ closes.1 disk)));
 }
 
-leads_request : {D : Type 0} (look : D → View) (now : ℕ) (request : Request) (x y : Sight D) (reply : Reply) → Leads look x x no_effects
+leads_request : {D : Type 0} (look : D → View) (now : ℕ) (request : Request) (x y : ExecutorView D) (reply : Reply) → Leads look x x no_effects
     → ServesOpen look now request x y reply → ((y.is_open ≡ false) ↔ (reply ≡ Refused Disk))
     → Leads look x y (request_effects x.state now request reply)
 leads_request look now (asked.Question question) x y reply still serves closes =
-    subst (λ (z : Sight _). Leads look x z no_effects) (sym serves.1) still
+    subst (λ (z : ExecutorView _). Leads look x z no_effects) (sym serves.1) still
 leads_request look now (asked.Command command) x y reply still serves closes =
     leads_command look x y (event_of x.state now command) reply still serves.0 serves.1 closes
 
 -- the effects of a turn of any kind
-pub leads_turn : {D : Type 0} {kind : TurnKind} {most : ℕ} (look : D → View) (now : ℕ) (x y : Sight D) (end : TurnEnd)
+pub leads_turn : {D : Type 0} {kind : TurnKind} {most : ℕ} (look : D → View) (now : ℕ) (x y : ExecutorView D) (end : TurnEnd)
     (takes : MakesTurn kind most look now x y end)
     → Leads look x y takes.turns.effects
 leads_turn look now x y end takes = record {
@@ -143,7 +143,7 @@ leads_turn look now x y end takes = record {
 }
 
 -- the effects of one input
-pub leads_open : {D : Type 0} (look : D → View) (i : Input) (x y : Sight D) (reply : Reply) (d : Effects) → Leads look x x no_effects
+pub leads_open : {D : Type 0} (look : D → View) (i : Input) (x y : ExecutorView D) (reply : Reply) (d : Effects) → Leads look x x no_effects
     → TakesOpen look i x y reply d → Leads look x y d
 leads_open look (input.Request now request) x y reply d still takes =
     subst (λ (e : Effects). Leads look x y e) (sym takes.does)
@@ -152,7 +152,7 @@ leads_open look (input.Turn now) x y reply d still takes =
     subst (λ (e : Effects). Leads look x y e) (sym takes.does) (leads_turn look now x y takes.end takes.takes)
 
 -- calls after others
-pub onward_joined : {D : Type 0} (look : D → View) (x y z : Sight D) (a b : Effects) → y.is_open ≡ true → Onward look x y a
+pub onward_joined : {D : Type 0} (look : D → View) (x y z : ExecutorView D) (a b : Effects) → y.is_open ≡ true → Onward look x y a
     → Onward look y z b → Onward look x z (followed_by a b)
 onward_joined look x y z a b is_open one two =
     let nothing : a.pending ≡ [] = one.whole is_open in
@@ -168,7 +168,7 @@ onward_joined look x y z a b is_open one two =
       whole = λ still. ap (λ (p : List Event). p ++ b.pending) nothing ∙ two.whole still;
     }
 
-leads_joined : {D : Type 0} (look : D → View) (x y z : Sight D) (a b : Effects) → y.is_open ≡ true → Leads look x y a → Leads look y z b
+leads_joined : {D : Type 0} (look : D → View) (x y z : ExecutorView D) (a b : Effects) → y.is_open ≡ true → Leads look x y a → Leads look y z b
     → Leads look x z (followed_by a b)
 leads_joined look x y z a b is_open one two =
     let on = onward_joined look x y z a b is_open (onward look x y a one) (onward look y z b two) in
@@ -188,18 +188,18 @@ leads_joined look x y z a b is_open one two =
     }
 
 -- one more input, taken while the executor is open or closed
-leads_more : {D : Type 0} (o : Bool) (look : D → View) (i : Input) (x y z : Sight D) (reply : Reply) (a b : Effects) → y.is_open ≡ o
+leads_more : {D : Type 0} (o : Bool) (look : D → View) (i : Input) (x y z : ExecutorView D) (reply : Reply) (a b : Effects) → y.is_open ≡ o
     → ((look y.disk).honest → Lawful (look y.disk)) → TakesWhile o look i y z reply b → Leads look x y a
     → Leads look x z (followed_by a b)
 leads_more true look i x y z reply a b is_open lawful takes leads =
     leads_joined look x y z a b is_open leads
     (leads_open look i y z reply b (leads_still look x y a lawful is_open (onward look x y a leads)) takes)
 leads_more false look i x y z reply a b closed lawful takes leads =
-    subst (λ (w : Sight _). Leads look x w (followed_by a b)) (sym takes.1)
+    subst (λ (w : ExecutorView _). Leads look x w (followed_by a b)) (sym takes.1)
     (subst (λ (d : Effects). Leads look x y (followed_by a d)) (sym takes.2) (subst (λ (d : Effects). Leads look x y d) (sym (followed_by_none a)) leads))
 
 -- one more input, in a session
-pub sits_more : {D : Type 0} (look : D → View) (x y z : Sight D) (is : List Input) (rs : List Reply) (i : Input) (r : Reply) (b : Effects)
+pub sits_more : {D : Type 0} (look : D → View) (x y z : ExecutorView D) (is : List Input) (rs : List Reply) (i : Input) (r : Reply) (b : Effects)
     → ((look y.disk).honest → Lawful (look y.disk)) → Sits look is x y rs → TakesWhile y.is_open look i y z r b
     → Sits look (is ++ i ∷ []) x z (rs ++ r ∷ [])
 sits_more look x y z is rs i r b lawful sits takes = record {
@@ -208,7 +208,7 @@ sits_more look x y z is rs i r b lawful sits takes = record {
   leads = λ was_open. leads_more y.is_open look i x y z r sits.effects b refl lawful takes (sits.leads was_open);
 }
 
-pub sits_start : {D : Type 0} (look : D → View) (law : WhatStands) (x : Sight D) → ((look x.disk).honest → Lawful (look x.disk))
-    → IsSound look x → Sits look [] x x []
+pub sits_start : {D : Type 0} (look : D → View) (law : WhatStands) (x : ExecutorView D) → ((look x.disk).honest → Lawful (look x.disk))
+    → ExecutorInvariant look x → Sits look [] x x []
 sits_start look law x lawful sound =
     record { effects = no_effects; each = (refl, refl); leads = λ is_open. leads_start look law x lawful (sound is_open) }

@@ -1,5 +1,5 @@
 use Rattle.std.proofs.Common.{ap, subst, sym, ◌∙◌}
-use Rattle.executor.specs.Sights.{Sight}
+use Rattle.executor.specs.ExecutorView.{ExecutorView}
 use Rattle.exec_client.proofs.Growing.{abandoned_stands, all_still_stand}
 use Rattle.exec_client.specs.MayTell.{StandsBehind}
 use Rattle.exec_session.specs.Rules.{rules_of}
@@ -26,8 +26,8 @@ returns-clause-ends g c =
       ends =
           ends_from look source rules _ _ _ _ _ c.answer_lines-ended.result c.new-session.ensures.place
           (sym c.into_parts-edge.ensures.parts) c.answer_lines-ended.ensures.ends;
-      disk_is = c.close-disk.ensures.disk ∙ ap (λ (x : Sight g.row.D.Denot). x.disk) c.abandon.ensures.abandoned;
-      children_are = c.close-disk.ensures.children ∙ ap (λ (x : Sight g.row.D.Denot). x.children) c.abandon.ensures.abandoned;
+      disk_is = c.close-disk.ensures.disk ∙ ap (λ (x : ExecutorView g.row.D.Denot). x.disk) c.abandon.ensures.abandoned;
+      children_are = c.close-disk.ensures.children ∙ ap (λ (x : ExecutorView g.row.D.Denot). x.children) c.abandon.ensures.abandoned;
     }
 
 pub returns-clause-told : goal.returns-clause-told
@@ -35,14 +35,14 @@ returns-clause-told g c =
     let look = g.D.Disk.view in
     let (edge, executor) = c.into_parts-edge.result in
     let last = c.abandon.new.self in
-    let stands = all_still_stand look edge.heard executor last c.into_parts-edge.ensures.stands
+    let stands = all_still_stand look edge.client_view executor last c.into_parts-edge.ensures.stands
     (abandoned_stands look executor last c.abandon.ensures.abandoned) in
-    let opened = ap (λ (w : Position _). w.at.heard.opened) c.into_parts-edge.ensures.parts ∙ c.answer_lines-ended.ensures.lasts.opened
-    ∙ ap (λ (w : Position _). w.at.heard.opened) c.new-session.ensures.place ∙ c.requires.fresh.0 in
+    let opened = ap (λ (w : Position _). w.at.client_view.opened) c.into_parts-edge.ensures.parts ∙ c.answer_lines-ended.ensures.lasts.opened
+    ∙ ap (λ (w : Position _). w.at.client_view.opened) c.new-session.ensures.place ∙ c.requires.fresh.0 in
     record {
       last = last;
-      stands = subst (λ (o : Sight g.row.D.Denot). StandsBehind look o last edge.heard.told) opened stands;
-      is_closed = ap (λ (x : Sight g.row.D.Denot). x.is_open) c.abandon.ensures.abandoned;
+      stands = subst (λ (o : ExecutorView g.row.D.Denot). StandsBehind look o last edge.client_view.told) opened stands;
+      is_closed = ap (λ (x : ExecutorView g.row.D.Denot). x.is_open) c.abandon.ensures.abandoned;
       disk_is = c.close-disk.ensures.disk;
       children_are = c.close-disk.ensures.children;
     }

@@ -5,7 +5,7 @@ use Rattle.ocf_types.specs.declared.reply.Notice.{Notice}
 use Rattle.ocf_types.specs.declared.reply.TurnEnd.TheVariants as turn_end
 use Rattle.exec_ledger.specs.Laws.{settled_found, settled_roomy, whole}
 use Rattle.exec_ledger.specs.Scenes.{scene_of}
-use Rattle.exec_ledger.specs.Held.{due_in}
+use Rattle.exec_ledger.specs.LedgerView.{due_in}
 use Rattle.exec_turn.specs.Turn.{IsFinish}
 use Rattle.exec_turn.specs.Turns.{Finishes, told_of}
 use Rattle.exec_turn.proofs.Ends.{book_full, finish_done, finish_failed}

@@ -1,5 +1,5 @@
 use Rattle.std.proofs.Common.{Bool, Ok, None, subst, sym, arith}
-use Rattle.executor.specs.Sights.{Sight}
+use Rattle.executor.specs.ExecutorView.{ExecutorView}
 use Rattle.exec_lines.specs.Buffer.{line_bytes}
 use Rattle.exec_trace.specs.declared.failed.Failed.{Failed}
 use Rattle.exec_session.specs.Gathered.{waiting}
@@ -40,7 +40,7 @@ returns-then-answered-clause-takes g c = record {
       it.pending.held c.in-Some.line kept it.worker new c.requires.none c.in-Some.is c.in_ok-answered.ensures.keeps.1 come
       (subst (λ (b : Bool). AnswersHeld {E = Failed} look source rules c.in-Some.line it.worker.at new.at (Ok b)) c.if-answered.true
       c.in_ok-answered.ensures.answers)
-      (subst (λ (x : Sight _). MayGoOn c.args.context.now.way x) (sym c.in_ok-answered.ensures.stays)
+      (subst (λ (x : ExecutorView _). MayGoOn c.args.context.now.way x) (sym c.in_ok-answered.ensures.stays)
       (go_open c.args.context.now.way it.worker.at.executor c.requires.«open»)));
 }
 

@@ -1,5 +1,5 @@
 use Rattle.std.proofs.Common.{◌≡◌, ℕ, true, false, ap, arith, inl, refl, rules, subst, sym, ◌∙◌}
-use Rattle.executor.specs.Sights.{Sight}
+use Rattle.executor.specs.ExecutorView.{ExecutorView}
 use Rattle.exec_lines.specs.Buffer.{line_bytes}
 use Rattle.exec_trace.specs.declared.event.IoEvent.TheVariants.{Asked}
 use Rattle.ocf_types.specs.declared.reply.TurnEnd.{TurnEnd}
@@ -160,7 +160,7 @@ returns-then-wait g c = record {
             let (m, waited, same) = c.if-wait.ensures.waits in
             let waits = subst (λ (n : ℕ). Waits since n turned m) c.if-wait.ensures.moment waited in
             serve_begins c.args.context.now.way (midway c.wait.new.worker it.pending) c.requires.way
-            (ap (λ (x : Sight _). x.is_open)
+            (ap (λ (x : ExecutorView _). x.is_open)
             (waits_executor since moment turned c.wait.new.worker (waits_more since moment turned m c.wait.new.worker (Asked true) waits refl same))
             ∙ sym c.if-not-is_open.ensures.value) (c.in_ok-taken.ensures.none more);
         goes =

@@ -27,7 +27,7 @@ tell-requires g c =
     let y = c.serve_gathered.new.executor in
     let is = sym c.replies.ensures in record {
       may_tell =
-          may_tell look c.self.inside.edge.heard x y _ c.self.invariant
+          may_tell look c.self.inside.edge.client_view x y _ c.self.invariant
           (subst (λ (rs : List Reply). StandsBehind look x y (map answered rs)) is
           (both_stand look x r y [] _ c.make_room.ensures.stands c.serve_gathered.ensures.stands))
           (subst (λ (rs : List Reply). AllByRecursion (MayAnswer y) rs) is c.serve_gathered.ensures.says);
@@ -39,7 +39,7 @@ invariant_of-self g c =
     let x = c.self.inside.executor in
     let r = c.make_room.new.executor in
     let y = c.serve_gathered.new.executor in
-    after_told look c.self.inside.edge.heard c.tell.new.self.heard x y _ c.self.invariant
+    after_told look c.self.inside.edge.client_view c.tell.new.self.client_view x y _ c.self.invariant
     (subst (λ (rs : List Reply). StandsBehind look x y (map answered rs)) (sym c.replies.ensures)
     (both_stand look x r y [] _ c.make_room.ensures.stands c.serve_gathered.ensures.stands))
     c.tell.ensures.told
@@ -60,9 +60,9 @@ returns-clause-answers g c = record {
       let new = c.tell.new.self in
       let now = c.now-moment.result in
       let commands = waiting c.args.gathered.now in
-      all_answered look _ c.tell.result commands c.args.self.now.at (spot y new.heard new.events) (some_waits _ (sym c.is_empty.ensures ∙ c.if-is_empty.false))
+      all_answered look _ c.tell.result commands c.args.self.now.at (spot y new.client_view new.events) (some_waits _ (sym c.is_empty.ensures ∙ c.if-is_empty.false))
       (ok_map c.tell.result _ _
-      (λ tells. together_heard (Tells form) look _ now commands x y e c.args.self.now c.now-moment.new.self (spot y new.heard new.events) _
+      (λ tells. together_heard (Tells form) look _ now commands x y e c.args.self.now c.now-moment.new.self (spot y new.client_view new.events) _
       c.now-moment.ensures.noted c.self.view_is refl
       (record {
         middle = c.make_room.new.executor;
@@ -70,8 +70,8 @@ returns-clause-answers g c = record {
         takes = c.serve_gathered.ensures.takes;
         fails = c.serve_gathered.ensures.fails;
       })
-      (subst (λ (rs : List Reply). Tells form (spot y e.heard e.events) (spot y new.heard new.events) (map answered rs)) c.replies.ensures tells))
-      (sends form _ y e new c.tell.result c.tell.ensures.hears c.tell.ensures.noted));
+      (subst (λ (rs : List Reply). Tells form (spot y e.client_view e.events) (spot y new.client_view new.events) (map answered rs)) c.replies.ensures tells))
+      (sends form _ y e new c.tell.result c.tell.ensures.receives c.tell.ensures.noted));
   breaks =
       let look = g.D.Disk.view in
       let form = c.args.context.now.form in
@@ -81,9 +81,9 @@ returns-clause-answers g c = record {
       let new = c.tell.new.self in
       let now = c.now-moment.result in
       let commands = waiting c.args.gathered.now in
-      batch_broken look _ c.tell.result commands c.args.self.now.at (spot y new.heard new.events) (some_waits _ (sym c.is_empty.ensures ∙ c.if-is_empty.false))
+      batch_broken look _ c.tell.result commands c.args.self.now.at (spot y new.client_view new.events) (some_waits _ (sym c.is_empty.ensures ∙ c.if-is_empty.false))
       (err_map c.tell.result _ _
-      (λ tells. together_heard (TellsPart form) look _ now commands x y e c.args.self.now c.now-moment.new.self (spot y new.heard new.events) _
+      (λ tells. together_heard (TellsPart form) look _ now commands x y e c.args.self.now c.now-moment.new.self (spot y new.client_view new.events) _
       c.now-moment.ensures.noted c.self.view_is refl
       (record {
         middle = c.make_room.new.executor;
@@ -91,7 +91,7 @@ returns-clause-answers g c = record {
         takes = c.serve_gathered.ensures.takes;
         fails = c.serve_gathered.ensures.fails;
       })
-      (subst (λ (rs : List Reply). TellsPart form (spot y e.heard e.events) (spot y new.heard new.events) (map answered rs)) c.replies.ensures tells))
+      (subst (λ (rs : List Reply). TellsPart form (spot y e.client_view e.events) (spot y new.client_view new.events) (map answered rs)) c.replies.ensures tells))
       (sends_part form _ y e new c.tell.result c.tell.ensures.breaks c.tell.ensures.noted));
   cause = send_cause c.args.context.now.form [] c.serve_gathered.new.executor c.self.inside.edge c.tell.new.self c.tell.result c.tell.ensures.noted;
 }

@@ -21,7 +21,7 @@ tell-requires g c =
     let r = c.make_room.new.executor in
     let y = c.request_reply.new.executor in
     let stands = both_stand look x r y [] (answered c.request_reply.result ∷ []) c.make_room.ensures.stands c.request_reply.ensures.stands in
-    record { may_tell = may_tell look c.self.inside.edge.heard x y _ c.self.invariant stands c.request_reply.ensures.says }
+    record { may_tell = may_tell look c.self.inside.edge.client_view x y _ c.self.invariant stands c.request_reply.ensures.says }
 
 pub invariant_of-self : goal.invariant_of-self
 invariant_of-self g c =
@@ -30,7 +30,7 @@ invariant_of-self g c =
     let r = c.make_room.new.executor in
     let y = c.request_reply.new.executor in
     let stands = both_stand look x r y [] (answered c.request_reply.result ∷ []) c.make_room.ensures.stands c.request_reply.ensures.stands in
-    after_told look c.self.inside.edge.heard c.tell.new.self.heard x y _ c.self.invariant stands c.tell.ensures.told
+    after_told look c.self.inside.edge.client_view c.tell.new.self.client_view x y _ c.self.invariant stands c.tell.ensures.told
 
 pub returns : goal.returns
 returns g c = record {
@@ -49,9 +49,9 @@ returns g c = record {
             let new = c.tell.new.self in
             ok_map c.tell.result _ _
             (λ tells. request_answered look _ _ (Tells form) c.now-now.result c.args.request c.self.inside.executor c.make_room.new.executor y e
-            c.args.self.now c.now-now.new.self (spot y new.heard new.events) c.request_reply.result c.now-now.ensures.noted c.self.view_is
+            c.args.self.now c.now-now.new.self (spot y new.client_view new.events) c.request_reply.result c.now-now.ensures.noted c.self.view_is
             c.requires.«open» c.make_room.ensures.makes c.request_reply.ensures.serves c.request_reply.ensures.fails c.request_reply.ensures.closes tells)
-            (sends form _ y e new c.tell.result c.tell.ensures.hears c.tell.ensures.noted);
+            (sends form _ y e new c.tell.result c.tell.ensures.receives c.tell.ensures.noted);
         breaks =
             let look = g.D.Disk.view in
             let form = c.args.context.now.form in
@@ -60,7 +60,7 @@ returns g c = record {
             let new = c.tell.new.self in
             err_map c.tell.result _ _
             (λ tells. request_answered look _ _ (TellsPart form) c.now-now.result c.args.request c.self.inside.executor c.make_room.new.executor y e
-            c.args.self.now c.now-now.new.self (spot y new.heard new.events) c.request_reply.result c.now-now.ensures.noted c.self.view_is
+            c.args.self.now c.now-now.new.self (spot y new.client_view new.events) c.request_reply.result c.now-now.ensures.noted c.self.view_is
             c.requires.«open» c.make_room.ensures.makes c.request_reply.ensures.serves c.request_reply.ensures.fails c.request_reply.ensures.closes tells)
             (sends_part form _ y e new c.tell.result c.tell.ensures.breaks c.tell.ensures.noted);
         cause = send_cause c.args.context.now.form [] c.request_reply.new.executor c.self.inside.edge c.tell.new.self c.tell.result c.tell.ensures.noted;

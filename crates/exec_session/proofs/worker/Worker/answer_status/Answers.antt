@@ -1,5 +1,5 @@
 use Rattle.std.proofs.Common.{Ok, ap, refl, subst}
-use Rattle.executor.specs.Sights.{Sight}
+use Rattle.executor.specs.ExecutorView.{ExecutorView}
 use Rattle.exec_commands.specs.declared.line.Line.TheVariants as line
 use Rattle.exec_session.specs.Answers.{IsStatusReply}
 use Rattle.exec_session.specs.Rules.{rules_of}
@@ -11,7 +11,7 @@ use Rattle.exec_session.proofs.worker.Worker.answer_status.Goals as goal
 
 pub tell_reply-requires : goal.tell_reply-requires
 tell_reply-requires g c =
-    let is = subst (λ (x : Sight _). IsStatusReply x c.status_reply-reply.result) (ap (λ (P : Position _). P.at.executor) c.self.view_is)
+    let is = subst (λ (x : ExecutorView _). IsStatusReply x c.status_reply-reply.result) (ap (λ (P : Position _). P.at.executor) c.self.view_is)
     c.status_reply-reply.ensures.status in
     let plain = status_plain c.args.self.now.at.executor c.status_reply-reply.result c.requires.«open» is in
     record { plain = plain.0; says = plain.1 }
@@ -25,7 +25,7 @@ returns g c = record {
       let p = c.args.self.now in
       let q = c.tell_reply.new.self in
       let reply = c.status_reply-reply.result in
-      let is = subst (λ (x : Sight _). IsStatusReply x reply) (ap (λ (P : Position _). P.at.executor) c.self.view_is) c.status_reply-reply.ensures.status in
+      let is = subst (λ (x : ExecutorView _). IsStatusReply x reply) (ap (λ (P : Position _). P.at.executor) c.self.view_is) c.status_reply-reply.ensures.status in
       answers_step look source rules c.tell_reply.result (Ok line.Status) reply p p q (here_keeps p)
       (λ tells_so tells. open_answered look source rules tells_so (Ok line.Status) reply p.at p.at q.at c.requires.«open» (is, refl) tells)
       c.tell_reply.ensures.sends;

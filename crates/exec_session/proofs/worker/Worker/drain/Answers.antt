@@ -94,10 +94,10 @@ returns-in-Some g c = record {
 pub returns-in_err-end : goal.returns-in_err-end
 returns-in_err-end g c = record {
   drains =
-      let (end, heard) = c.in_err-end.ensures.made.breaks in
+      let (end, client_view) = c.in_err-end.ensures.made.breaks in
       step_to_fails c.args.self.now c.make_turn.new.self c.from_residual.result c.from_residual.ensures.0
       (both_keep c.args.self.now c.loop-turns.self c.make_turn.new.self c.loop-turns.invariant.keeps c.make_turn.ensures.made.keeps)
-      (in_turn c.loop-turns.turns c.loop-turns.now c.loop-turns.self.at end c.loop-turns.invariant.gone_on heard) c.in_err-end.ensures.made.cause;
+      (in_turn c.loop-turns.turns c.loop-turns.now c.loop-turns.self.at end c.loop-turns.invariant.gone_on client_view) c.in_err-end.ensures.made.cause;
 }
 
 pub returns-then-not-pauses : goal.returns-then-not-pauses

@@ -22,7 +22,7 @@ tell-requires g c =
     c.finish.ensures.finishes in
     let told = finish_told look now old (with_empty_book old) last c.finish.result refl is_open takes in record {
       may_tell =
-          may_tell look c.self.inside.edge.heard old last _ c.self.invariant
+          may_tell look c.self.inside.edge.client_view old last _ c.self.invariant
           (subst (λ (said : List Said). StandsBehind look old last said) (sym c.of_executor-turn.ensures.said) told) tt;
     }
 
@@ -36,7 +36,7 @@ invariant_of-self g c =
     let takes = finish_taken look now old c.clear_book.new.self last c.finish.result c.clear_book.ensures.cleared is_open
     c.finish.ensures.finishes in
     let told = finish_told look now old (with_empty_book old) last c.finish.result refl is_open takes in
-    after_told look c.self.inside.edge.heard c.tell.new.self.heard old last _ c.self.invariant
+    after_told look c.self.inside.edge.client_view c.tell.new.self.client_view old last _ c.self.invariant
     (subst (λ (said : List Said). StandsBehind look old last said) (sym c.of_executor-turn.ensures.said) told)
     c.tell.ensures.told
 
@@ -61,11 +61,11 @@ returns g c = record {
             let takes = finish_taken look now old c.clear_book.new.self last c.finish.result c.clear_book.ensures.cleared is_open
             c.finish.ensures.finishes in
             ok_map c.tell.result _ _
-            (λ tells. finish_heard (Tells form) look now old last e c.args.self.now c.now-now.new.self (spot last new.heard new.events) c.finish.result
+            (λ tells. finish_heard (Tells form) look now old last e c.args.self.now c.now-now.new.self (spot last new.client_view new.events) c.finish.result
             c.now-now.ensures.noted c.self.view_is refl takes
-            (subst (λ (said : List Said). Tells form (spot last e.heard e.events) (spot last new.heard new.events) said)
+            (subst (λ (said : List Said). Tells form (spot last e.client_view e.events) (spot last new.client_view new.events) said)
             c.of_executor-turn.ensures.said tells))
-            (sends form _ last e new c.tell.result c.tell.ensures.hears c.tell.ensures.noted);
+            (sends form _ last e new c.tell.result c.tell.ensures.receives c.tell.ensures.noted);
         breaks =
             let look = g.D.Disk.view in
             let form = c.args.context.now.form in
@@ -78,9 +78,9 @@ returns g c = record {
             let takes = finish_taken look now old c.clear_book.new.self last c.finish.result c.clear_book.ensures.cleared is_open
             c.finish.ensures.finishes in
             err_map c.tell.result _ _
-            (λ tells. finish_heard (TellsPart form) look now old last e c.args.self.now c.now-now.new.self (spot last new.heard new.events) c.finish.result
+            (λ tells. finish_heard (TellsPart form) look now old last e c.args.self.now c.now-now.new.self (spot last new.client_view new.events) c.finish.result
             c.now-now.ensures.noted c.self.view_is refl takes
-            (subst (λ (said : List Said). TellsPart form (spot last e.heard e.events) (spot last new.heard new.events) said)
+            (subst (λ (said : List Said). TellsPart form (spot last e.client_view e.events) (spot last new.client_view new.events) said)
             c.of_executor-turn.ensures.said tells))
             (sends_part form _ last e new c.tell.result c.tell.ensures.breaks c.tell.ensures.noted);
         cause = send_cause c.args.context.now.form [] c.finish.new.self c.self.inside.edge c.tell.new.self c.tell.result c.tell.ensures.noted;

@@ -2,7 +2,7 @@ use Rattle.std.proofs.Common.{ℕ, ap, subst, sym, ◌∙◌}
 use Rattle.exec_trace.specs.Events.{last_shown}
 use Rattle.exec_trace.specs.declared.event.IoEvent.TheVariants.{Shown}
 use Rattle.exec_session.specs.Breaks.{in_end, in_notices}
-use Rattle.exec_session.specs.Drains.{MakesTurn, TurnHeard}
+use Rattle.exec_session.specs.Drains.{MakesTurn, TurnReceived}
 use Rattle.exec_session.specs.Rules.{rules_of}
 use Rattle.exec_session.specs.Runs.{MakesOwnTurn}
 use Rattle.exec_session.specs.Spots.{Position, TellsPart}
@@ -59,13 +59,13 @@ returns-clause-made g c = record {
 
 pub returns-in_err-end-clause-made : goal.returns-in_err-end-clause-made
 returns-in_err-end-clause-made g c =
-    let (end, heard) = c.in_err-end.ensures.made.breaks in
+    let (end, client_view) = c.in_err-end.ensures.made.breaks in
     step_to_fails c.args.self.now c.make_turn.new.self c.from_residual.result c.from_residual.ensures.0
     (both_keep c.args.self.now c.now-now.new.self c.make_turn.new.self
     (was_noted c.args.self.now c.now-now.new.self (Shown c.now-now.result) c.now-now.ensures.noted) c.in_err-end.ensures.made.keeps)
     (in_notices c.now-now.result end
-    (subst (λ (w : Position _). TurnHeard (TellsPart c.args.context.now.form) g.D.Disk.view (rules_of c.args.context.now) c.now-now.result
-    w.at c.make_turn.new.self.at end) c.now-now.ensures.noted heard)) c.in_err-end.ensures.made.cause
+    (subst (λ (w : Position _). TurnReceived (TellsPart c.args.context.now.form) g.D.Disk.view (rules_of c.args.context.now) c.now-now.result
+    w.at c.make_turn.new.self.at end) c.now-now.ensures.noted client_view)) c.in_err-end.ensures.made.cause
 
 pub returns-in_err-tell_news-clause-made : goal.returns-in_err-tell_news-clause-made
 returns-in_err-tell_news-clause-made g c =

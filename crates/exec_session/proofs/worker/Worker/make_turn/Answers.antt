@@ -1,6 +1,6 @@
 use Rattle.std.proofs.Common.{◌≡◌, true, [], List, refl, sym, subst}
 use Rattle.std.specs.Prelude.{is_ok}
-use Rattle.executor.specs.Sights.{Sight}
+use Rattle.executor.specs.ExecutorView.{ExecutorView}
 use Rattle.executor.specs.TurnCalls.{TurnsWhile}
 use Rattle.exec_client.specs.MayTell.{StandsBehind}
 use Rattle.exec_client.specs.Said.{Said}
@@ -15,7 +15,7 @@ use Rattle.exec_session.proofs.worker.Worker.make_turn.Goals as goal
 pub make_room-requires : goal.make_room-requires
 make_room-requires g c = record {
   «open» =
-      subst (λ (y : Sight _). y.is_open ≡ true) (sym c.clear_book.ensures.cleared)
+      subst (λ (y : ExecutorView _). y.is_open ≡ true) (sym c.clear_book.ensures.cleared)
       (parts (λ (P : Position _). P.at.executor.is_open ≡ true) c.self.inside.executor c.self.inside.edge c.args.self.now c.self.view_is
       c.requires.«open»);
 }
@@ -25,7 +25,7 @@ invariant_of-self g c =
     let look = g.D.Disk.view in
     let x = c.self.inside.executor in
     let middle = c.make_room.new.executor in
-    all_still_stand look c.self.inside.edge.heard x middle c.self.invariant
+    all_still_stand look c.self.inside.edge.client_view x middle c.self.invariant
     (cleared_room look x c.clear_book.new.self middle c.clear_book.ensures.cleared c.make_room.ensures.stands)
 
 pub tell-requires : goal.tell-requires
@@ -39,7 +39,7 @@ tell-requires g c =
     let room = cleared_room look old c.clear_book.new.self middle c.clear_book.ensures.cleared c.make_room.ensures.stands in
     let told = turn_behind_room look c.args.now old middle last c.turn-end.result room is_open takes in record {
       may_tell =
-          may_tell look c.self.inside.edge.heard old last _ c.self.invariant
+          may_tell look c.self.inside.edge.client_view old last _ c.self.invariant
           (subst (λ (said : List Said). StandsBehind look old last said) (sym c.of_executor-turn.ensures.said) told) tt;
     }
 
@@ -53,7 +53,7 @@ invariant_of-self-2 g c =
     let takes = subst (λ b. TurnsWhile b look c.args.now middle last c.turn-end.result) is_open c.turn-end.ensures.turns in
     let room = cleared_room look old c.clear_book.new.self middle c.clear_book.ensures.cleared c.make_room.ensures.stands in
     let told = turn_behind_room look c.args.now old middle last c.turn-end.result room is_open takes in
-    after_told look c.self.inside.edge.heard c.tell.new.self.heard old last _ c.self.invariant
+    after_told look c.self.inside.edge.client_view c.tell.new.self.client_view old last _ c.self.invariant
     (subst (λ (said : List Said). StandsBehind look old last said) (sym c.of_executor-turn.ensures.said) told)
     c.tell.ensures.told
 
@@ -67,7 +67,7 @@ invariant_of-self-in_err-tell g c =
     let takes = subst (λ b. TurnsWhile b look c.args.now middle last c.turn-end.result) is_open c.turn-end.ensures.turns in
     let room = cleared_room look old c.clear_book.new.self middle c.clear_book.ensures.cleared c.make_room.ensures.stands in
     let told = turn_behind_room look c.args.now old middle last c.turn-end.result room is_open takes in
-    after_told look c.self.inside.edge.heard c.tell.new.self.heard old last _ c.self.invariant
+    after_told look c.self.inside.edge.client_view c.tell.new.self.client_view old last _ c.self.invariant
     (subst (λ (said : List Said). StandsBehind look old last said) (sym c.of_executor-turn.ensures.said) told)
     c.tell.ensures.told
 
@@ -101,12 +101,12 @@ returns g c = record {
             let new = c.tell.new.self in
             let form = c.args.context.now.form in
             turn_heard (Tells form) look _ c.args.now c.self.inside.executor c.clear_book.new.self middle last e c.args.self.now
-            (spot last new.heard new.events) c.turn-end.result c.self.view_is c.requires.shown c.clear_book.ensures.cleared
+            (spot last new.client_view new.events) c.turn-end.result c.self.view_is c.requires.shown c.clear_book.ensures.cleared
             c.make_room.ensures.makes is_open refl
             (subst (λ b. TurnsWhile b look c.args.now middle last c.turn-end.result) is_open c.turn-end.ensures.turns)
-            (subst (λ (said : List Said). Tells form (spot last e.heard e.events) (spot last new.heard new.events) said)
+            (subst (λ (said : List Said). Tells form (spot last e.client_view e.events) (spot last new.client_view new.events) said)
             c.of_executor-turn.ensures.said
-            (record { executor = refl; hears = c.in_ok-tell.ensures.hears; events = c.in_ok-tell.ensures.noted }));
+            (record { executor = refl; receives = c.in_ok-tell.ensures.receives; events = c.in_ok-tell.ensures.noted }));
         breaks = tt;
         cause = tt;
       };
@@ -128,11 +128,11 @@ returns-in_err-tell g c = record {
       ) (
         c.turn-end.result,
         turn_heard (TellsPart form) look _ c.args.now c.self.inside.executor c.clear_book.new.self middle last e c.args.self.now
-            (spot last new.heard new.events) c.turn-end.result c.self.view_is c.requires.shown c.clear_book.ensures.cleared
+            (spot last new.client_view new.events) c.turn-end.result c.self.view_is c.requires.shown c.clear_book.ensures.cleared
             c.make_room.ensures.makes is_open refl
             (subst (λ b. TurnsWhile b look c.args.now middle last c.turn-end.result) is_open c.turn-end.ensures.turns)
-            (subst (λ (said : List Said). TellsPart form (spot last e.heard e.events) (spot last new.heard new.events) said)
+            (subst (λ (said : List Said). TellsPart form (spot last e.client_view e.events) (spot last new.client_view new.events) said)
             c.of_executor-turn.ensures.said
-            (record { executor = refl; hears = c.in_err-tell.ensures.breaks; events = c.in_err-tell.ensures.noted })),
+            (record { executor = refl; receives = c.in_err-tell.ensures.breaks; events = c.in_err-tell.ensures.noted })),
       ) (unsent c.self.inside.edge.events c.tell.new.self.events c.in_err-tell.ensures.noted);
 }

@@ -17,7 +17,7 @@ tell-requires g c =
     let p = c.args.self.now in
     let said = said_in c.args.what.now in record {
       may_tell =
-          may_tell look e.heard x x _ c.self.invariant
+          may_tell look e.client_view x x _ c.self.invariant
           (parts (λ (P : Position _). StandsBehind look P.at.executor P.at.executor said) x e p c.self.view_is c.requires.stands)
           (parts (λ (P : Position _). MaySay P.at.executor c.args.what.now) x e p c.self.view_is c.requires.says);
     }
@@ -28,7 +28,7 @@ invariant_of-self g c =
     let x = c.self.inside.executor in
     let e = c.self.inside.edge in
     let said = said_in c.args.what.now in
-    after_told look e.heard c.tell.new.self.heard x x said c.self.invariant
+    after_told look e.client_view c.tell.new.self.client_view x x said c.self.invariant
     (parts (λ (P : Position _). StandsBehind look P.at.executor P.at.executor said) x e c.args.self.now c.self.view_is c.requires.stands)
     c.tell.ensures.told
 
@@ -46,7 +46,7 @@ returns g c = record {
             let new = c.tell.new.self in
             let said = said_in c.args.what.now in
             whole (λ (P : Position _). OnOk c.tell.result (Tells c.args.form P.at (at_of x new).at said)) x e c.args.self.now c.self.view_is
-            (sends c.args.form said x e new c.tell.result c.tell.ensures.hears c.tell.ensures.noted);
+            (sends c.args.form said x e new c.tell.result c.tell.ensures.receives c.tell.ensures.noted);
         breaks =
             let x = c.self.inside.executor in
             let e = c.self.inside.edge in

@@ -6,5 +6,5 @@ invariant_of-self g c =
     let look = g.D.Disk.view in
     let x = c.self.inside.executor in
     let y = c.tidy_timed.new.executor in
-    all_still_stand look c.self.inside.edge.heard x y c.self.invariant
+    all_still_stand look c.self.inside.edge.client_view x y c.self.invariant
     (tidied_stands look x y c.tidy_timed.result c.tidy_timed.ensures.tidies)

@@ -1,7 +1,7 @@
 use Rattle.std.proofs.Common.{ap}
 use Rattle.ocf_types.specs.State.{Registry}
 use Rattle.exec_state.specs.Store.{Store}
-use Rattle.exec_state.specs.Contents.{store_of}
+use Rattle.exec_state.specs.RegistryView.{store_of}
 use Rattle.exec_state.proofs.Rooms.{lawful_first}
 use Rattle.exec_state.proofs.state.State.in_first.Goals as goal
 

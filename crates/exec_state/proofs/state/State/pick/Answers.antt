@@ -2,7 +2,7 @@ use Rattle.std.proofs.Common.{◌≡◌, ℕ, List, Option, Some}
 use Rattle.ocf_types.specs.Due.{IsPick}
 use Rattle.ocf_types.specs.Resource.{Resource}
 use Rattle.ocf_types.specs.State.{resource_at}
-use Rattle.exec_state.specs.Contents.{store_of}
+use Rattle.exec_state.specs.RegistryView.{store_of}
 use Rattle.exec_state.specs.Seen.{seen}
 use Rattle.exec_state.specs.Store.{Store, dues}
 use Rattle.exec_state.proofs.Picks.{choice}

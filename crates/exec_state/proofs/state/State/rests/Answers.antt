@@ -1,5 +1,5 @@
 use Rattle.exec_state.specs.Store.{Store}
-use Rattle.exec_state.specs.Contents.{store_of}
+use Rattle.exec_state.specs.RegistryView.{store_of}
 use Rattle.exec_state.proofs.Resting.{rests_all}
 use Rattle.exec_state.proofs.state.State.rests.Goals as goal
 

@@ -7,7 +7,7 @@ use Rattle.exec_ledger.specs.Scenes.{scene_of}
 use Rattle.exec_turn.specs.Turn.{IsFinish}
 use Rattle.exec_turn.specs.Turns.{told_of}
 use Rattle.executor.specs.Reports.{reported_of}
-use Rattle.executor.specs.Sights.{Sight, sight}
+use Rattle.executor.specs.ExecutorView.{ExecutorView, executor_view}
 use Rattle.executor.specs.TurnCalls.{FinishesTurn, FinishesWhile}
 use Rattle.executor.proofs.executor.Executor.finish.Goals as goal
 
@@ -26,8 +26,8 @@ invariant_of-self g c is_open =
 pub returns : goal.returns
 returns g c =
     let e = c.self.inside in
-    let x = sight e.ledger (g.C.Children.view e.children) e.site (told_of e.batches) (reported_of e.reported) in
-    let y = sight c.finish_turn-end.new.ledger (g.C.Children.view c.finish_turn-end.new.children) e.site (told_of c.finish_turn-end.new.batches) (reported_of e.reported) in
+    let x = executor_view e.ledger (g.C.Children.view e.children) e.site (told_of e.batches) (reported_of e.reported) in
+    let y = executor_view c.finish_turn-end.new.ledger (g.C.Children.view c.finish_turn-end.new.children) e.site (told_of c.finish_turn-end.new.batches) (reported_of e.reported) in
     let was : x.is_open ≡ true = sym c.is_open.ensures.value ∙ c.if-not-is_open.false in
     let turn = c.finish_turn-end.ensures in
     let takes : FinishesTurn g.D.Disk.view c.args.now x y c.finish_turn-end.result = record {
@@ -40,10 +40,10 @@ returns g c =
           let same = turn.unchanged is in
           let none = (subst (λ (end : TurnEnd). IsFinish end (scene_of e.ledger (moment e.ledger.state c.args.now)) turn.finishes.effects y.told) is
           turn.finishes.does).1 in
-          λ i. sight (same.0 i) (g.C.Children.view (same.1 i)) e.site (none i) (reported_of e.reported);
+          λ i. executor_view (same.0 i) (g.C.Children.view (same.1 i)) e.site (none i) (reported_of e.reported);
       closes = turn.closes;
     } in
     record {
-      finishes = subst (λ (z : Sight _). FinishesWhile z.is_open g.D.Disk.view c.args.now z y c.finish_turn-end.result) c.self.view_is
+      finishes = subst (λ (z : ExecutorView _). FinishesWhile z.is_open g.D.Disk.view c.args.now z y c.finish_turn-end.result) c.self.view_is
           (while_open _ was takes);
     }

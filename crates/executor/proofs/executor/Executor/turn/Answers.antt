@@ -7,7 +7,7 @@ use Rattle.exec_ledger.specs.Scenes.{scene_of}
 use Rattle.exec_turn.specs.Turn.{IsTurn}
 use Rattle.exec_turn.specs.Turns.{told_of}
 use Rattle.executor.specs.Reports.{reported_of}
-use Rattle.executor.specs.Sights.{Sight, sight}
+use Rattle.executor.specs.ExecutorView.{ExecutorView, executor_view}
 use Rattle.executor.specs.TurnCalls.{TakesTurn, TurnsWhile}
 use Rattle.executor.proofs.executor.Executor.turn.Goals as goal
 
@@ -29,8 +29,8 @@ invariant_of-self g c is_open =
 pub returns : goal.returns
 returns g c =
     let e = c.self.inside in
-    let x = sight e.ledger (g.C.Children.view e.children) e.site (told_of e.batches) (reported_of e.reported) in
-    let y = sight c.take_turn-end.new.ledger (g.C.Children.view c.take_turn-end.new.children) e.site (told_of c.take_turn-end.new.batches) (reported_of e.reported) in
+    let x = executor_view e.ledger (g.C.Children.view e.children) e.site (told_of e.batches) (reported_of e.reported) in
+    let y = executor_view c.take_turn-end.new.ledger (g.C.Children.view c.take_turn-end.new.children) e.site (told_of c.take_turn-end.new.batches) (reported_of e.reported) in
     let was : x.is_open ≡ true = sym c.is_open.ensures.value ∙ c.if-not-is_open.false in
     let turn = c.take_turn-end.ensures in
     let takes : TakesTurn g.D.Disk.view c.args.now x y c.take_turn-end.result = record {
@@ -43,10 +43,10 @@ returns g c =
           let same = turn.unchanged is in
           let none = (subst (λ (end : TurnEnd). IsTurn end (scene_of e.ledger (moment e.ledger.state c.args.now)) turn.turns.effects y.told) is
           turn.turns.does).1 in
-          λ i. sight (same.0 i) (g.C.Children.view (same.1 i)) e.site (none i) (reported_of e.reported);
+          λ i. executor_view (same.0 i) (g.C.Children.view (same.1 i)) e.site (none i) (reported_of e.reported);
       closes = turn.closes;
     } in
     record {
-      turns = subst (λ (z : Sight _). TurnsWhile z.is_open g.D.Disk.view c.args.now z y c.take_turn-end.result) c.self.view_is
+      turns = subst (λ (z : ExecutorView _). TurnsWhile z.is_open g.D.Disk.view c.args.now z y c.take_turn-end.result) c.self.view_is
           (while_open _ was takes);
     }

@@ -5,13 +5,13 @@ use Rattle.exec_state.specs.Store.{Store, Monitors}
 
 -- the resources and their recurring monitors, by id and in order of registration, and whether one more resource can be
 -- registered without an allocation
-pub record Contents : Type 0 where
+pub record RegistryView : Type 0 where
   pub resources : Registry
   pub monitors : Monitors
   pub ready : Bool
 
 -- the view of the state machine with these next numbers, this clock and this registry, and whether its allocator refuses growths
-abbrev pub store_of : Bool → ℕ → ℕ → ℕ → Contents → Store
+abbrev pub store_of : Bool → ℕ → ℕ → ℕ → RegistryView → Store
 store_of refuses next_call next_run clock contents = record {
   state = record { next_call = next_call; next_run = next_run; clock = clock; resources = contents.resources };
   monitors = contents.monitors;

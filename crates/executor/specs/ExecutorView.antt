@@ -11,13 +11,13 @@ use Rattle.exec_journal.specs.Room.{HasRoom}
 use Rattle.exec_journal.specs.Settled.{IsSettled}
 use Rattle.exec_state.specs.Store.{Monitors, due_of}
 use Rattle.exec_turn.specs.Turns.{ChildrenMatch}
-use Rattle.exec_ledger.specs.Held.{Held}
+use Rattle.exec_ledger.specs.LedgerView.{LedgerView}
 use Rattle.executor.specs.Reports.{ReportView}
 
 -- the view: whether it takes requests, its state, its recurring monitors with their due moments, its disk, the position of the
 -- journal's next record, its children, the site at which it spawns agents, the notices of the last turn, the report of its opening,
 -- and whether its allocator refuses memory
-pub record Sight (D : Type 0) : Type 0 where
+pub record ExecutorView (D : Type 0) : Type 0 where
   pub is_open : Bool
   pub state : State
   pub monitors : Monitors
@@ -30,8 +30,8 @@ pub record Sight (D : Type 0) : Type 0 where
   pub refuses : Bool
 
 -- the view of a ledger and of what is beside it
-abbrev pub sight : {D : Type 0} → Held D → ChildrenView → SiteView → List Notice → ReportView → Sight D
-sight h children site told reported = record {
+abbrev pub executor_view : {D : Type 0} → LedgerView D → ChildrenView → SiteView → List Notice → ReportView → ExecutorView D
+executor_view h children site told reported = record {
   is_open = h.is_open;
   state = h.state;
   monitors = h.monitors;
@@ -45,7 +45,7 @@ sight h children site told reported = record {
 }
 
 -- the view of its ledger
-abbrev pub ledger_of : {D : Type 0} → Sight D → Held D
+abbrev pub ledger_of : {D : Type 0} → ExecutorView D → LedgerView D
 ledger_of x = record {
   is_open = x.is_open;
   state = x.state;
@@ -56,33 +56,33 @@ ledger_of x = record {
 }
 
 -- only the ledger changes: all that is beside it is as it was
-pub record Beside {D : Type 0} (old new : Sight D) : Type 0 where
+pub record OnlyLedgerChanges {D : Type 0} (old new : ExecutorView D) : Type 0 where
   pub children : new.children ≡ old.children
   pub site : new.site ≡ old.site
   pub told : new.told ≡ old.told
   pub reported : new.reported ≡ old.reported
 
 -- the due moments of its recurring monitors
-abbrev pub due_in : {D : Type 0} → Sight D → Due
+abbrev pub due_in : {D : Type 0} → ExecutorView D → Due
 due_in x = due_of x.monitors
 
 -- Its journal is settled at its state, its reserve holds the results of what runs and a boot, the agent processes of all running
 -- actions live, and its children admit its site.
-pub record Keeps {D : Type 0} (look : D → View) (x : Sight D) : Type 0 where
+pub record ExecutorKeeps {D : Type 0} (look : D → View) (x : ExecutorView D) : Type 0 where
   pub journal : (look x.disk).honest → IsSettled x.place x.state (look x.disk)
   pub room : HasRoom x.place.tail x.state
   pub matched : ChildrenMatch x.state x.children
   pub admits : Admits x.children.site x.site
 
 -- the invariant: the same while it is open
-abbrev pub IsSound : {D : Type 0} → (D → View) → Sight D → Type 0
-IsSound look x = x.is_open ≡ true → Keeps look x
+abbrev pub ExecutorInvariant : {D : Type 0} → (D → View) → ExecutorView D → Type 0
+ExecutorInvariant look x = x.is_open ≡ true → ExecutorKeeps look x
 
 -- The part of the invariant that is not the ledger's.
-pub record Tends {D : Type 0} (x : Sight D) : Type 0 where
+pub record ChildrenKeep {D : Type 0} (x : ExecutorView D) : Type 0 where
   pub matched : ChildrenMatch x.state x.children
   pub admits : Admits x.children.site x.site
 
 -- the same while it is open
-abbrev pub IsTended : {D : Type 0} → Sight D → Type 0
-IsTended x = x.is_open ≡ true → Tends x
+abbrev pub ChildrenInvariant : {D : Type 0} → ExecutorView D → Type 0
+ChildrenInvariant x = x.is_open ≡ true → ChildrenKeep x

@@ -18,7 +18,7 @@ While false R S = S
 
 -- the view: whether it records, its state, its recurring monitors with their due moments, its disk, the position of the
 -- journal's next record, and whether its allocator refuses growths
-pub record Held (D : Type 0) : Type 0 where
+pub record LedgerView (D : Type 0) : Type 0 where
   pub is_open : Bool
   pub state : State
   pub monitors : Monitors
@@ -27,8 +27,8 @@ pub record Held (D : Type 0) : Type 0 where
   pub refuses : Bool
 
 -- the view of a journal and a state, open or closed, and of books
-abbrev pub held : {D M : Type 0} → Bool → Journal D M → Store → Held D
-held is_open journal state = record {
+abbrev pub ledger_view : {D M : Type 0} → Bool → Journal D M → Store → LedgerView D
+ledger_view is_open journal state = record {
   is_open = is_open;
   state = state.state;
   monitors = state.monitors;
@@ -37,22 +37,22 @@ held is_open journal state = record {
   refuses = state.refuses;
 }
 
-abbrev pub held_of : {D M : Type 0} → Books D M → Held D
-held_of b = held b.open b.journal b.state
+abbrev pub ledger_view_of : {D M : Type 0} → Books D M → LedgerView D
+ledger_view_of b = ledger_view b.open b.journal b.state
 
 -- the due moments of its recurring monitors
-abbrev pub due_in : {D : Type 0} → Held D → Due
+abbrev pub due_in : {D : Type 0} → LedgerView D → Due
 due_in h = due_of h.monitors
 
 -- its journal is settled at its state, if its disk is honest
-abbrev pub IsOnJournal : {D : Type 0} → (D → View) → Held D → Type 0
+abbrev pub IsOnJournal : {D : Type 0} → (D → View) → LedgerView D → Type 0
 IsOnJournal look h = (look h.disk).honest → IsSettled h.place h.state (look h.disk)
 
 -- Its journal is settled at its state, and its reserve holds the results of what runs and a boot.
-pub record Keeps {D : Type 0} (look : D → View) (h : Held D) : Type 0 where
+pub record LedgerKeeps {D : Type 0} (look : D → View) (h : LedgerView D) : Type 0 where
   pub journal : IsOnJournal look h
   pub room : HasRoom h.place.tail h.state
 
 -- the invariant: the same while it is open
-abbrev pub IsKept : {D : Type 0} → (D → View) → Held D → Type 0
-IsKept look h = h.is_open ≡ true → Keeps look h
+abbrev pub LedgerInvariant : {D : Type 0} → (D → View) → LedgerView D → Type 0
+LedgerInvariant look h = h.is_open ≡ true → LedgerKeeps look h
