@@ -16,7 +16,7 @@ use Rattle.exec_state.specs.Answers.{IsReplyOrMemory}
 use Rattle.exec_ledger.specs.Commands.{TakesCommand}
 use Rattle.exec_ledger.specs.LedgerView.{LedgerView, While}
 use Rattle.exec_ledger.specs.Laws.{of_closed}
-use Rattle.exec_ledger.specs.Shares.{Batch as SharedBatch, Share, Single, TakesCommands as LedgerTakesCommands, TakesShare, TakesShares}
+use Rattle.exec_ledger.specs.CommitGroups.{Batch as GroupedBatch, CommitGroup, Single, TakesCommands as LedgerTakesCommands, TakesGroup, TakesGroups}
 use Rattle.exec_ledger.specs.Tidying.{Tidies as LedgerTidies}
 use Rattle.exec_ledger.proofs.Keeping.{same_runs}
 use Rattle.executor.specs.CallLaws.{same_view}
@@ -32,17 +32,17 @@ module _ {D : Type 0} (look : D → View) (now : ℕ) where
   command_open true c r h k takes is was = was
   command_open false c r h k takes is was = sym (ap (λ (x : LedgerView D). x.is_open) (of_closed _ _ was takes).1) ∙ is
 
-  share_open : (s : Share) (h k : LedgerView D) → TakesShare look now s h k → k.is_open ≡ true → h.is_open ≡ true
-  share_open (Single c r) h k takes is = command_open h.is_open c r h k takes is refl
-  share_open (SharedBatch cs rs) h k takes is = takes.was_open
+  group_open : (s : CommitGroup) (h k : LedgerView D) → TakesGroup look now s h k → k.is_open ≡ true → h.is_open ≡ true
+  group_open (Single c r) h k takes is = command_open h.is_open c r h k takes is refl
+  group_open (GroupedBatch cs rs) h k takes is = takes.was_open
 
-  shares_open : (ss : List Share) (h k : LedgerView D) → TakesShares look now ss h k → k.is_open ≡ true → h.is_open ≡ true
-  shares_open [] h k same is = sym (ap (λ (x : LedgerView D). x.is_open) same) ∙ is
-  shares_open (s ∷ ss) h k (mid, one, rest) is = share_open s h mid one (shares_open ss mid k rest is)
+  groups_open : (ss : List CommitGroup) (h k : LedgerView D) → TakesGroups look now ss h k → k.is_open ≡ true → h.is_open ≡ true
+  groups_open [] h k same is = sym (ap (λ (x : LedgerView D). x.is_open) same) ∙ is
+  groups_open (s ∷ ss) h k (mid, one, rest) is = group_open s h mid one (groups_open ss mid k rest is)
 
   pub commands_open : (cs : List Command) (rs : List Reply) (h k : LedgerView D) → LedgerTakesCommands look now cs h k rs → k.is_open ≡ true
       → h.is_open ≡ true
-  commands_open cs rs h k takes is = shares_open takes.shares h k takes.takes is
+  commands_open cs rs h k takes is = groups_open takes.groups h k takes.takes is
 
 -- no answer to a question is a refusal for the disk
 given_kept : (a r : Reply) → (a ≡ Refused Disk → ⊥) → IsReplyOrMemory a r → r ≡ Refused Disk → ⊥

@@ -9,8 +9,8 @@ use Rattle.exec_ledger.specs.Commands.{TakesCommand}
 use Rattle.exec_ledger.specs.LedgerView.{LedgerView}
 use Rattle.exec_ledger.specs.Laws.{of_closed, of_open, while_closed, while_open}
 use Rattle.exec_ledger.specs.Pieces.{Effects, followed_by, no_effects, batch_effects}
-use Rattle.exec_ledger.specs.Shares.{Share, Single, TakesShare, TakesShares, commands_of as shared_commands, replies_of as shared_replies}
-use Rattle.exec_ledger.specs.Shares.{Batch as SharedBatch}
+use Rattle.exec_ledger.specs.CommitGroups.{CommitGroup, Single, TakesGroup, TakesGroups, commands_of as grouped_commands, replies_of as grouped_replies}
+use Rattle.exec_ledger.specs.CommitGroups.{Batch as GroupedBatch}
 use Rattle.executor.specs.CallLaws.{request_taken, same_view}
 use Rattle.executor.specs.Commands.{Serves}
 use Rattle.executor.specs.Lives.{Calls, Does, Exchange, Batch, Took}
@@ -27,24 +27,24 @@ pub still_beside : {D : Type 0} (x : ExecutorView D) (h : LedgerView D) → Only
 still_beside x h = record { children = refl; site = refl; told = refl; reported = refl }
 
 -- a single command or a batch as a call
-abbrev exchange_of : ℕ → Share → Exchange
+abbrev exchange_of : ℕ → CommitGroup → Exchange
 exchange_of now (Single c r) = Took (input.Request now (asked.Command c)) r
-exchange_of now (SharedBatch cs rs) = Batch now cs rs
+exchange_of now (GroupedBatch cs rs) = Batch now cs rs
 
-same_commands : (now : ℕ) (ss : List Share) → flat_map commands_of (map (exchange_of now) ss) ≡ flat_map shared_commands ss
+same_commands : (now : ℕ) (ss : List CommitGroup) → flat_map commands_of (map (exchange_of now) ss) ≡ flat_map grouped_commands ss
 same_commands now [] = refl
 same_commands now (Single c r ∷ ss) = ap (λ (l : List Command). c ∷ l) (same_commands now ss)
-same_commands now (SharedBatch cs rs ∷ ss) = ap (λ (l : List Command). cs ++ l) (same_commands now ss)
+same_commands now (GroupedBatch cs rs ∷ ss) = ap (λ (l : List Command). cs ++ l) (same_commands now ss)
 
-same_replies : (now : ℕ) (ss : List Share) → flat_map replies_of (map (exchange_of now) ss) ≡ flat_map shared_replies ss
+same_replies : (now : ℕ) (ss : List CommitGroup) → flat_map replies_of (map (exchange_of now) ss) ≡ flat_map grouped_replies ss
 same_replies now [] = refl
 same_replies now (Single c r ∷ ss) = ap (λ (l : List Reply). r ∷ l) (same_replies now ss)
-same_replies now (SharedBatch cs rs ∷ ss) = ap (λ (l : List Reply). rs ++ l) (same_replies now ss)
+same_replies now (GroupedBatch cs rs ∷ ss) = ap (λ (l : List Reply). rs ++ l) (same_replies now ss)
 
-at_once : (now : ℕ) (ss : List Share) → AllByRecursion (IsAt now) (map (exchange_of now) ss)
+at_once : (now : ℕ) (ss : List CommitGroup) → AllByRecursion (IsAt now) (map (exchange_of now) ss)
 at_once now [] = tt
 at_once now (Single c r ∷ ss) = (refl, at_once now ss)
-at_once now (SharedBatch cs rs ∷ ss) = (refl, at_once now ss)
+at_once now (GroupedBatch cs rs ∷ ss) = (refl, at_once now ss)
 
 module _ {D : Type 0} (look : D → View) (now : ℕ) where
   pub command_served : (b : Bool) (c : Command) (r : Reply) (x : ExecutorView D) (h : LedgerView D) → x.is_open ≡ b
@@ -65,18 +65,18 @@ module _ {D : Type 0} (look : D → View) (now : ℕ) where
       request_taken false look now (asked.Command c) x (with_ledger x h) r
       (takes.0, same_view x (with_ledger x h) takes.1 (still_beside x h)) (λ bad. absurd (true≢false (sym bad)))
 
-  share_taken : (s : Share) (x : ExecutorView D) (h : LedgerView D) → TakesShare look now s (ledger_of x) h
+  group_taken : (s : CommitGroup) (x : ExecutorView D) (h : LedgerView D) → TakesGroup look now s (ledger_of x) h
       → (d : Effects) × Does look (exchange_of now s) x (with_ledger x h) d
-  share_taken (Single c r) x h takes = command_taken x.is_open c r x h refl takes
-  share_taken (SharedBatch cs rs) x h takes =
+  group_taken (Single c r) x h takes = command_taken x.is_open c r x h refl takes
+  group_taken (GroupedBatch cs rs) x h takes =
       (batch_effects h.is_open takes.events, record { takes = takes; beside = still_beside x h; does = refl })
 
-  shares_taken : (ss : List Share) (x : ExecutorView D) (h : LedgerView D) → TakesShares look now ss (ledger_of x) h
+  groups_taken : (ss : List CommitGroup) (x : ExecutorView D) (h : LedgerView D) → TakesGroups look now ss (ledger_of x) h
       → (d : Effects) × Calls look x (map (exchange_of now) ss) (with_ledger x h) d
-  shares_taken [] x h same = (no_effects, (λ i. with_ledger x (same i), refl))
-  shares_taken (s ∷ ss) x h (mid, one, rest) =
-      let first = share_taken s x mid one in
-      let later = shares_taken ss (with_ledger x mid) h rest in
+  groups_taken [] x h same = (no_effects, (λ i. with_ledger x (same i), refl))
+  groups_taken (s ∷ ss) x h (mid, one, rest) =
+      let first = group_taken s x mid one in
+      let later = groups_taken ss (with_ledger x mid) h rest in
       (followed_by first.0 later.0, (with_ledger x mid, first.0, later.0, first.1, later.1, refl))
 
   -- commands that were taken are calls
@@ -84,14 +84,14 @@ module _ {D : Type 0} (look : D → View) (now : ℕ) where
       → CallsCommands look now cs x y rs
   commands_called cs rs x y (takes, beside) =
       let h = ledger_of y in
-      let all = shares_taken takes.shares x h takes.takes in
+      let all = groups_taken takes.groups x h takes.takes in
       let same : y ≡ with_ledger x h = same_view (with_ledger x h) y refl
       (record { children = beside.children; site = beside.site; told = beside.told; reported = beside.reported }) in
       subst (λ (z : ExecutorView D). CallsCommands look now cs x z rs) (sym same) (record {
-        exchanges = map (exchange_of now) takes.shares;
+        exchanges = map (exchange_of now) takes.groups;
         effects = all.0;
         calls = all.1;
-        asked = same_commands now takes.shares ∙ takes.asked;
-        answered = same_replies now takes.shares ∙ takes.answered;
-        at_once = at_once now takes.shares;
+        asked = same_commands now takes.groups ∙ takes.asked;
+        answered = same_replies now takes.groups ∙ takes.answered;
+        at_once = at_once now takes.groups;
       })

@@ -6,7 +6,7 @@ use Rattle.ocf_types.specs.declared.command.RequestOf.TheVariants as asked
 use Rattle.disk_model.specs.View.{View}
 use Rattle.executor.specs.Lives.{Calls, Exchange, Batch, Took}
 use Rattle.exec_ledger.specs.Pieces.{Effects}
-use Rattle.exec_ledger.specs.Shares.{TakesCommands as LedgerTakesCommands}
+use Rattle.exec_ledger.specs.CommitGroups.{TakesCommands as LedgerTakesCommands}
 use Rattle.executor.specs.ExecutorView.{OnlyLedgerChanges, ExecutorView, ledger_of}
 use Rattle.executor.specs.declared.session.InputOf.TheVariants as input
 

@@ -19,20 +19,20 @@ use Rattle.executor.specs.Isolated.{Follows, Isolated, IsolatedCommand, cut, iso
 use Rattle.executor.proofs.Isolation.Requests.{moment_is}
 
 -- refused for a shortage that resources share
-abbrev IsShared : Result Event Refusal → Type 0
-IsShared v = (why : Refusal) × (v ≡ Err why) × (IsPlain (reply.Refused why) → ⊥)
+abbrev IsGrouped : Result Event Refusal → Type 0
+IsGrouped v = (why : Refusal) × (v ≡ Err why) × (IsPlain (reply.Refused why) → ⊥)
 
 -- all call ids are spent, or the other tests decide
 spent_last : (ts : List (Refusal × Bool)) (b : Bool) (e : Event)
-    → (first_of (ts ++ (refusal.CallsSpent, b) ∷ []) e ≡ first_of ts e) ⊎ IsShared (first_of (ts ++ (refusal.CallsSpent, b) ∷ []) e)
+    → (first_of (ts ++ (refusal.CallsSpent, b) ∷ []) e ≡ first_of ts e) ⊎ IsGrouped (first_of (ts ++ (refusal.CallsSpent, b) ∷ []) e)
 spent_last [] true e = inr (refusal.CallsSpent, refl, λ h. h)
 spent_last [] false e = inl refl
 spent_last (t ∷ ts) b e = by t.1 (spent_last ts b e)
   where
     by : (a : Bool) → (first_of (ts ++ (refusal.CallsSpent, b) ∷ []) e ≡ first_of ts e)
-        ⊎ IsShared (first_of (ts ++ (refusal.CallsSpent, b) ∷ []) e)
+        ⊎ IsGrouped (first_of (ts ++ (refusal.CallsSpent, b) ∷ []) e)
         → (first_of ((t.0, a) ∷ ts ++ (refusal.CallsSpent, b) ∷ []) e ≡ first_of ((t.0, a) ∷ ts) e)
-        ⊎ IsShared (first_of ((t.0, a) ∷ ts ++ (refusal.CallsSpent, b) ∷ []) e)
+        ⊎ IsGrouped (first_of ((t.0, a) ∷ ts ++ (refusal.CallsSpent, b) ∷ []) e)
     by true rest = inl refl
     by false rest = rest
 
@@ -40,7 +40,7 @@ spent_last (t ∷ ts) b e = by t.1 (spent_last ts b e)
 many_between : (a b c : Bool) (e : Event)
     → (first_of ((refusal.Exists, a) ∷ (refusal.TooManyResources, b) ∷ (refusal.TooLarge, c) ∷ []) e
     ≡ first_of ((refusal.Exists, a) ∷ (refusal.TooLarge, c) ∷ []) e)
-    ⊎ IsShared (first_of ((refusal.Exists, a) ∷ (refusal.TooManyResources, b) ∷ (refusal.TooLarge, c) ∷ []) e)
+    ⊎ IsGrouped (first_of ((refusal.Exists, a) ∷ (refusal.TooManyResources, b) ∷ (refusal.TooLarge, c) ∷ []) e)
 many_between true b c e = inl refl
 many_between false true c e = inr (refusal.TooManyResources, refl, λ h. h)
 many_between false false c e = inl refl
@@ -48,7 +48,7 @@ many_between false false c e = inl refl
 -- the machine meets the same refusal, or none as well, except for a shortage that resources share
 first_alike : (s : State) (c : Command) (size : ℕ) (e : Event)
     → (first_of (tests s c size) e ≡ first_of (isolated_tests (resource_at s (commanded c)) c size) e)
-    ⊎ IsShared (first_of (tests s c size) e)
+    ⊎ IsGrouped (first_of (tests s c size) e)
 first_alike s (command.Register r) size e = many_between _ _ _ e
 first_alike s (command.Exec i task timeout) size e = spent_last (isolated_tests (resource_at s i) (command.Exec i task timeout) size) _ e
 first_alike s (command.Recur i interval timeout level) size e =

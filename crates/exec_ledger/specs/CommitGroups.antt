@@ -8,33 +8,33 @@ use Rattle.exec_ledger.specs.LedgerView.{LedgerView}
 use Rattle.exec_ledger.specs.Together.{TakesBatch}
 
 -- one part of them: a command by itself with its reply, or a batch with its replies
-pub data Share : Type 0 where
-  Single : Command → Reply → Share
-  Batch : List Command → List Reply → Share
+pub data CommitGroup : Type 0 where
+  Single : Command → Reply → CommitGroup
+  Batch : List Command → List Reply → CommitGroup
 
 -- its commands, and its replies
-abbrev pub commands_of : Share → List Command
+abbrev pub commands_of : CommitGroup → List Command
 commands_of (Single c r) = c ∷ []
 commands_of (Batch cs rs) = cs
 
-abbrev pub replies_of : Share → List Reply
+abbrev pub replies_of : CommitGroup → List Reply
 replies_of (Single c r) = r ∷ []
 replies_of (Batch cs rs) = rs
 
 -- what a ledger does with one at this moment
-abbrev pub TakesShare : {D : Type 0} → (D → View) → ℕ → Share → LedgerView D → LedgerView D → Type 0
-TakesShare look now (Single c r) old new = TakesCommand look now c old new r
-TakesShare look now (Batch cs rs) old new = TakesBatch look now cs old new rs
+abbrev pub TakesGroup : {D : Type 0} → (D → View) → ℕ → CommitGroup → LedgerView D → LedgerView D → Type 0
+TakesGroup look now (Single c r) old new = TakesCommand look now c old new r
+TakesGroup look now (Batch cs rs) old new = TakesBatch look now cs old new rs
 
 -- one after the other
-abbrev pub TakesShares : {D : Type 0} → (D → View) → ℕ → List Share → LedgerView D → LedgerView D → Type 0
-TakesShares look now [] old new = new ≡ old
-TakesShares {D} look now (s ∷ ss) old new = (mid : LedgerView D) × TakesShare look now s old mid × TakesShares look now ss mid new
+abbrev pub TakesGroups : {D : Type 0} → (D → View) → ℕ → List CommitGroup → LedgerView D → LedgerView D → Type 0
+TakesGroups look now [] old new = new ≡ old
+TakesGroups {D} look now (s ∷ ss) old new = (mid : LedgerView D) × TakesGroup look now s old mid × TakesGroups look now ss mid new
 
 -- A ledger takes commands one after the other at this moment, none left out, each with one reply: those of a batch have one
 -- record.
 pub record TakesCommands {D : Type 0} (look : D → View) (now : ℕ) (commands : List Command) (old new : LedgerView D) (given : List Reply) : Type 0 where
-  pub shares : List Share
-  pub takes : TakesShares look now shares old new
-  pub asked : flat_map commands_of shares ≡ commands
-  pub answered : flat_map replies_of shares ≡ given
+  pub groups : List CommitGroup
+  pub takes : TakesGroups look now groups old new
+  pub asked : flat_map commands_of groups ≡ commands
+  pub answered : flat_map replies_of groups ≡ given
