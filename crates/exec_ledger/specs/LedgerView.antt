@@ -5,7 +5,7 @@ use Rattle.ocf_types.specs.State.{State}
 use Rattle.disk_model.specs.View.{View}
 use Rattle.exec_journal.specs.Journal.{journal_disk, journal_place}
 use Rattle.exec_journal.specs.Place.{Place}
-use Rattle.exec_journal.specs.Room.{HasRoom}
+use Rattle.exec_journal.specs.Reserve.{HasReserve}
 use Rattle.exec_journal.specs.Settled.{IsSettled}
 use Rattle.exec_journal.specs.declared.journal.Journal.{Journal}
 use Rattle.exec_state.specs.Store.{Monitors, Store, due_of}
@@ -51,7 +51,7 @@ IsOnJournal look h = (look h.disk).honest → IsSettled h.place h.state (look h.
 -- Its journal is settled at its state, and its reserve holds the results of what runs and a boot.
 pub record LedgerKeeps {D : Type 0} (look : D → View) (h : LedgerView D) : Type 0 where
   pub journal : IsOnJournal look h
-  pub room : HasRoom h.place.tail h.state
+  pub room : HasReserve h.place.tail h.state
 
 -- the invariant: the same while it is open
 abbrev pub LedgerInvariant : {D : Type 0} → (D → View) → LedgerView D → Type 0

@@ -114,7 +114,7 @@ module _ {D : Type 0} {look : D → View} {at : ℕ} {k0 k1 : D} {s0 s1 : State}
               }) both;
           due_is = batch.moves.1 ∙ due1;
           whole = λ not. absurd (not refl);
-          cause = λ _. let increased = batch.cause in let older = p.crash.roomy.passed.failures in omega (arith, increased, older);
+          cause = λ _. let increased = batch.cause in let older = p.crash.reserved.passed.failures in omega (arith, increased, older);
         }
 
     module _ {k2 : D} {s2 : State} {d2 : Due} {p2 : Place} {a2 : Bool} {begun : List Active} {end : TurnEnd}
@@ -186,8 +186,8 @@ module _ {D : Type 0} {look : D → View} {at : ℕ} {k0 k1 : D} {s0 s1 : State}
         whole = λ not. absurd (not refl);
         cause = λ _.
             let increased = batch.cause in
-            let old = b.recorded.crash.roomy.passed.failures in
-            let older = p.crash.roomy.passed.failures in
+            let old = b.recorded.crash.reserved.passed.failures in
+            let older = p.crash.reserved.passed.failures in
             omega (arith, increased, old, older);
       }
 

@@ -56,7 +56,7 @@ then_started look old new s t at clock bs xs lawful same each leaves = record {
     stands = stands;
     behind = started (look new) (Prefix (after_all s (begins at bs)) []) (λ h c now. ([], [], refl, stands h c now)) lawful;
   };
-  roomy = leaves.roomy;
+  reserved = leaves.reserved;
 }
   where
     stands : (look new).honest → (c : Image) → (look new).now c → FoundAs (after_all s (begins at bs)) c

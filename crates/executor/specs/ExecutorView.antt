@@ -7,7 +7,7 @@ use Rattle.disk_model.specs.View.{View}
 use Rattle.ocf_env.specs.Places.{SiteView}
 use Rattle.child_model.specs.Children.{Admits, ChildrenView}
 use Rattle.exec_journal.specs.Place.{Place}
-use Rattle.exec_journal.specs.Room.{HasRoom}
+use Rattle.exec_journal.specs.Reserve.{HasReserve}
 use Rattle.exec_journal.specs.Settled.{IsSettled}
 use Rattle.exec_state.specs.Store.{Monitors, due_of}
 use Rattle.exec_turn.specs.Turns.{ChildrenMatch}
@@ -70,7 +70,7 @@ due_in x = due_of x.monitors
 -- actions live, and its children admit its site.
 pub record ExecutorKeeps {D : Type 0} (look : D → View) (x : ExecutorView D) : Type 0 where
   pub journal : (look x.disk).honest → IsSettled x.place x.state (look x.disk)
-  pub room : HasRoom x.place.tail x.state
+  pub room : HasReserve x.place.tail x.state
   pub matched : ChildrenMatch x.state x.children
   pub admits : Admits x.children.site x.site
 

@@ -13,7 +13,7 @@ use Rattle.disk_model.specs.View.{View}
 use Rattle.child_model.specs.Children.{Asked, ChildrenView}
 use Rattle.exec_journal.specs.Found.{FoundAs}
 use Rattle.exec_journal.specs.Opening.{OpensLike}
-use Rattle.exec_journal.specs.Room.{Roomy}
+use Rattle.exec_journal.specs.Reserve.{PairHasReserve}
 use Rattle.exec_ledger.specs.Pieces.{Effects, HasBegin, followed_by, no_effects}
 use Rattle.executor.specs.Openings.{Opened, OpensDisk}
 use Rattle.exec_ledger.specs.Boots.{booted}
@@ -117,7 +117,7 @@ StopLeaves look (InService x) c = (look x.last.disk).since x.stop c
 
 -- a history may begin on this pair: it is found as this state, and has capacity for its boot
 abbrev pub BeginsAs : State → Image → Type 0
-BeginsAs start c = FoundAs start c × Roomy c
+BeginsAs start c = FoundAs start c × PairHasReserve c
 
 -- The images that a history may leave that begins with this state, the last incarnation first.
 abbrev pub LifeLeaves : {D : Type 0} → (D → View) → State → List (Sitting D) → Image → Type 0

@@ -61,8 +61,8 @@ abbrev pub LacksOnlyIf : Exchange → Machine → Type 0
 LacksOnlyIf e m = LacksMemory e → IsTrue m.refuses
 
 -- The journal's capacity. A command by itself may be refused for it only where its event does not fit.
-abbrev pub LacksRoom : Label → Event → Type 0
-LacksRoom l e = IsTooLong l.place.tail (e ∷ [])
+abbrev pub LacksReserve : Label → Event → Type 0
+LacksReserve l e = IsTooLong l.place.tail (e ∷ [])
 
 -- The book's capacity. A turn does nothing exactly where the book takes fewer answers than this many for each resource.
 abbrev pub LacksBook : Label → ℕ → Machine → Type 0
@@ -94,7 +94,7 @@ TakesAll l now cs rs m n did = (meant : List Reply) × (es : List Event) × Answ
 -- one command, whose event the journal may have no capacity for
 abbrev pub TakesOne : Label → ℕ → Command → Reply → Machine → Machine → Effects → Type 0
 TakesOne l now c r m n did = TakesAll l now (c ∷ []) (r ∷ []) m n did
-    ⊎ ((e : Event) × (event_of m.state now c ≡ Ok e) × (r ≡ Refused JournalFull) × LacksRoom l e × GoesOn [] m n did)
+    ⊎ ((e : Event) × (event_of m.state now c ≡ Ok e) × (r ≡ Refused JournalFull) × LacksReserve l e × GoesOn [] m n did)
 
 -- A turn of a kind at a moment, for which the book has to take this many answers for each resource.
 pub record MovesTurn (kind : TurnKind) (each : ℕ) (end : TurnEnd) (at : ℕ) (l : Label) (m n : Machine) (did : Effects) : Type 0 where

@@ -14,7 +14,7 @@ use Rattle.gated_slots.specs.declared.append.SlotFault.TheVariants as slot
 use Rattle.exec_journal.specs.Found.{FoundAs, HasDamage, IsToWrite, StandsAt}
 use Rattle.exec_journal.specs.Opening.{OpensLike}
 use Rattle.exec_journal.specs.Place.{Place}
-use Rattle.exec_journal.specs.Room.{AllRoomy, Roomy}
+use Rattle.exec_journal.specs.Reserve.{AllHaveReserve, PairHasReserve}
 use Rattle.two_parts.specs.declared.damage.Damage.{Damage}
 use Rattle.exec_journal.specs.declared.fault.JournalFault.{JournalFault}
 use Rattle.exec_journal.specs.declared.fault.JournalFault.TheVariants as journal
@@ -39,7 +39,7 @@ abbrev pub StartsLike : View → ℕ → Image → Type 0
 StartsLike old now c = OpensLike old c ⊎ ((s : State) × FoundAs s old.reads × BootsFrom s now c)
 
 -- on these parts something is queued or running, and a boot does not fit after the last record
-pub record LacksRoom (c : Image) : Type 0 where
+pub record LacksReserve (c : Image) : Type 0 where
   pub place : Place
   pub state : State
   pub stands : StandsAt place state c
@@ -54,7 +54,7 @@ pub record OpensDisk (old new : View) (now : ℕ) : Type 0 where
   -- at any moment a crash leaves a pair that it might have left before, one that is found as the parts read, or the boot of that
   pub crash : CrashesTo old new (StartsLike old now)
   -- where each pair that a crash might have left before has capacity for its boot, each that it leaves has
-  pub roomy : (old.honest → AllRoomy old) → CrashesTo old new Roomy
+  pub reserved : (old.honest → AllHaveReserve old) → CrashesTo old new PairHasReserve
   -- nothing is written on a journal of the second layout in which nothing is queued or running, nor on a damaged pair
   pub unwritten : (old.honest → IsQuiet old.reads) → Unwritten old new
 
@@ -81,7 +81,7 @@ pub record Opened {D : Type 0} (look : D → View) (old : View) (from : Children
   pub reported : x.reported ≡ record { interrupted = was_running; dropped = was_queued }
   pub did : OpensDisk old (look x.disk) now
   -- the boot fitted
-  pub fits : (look x.disk).honest → LacksRoom old.reads → ⊥
+  pub fits : (look x.disk).honest → LacksReserve old.reads → ⊥
 
 -- the children were started for another journal: the last run is not below the next one of the state that is found
 pub record IsForeign (c : Image) (from : ChildrenView) : Type 0 where
@@ -113,9 +113,9 @@ pub record NotOpened (old new : View) (from to : ChildrenView) (now : ℕ) (faul
   pub cause : fault ≡ why.Disk → Increased old.failures new.failures
   -- full where a boot is needed and does not fit, and the children are this journal's: never where each pair that a crash might have
   -- left before has capacity for its boot
-  pub full : new.honest → fault ≡ why.Full → LacksRoom old.reads
+  pub full : new.honest → fault ≡ why.Full → LacksReserve old.reads
   pub not_foreign : new.honest → fault ≡ why.Full → IsForeign old.reads from → ⊥
-  pub never_full : (old.honest → AllRoomy old) → new.honest → fault ≡ why.Full → ⊥
+  pub never_full : (old.honest → AllHaveReserve old) → new.honest → fault ≡ why.Full → ⊥
   -- a boot may be recorded only where the device failed, and not before foreign children are refused
   pub unbooted : (fault ≡ why.Disk → ⊥) → CrashesTo old new (OpensLike old)
   pub foreign_unbooted : (new.honest → IsForeign old.reads from) → CrashesTo old new (OpensLike old)

@@ -11,7 +11,7 @@ ghost use Rattle.child_model.specs.Children.{ChildrenView};
 ghost use Rattle.child_model.specs.declared.answer.Entry.{Entry};
 ghost use Rattle.exec_journal.specs.Found.{FoundAs, IsFirstPart, IsFreshPair};
 ghost use Rattle.exec_journal.specs.Opening.{Opens};
-ghost use Rattle.exec_journal.specs.Room.{Roomy};
+ghost use Rattle.exec_journal.specs.Reserve.{PairHasReserve};
 ghost use Rattle.exec_turn.specs.AgentsLive.{AgentsLive};
 ghost use Rattle.executor.specs.Joins.{StandsAt, as_calls};
 ghost use Rattle.executor.specs.Lives.{BeginsAs, Calls, Does, Exchange, GoesOnFrom, InOpening, IsLife, LifeLeaves, Lived, OpensBehind, Batch, Sat, Sitting};
@@ -153,9 +153,9 @@ pub fn whole_life<D: Disk>()
     ensures stands { (start : State) (life : List (Sitting D)) → IsLife D.view start life
         → (c : Image) → LifeLeaves D.view start life c
         → (zs : List Event) × Lived start life zs × FoundAs (after_all start zs) c }
-    ensures roomy { (start : State) (life : List (Sitting D)) → IsLife D.view start life
+    ensures reserved { (start : State) (life : List (Sitting D)) → IsLife D.view start life
         → (c : Image) → LifeLeaves D.view start life c
-        → Roomy c }
+        → PairHasReserve c }
     ensures opened { (start : State) (life : List (Sitting D)) (old : D) (from : ChildrenView)
         (now : ℕ) (x : ExecutorView D) (ran queued : List Notice)
         → IsLife D.view start life → GoesOnFrom D.view start life old

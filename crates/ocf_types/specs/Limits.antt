@@ -106,12 +106,12 @@ abbrev pub longest_small : ℕ
 longest_small = 92
 
 -- the longest slot of a result: 89 bytes
-abbrev pub result_room : ℕ
-result_room = slot_frame + longest_result
+abbrev pub result_reserve : ℕ
+result_reserve = slot_frame + longest_result
 
 -- the slot of a boot, and the gate after it: 15 bytes
-abbrev pub boot_room : ℕ
-boot_room = slot_frame + boot_len + 1
+abbrev pub boot_reserve : ℕ
+boot_reserve = slot_frame + boot_len + 1
 
 -- the longest encoding of one parameter, and of 64
 abbrev pub longest_param : ℕ

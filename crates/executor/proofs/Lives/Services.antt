@@ -7,7 +7,7 @@ use Rattle.ocf_types.specs.State.{State, after_all}
 use Rattle.disk_model.specs.Image.{Image}
 use Rattle.disk_model.specs.View.{Lawful, View}
 use Rattle.exec_journal.specs.Found.{FoundAs}
-use Rattle.exec_journal.specs.Room.{Roomy}
+use Rattle.exec_journal.specs.Reserve.{PairHasReserve}
 use Rattle.exec_journal.specs.Batches.{EitherSide}
 use Rattle.executor.specs.Lives.{Serves, Service, Stands}
 use Rattle.exec_ledger.specs.Pieces.{Effects, followed_by, no_effects}
@@ -151,7 +151,7 @@ module _ {D : Type 0} (look : D â†’ View) (law : WhatStands) (lawful : (d : D) â
           )
 
       -- and the pair has capacity for its boot
-      pub service_roomy : Roomy c
-      service_roomy =
+      pub uptime_reserved : PairHasReserve c
+      uptime_reserved =
           let later = returned_leads.crash.crash.passed.clock in
-          whole_leads.crash.roomy.from_start honest c (from_earlier (look x.opened.disk).clock (omega (arith, later, serves.behind)))
+          whole_leads.crash.reserved.from_start honest c (from_earlier (look x.opened.disk).clock (omega (arith, later, serves.behind)))

@@ -14,7 +14,7 @@ use Rattle.two_parts.specs.declared.choice.Choice.{Choice}
 use Rattle.two_parts.specs.declared.damage.Damage.{Damage}
 use Rattle.exec_journal.specs.Found.{FoundAs, HasDamage, IsFirstPart, IsFreshPair, IsToWrite, LeadsTo}
 use Rattle.exec_journal.specs.Opening.{Opens, OpensLike}
-use Rattle.exec_journal.specs.Room.{Roomy}
+use Rattle.exec_journal.specs.Reserve.{PairHasReserve}
 use Rattle.executor.specs.Lives.{BeginsAs, EndsOpening, GoesOnFrom, MayBoot, InOpening, InService, IsLife, LifeLeaves, Lived, OpensBehind, Sat, Sitting, boots}
 use Rattle.executor.specs.Openings.{NotOpened, Opened, StartsLike}
 use Rattle.exec_ledger.specs.Boots.{booted}
@@ -24,7 +24,7 @@ use Rattle.executor.specs.declared.opening.OpenError.{OpenError}
 use Rattle.executor.specs.declared.opening.OpenError.TheVariants as why
 use Rattle.executor.proofs.Openings.Ends.{read_only}
 use Rattle.exec_ledger.specs.Laws.{WhatStands}
-use Rattle.executor.proofs.Lives.Services.{service_roomy, service_stands, whole_leads}
+use Rattle.executor.proofs.Lives.Services.{uptime_reserved, service_stands, whole_leads}
 
 -- one state is found on a pair of parts
 pub record OneFinding : Type 0 where
@@ -114,13 +114,13 @@ module _ {D : Type 0} (look : D → View) (law : WhatStands) (once : OneFinding)
       unbooted old new now (Some why.Full) older from was c ((ends.unbooted (λ none. none)).from_start honest c left)
 
   -- every pair that a history may leave is found so, and has capacity for its boot
-  pub life_leaves : (life : List (Sitting D)) → IsLife look start life → (c : Image) → LifeLeaves look start life c → Behind life c × Roomy c
+  pub life_leaves : (life : List (Sitting D)) → IsLife look start life → (c : Image) → LifeLeaves look start life c → Behind life c × PairHasReserve c
   life_leaves [] is c left = (([], refl, left.0), left.1)
   life_leaves (InOpening old new now end ∷ older) (is, from, ends, honest) c left =
       let did = ends.did in
       let was_honest = did.crash.passed.honest honest in (
         in_opening old new now end older (λ d d_now. (life_leaves older is d (from d d_now)).0) honest was_honest ends c left,
-        (did.roomy (λ _ d d_now. (life_leaves older is d (from d d_now)).1)).from_start honest c left,
+        (did.reserved (λ _ d d_now. (life_leaves older is d (from d d_now)).1)).from_start honest c left,
       )
   life_leaves (InService x ∷ older) (is, from, serves, honest) c left =
       let whole = whole_leads look law lawful x serves in
@@ -138,7 +138,7 @@ module _ {D : Type 0} (look : D → View) (law : WhatStands) (once : OneFinding)
       ap (λ (l : List Event). after_all start l) (sym (append_assoc ys b p)) ∙ after_all-append start (ys ++ b) p
       ∙ ap (λ (s : State). after_all s p) opened in (
         (ys ++ (b ++ p), (ys, p, before.1, stands.1, refl), subst (λ (t : State). FoundAs t c) (sym all) stands.2),
-        service_roomy look law lawful x serves honest c left,
+        uptime_reserved look law lawful x serves honest c left,
       )
 
   -- so an opening after a history gives the state after the events that remain, and reports the actions that ran
@@ -181,6 +181,6 @@ refused_sits look old new from to now fault fails = record {
 pub looked_sits : {D : Type 0} (look : D → View) (old new : D) (now : ℕ) (end : Option OpenError) → Opens (look old) (look new)
     → Sat look (InOpening old new now end)
 looked_sits look old new now end opens = record {
-  did = read_only (look old) (look new) now opens.crash opens.roomy opens.unwritten;
+  did = read_only (look old) (look new) now opens.crash opens.reserved opens.unwritten;
   unbooted = λ _. opens.crash;
 }

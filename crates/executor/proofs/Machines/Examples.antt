@@ -105,9 +105,9 @@ unbegun e room notices n did none moves =
     cc
 
 -- the book reported as full where it takes three answers for each resource
-full_with_room : (answers : List Entry) (notices : List Notice) (n : Machine) (did : Effects)
+full_with_reserve : (answers : List Entry) (notices : List Notice) (n : Machine) (did : Effects)
     → MovesWhile true (turned turn_end.BookFull answers 3 notices) waiting n did → ⊥
-full_with_room answers notices n did ((end, is, t), memory) =
+full_with_reserve answers notices n did ((end, is, t), memory) =
     let same : end ≡ turn_end.BookFull = (let told : reply.Turn turn_end.BookFull ≡ reply.Turn end = is in cc) in
     let less : 3 < 3 = t.full.0 same in omega (arith, less)
 

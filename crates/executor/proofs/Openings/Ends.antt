@@ -16,7 +16,7 @@ use Rattle.gated_slots.specs.declared.append.SlotFault.TheVariants as slot
 use Rattle.exec_journal.specs.Found.{FoundAs, IsToWrite, StandsAt}
 use Rattle.exec_journal.specs.Opening.{FailsToOpen, Opens, OpensAt, OpensLike}
 use Rattle.exec_journal.specs.Place.{Place}
-use Rattle.exec_journal.specs.Room.{AllRoomy, HasRoom, Roomy}
+use Rattle.exec_journal.specs.Reserve.{AllHaveReserve, HasReserve, PairHasReserve}
 use Rattle.exec_journal.specs.Settled.{IsSettled}
 use Rattle.two_parts.specs.declared.damage.Damage.{Damage}
 use Rattle.exec_journal.specs.declared.fault.JournalFault.{JournalFault}
@@ -24,7 +24,7 @@ use Rattle.exec_journal.specs.declared.fault.JournalFault.TheVariants as journal
 use Rattle.executor.specs.declared.opening.OpenError.{OpenError}
 use Rattle.executor.specs.declared.opening.OpenError.TheVariants as why
 use Rattle.exec_ledger.specs.Boots.{Boots, BootsFrom, LacksBoot, booted}
-use Rattle.executor.specs.Openings.{IsQuiet, LacksRoom, NotOpened, Opened, OpensDisk, StartsLike, told_fault, told_slot, IsForeign, IsOver, IsOwn, IsUnready}
+use Rattle.executor.specs.Openings.{IsQuiet, LacksReserve, NotOpened, Opened, OpensDisk, StartsLike, told_fault, told_slot, IsForeign, IsOver, IsOwn, IsUnready}
 use Rattle.executor.specs.Interruptions.{dropped, interrupted}
 use Rattle.exec_ledger.specs.LedgerView.{LedgerView}
 use Rattle.executor.specs.ExecutorView.{ExecutorView, due_in, ledger_of}
@@ -44,16 +44,16 @@ opens_like : (old new : View) (now : ℕ) → CrashesTo old new (OpensLike old) 
 opens_like old new now crash = weakened old new (OpensLike old) (StartsLike old now) (λ h c left. inl left) crash
 
 -- only the journal was opened, or not even that
-pub read_only : (old new : View) (now : ℕ) → CrashesTo old new (OpensLike old) → ((old.honest → AllRoomy old) → CrashesTo old new Roomy)
+pub read_only : (old new : View) (now : ℕ) → CrashesTo old new (OpensLike old) → ((old.honest → AllHaveReserve old) → CrashesTo old new PairHasReserve)
     → ((old.honest → IsToWrite old.reads → ⊥) → Unwritten old new) → OpensDisk old new now
-read_only old new now crash roomy unwritten =
-    record { crash = opens_like old new now crash; roomy = roomy; unwritten = λ quiet. unwritten (λ h. (quiet h).0) }
+read_only old new now crash reserved unwritten =
+    record { crash = opens_like old new now crash; reserved = reserved; unwritten = λ quiet. unwritten (λ h. (quiet h).0) }
 
 module _ (old new : View) (from : ChildrenView) (now : ℕ) where
   -- the journal was not opened
   pub journal_refused : (fault : JournalFault) → FailsToOpen fault old new → NotOpened old new from from now (told_fault fault)
   journal_refused fault fails = record {
-    did = read_only old new now fails.opens.crash fails.opens.roomy fails.opens.unwritten;
+    did = read_only old new now fails.opens.crash fails.opens.reserved fails.opens.unwritten;
     children = inl refl;
     untouched = λ d is. refl;
     foreign = λ is. absurd (never_foreign fault is);
@@ -64,7 +64,7 @@ module _ (old new : View) (from : ChildrenView) (now : ℕ) where
     cause = λ is. fails.cause (as_disk fault is);
     full = λ h is. absurd (never_full fault is);
     not_foreign = λ h is. absurd (never_full fault is);
-    never_full = λ roomy h is. never_full fault is;
+    never_full = λ reserved h is. never_full fault is;
     unbooted = λ _. fails.opens.crash;
     foreign_unbooted = λ _. fails.opens.crash;
     unwritten = λ _. fails.opens.unwritten;
@@ -94,7 +94,7 @@ module _ (old new : View) (from : ChildrenView) (now : ℕ) where
 pub unready_memory : (old new : View) (from to : ChildrenView) (now : ℕ) → Opens old new → to ≡ given_up from
     → (new.honest → IsOwn old.reads from) → (new.honest → IsForeign old.reads from → ⊥) → NotOpened old new from to now why.Memory
 unready_memory old new from to now opens kids theirs own = record {
-  did = read_only old new now opens.crash opens.roomy opens.unwritten;
+  did = read_only old new now opens.crash opens.reserved opens.unwritten;
   children = inr kids;
   full_given_up = λ is. kids;
   kept_unbooted = inr (kids, theirs);
@@ -104,7 +104,7 @@ unready_memory old new from to now opens kids theirs own = record {
   cause = λ is. let none : ⊥ = cc in absurd none;
   full = λ h is. let none : ⊥ = cc in absurd none;
   not_foreign = λ h is. let none : ⊥ = cc in absurd none;
-  never_full = λ roomy h is. cc;
+  never_full = λ reserved h is. cc;
   spared = λ h other. absurd (own h other);
   unbooted = λ _. opens.crash;
   foreign_unbooted = λ _. opens.crash;
@@ -115,7 +115,7 @@ unready_memory old new from to now opens kids theirs own = record {
 unready_foreign : (old new : View) (p : Place) (s : State) (from to : ChildrenView) (now : ℕ) → OpensAt p s old new → to ≡ from
     → s.next_run ≤ from.last_run → NotOpened old new from to now why.Foreign
 unready_foreign old new p s from to now opens kids later = record {
-  did = read_only old new now opens.opens.crash opens.opens.roomy opens.opens.unwritten;
+  did = read_only old new now opens.opens.crash opens.opens.reserved opens.opens.unwritten;
   children = inl kids;
   full_given_up = λ is. let none : ⊥ = cc in absurd none;
   kept_unbooted = inl (kids, opens.opens.crash);
@@ -125,7 +125,7 @@ unready_foreign old new p s from to now opens kids later = record {
   cause = λ is. let none : ⊥ = cc in absurd none;
   full = λ h is. let none : ⊥ = cc in absurd none;
   not_foreign = λ h is. let none : ⊥ = cc in absurd none;
-  never_full = λ roomy h is. cc;
+  never_full = λ reserved h is. cc;
   spared = λ h other. kids;
   unbooted = λ _. opens.opens.crash;
   foreign_unbooted = λ _. opens.opens.crash;
@@ -169,16 +169,16 @@ module _ {D : Type 0} (look : D → View) (law : WhatStands) (once : (c : Image)
     both_passed passed = passed_on old (look mid.disk) (look new.disk) opens.opens.crash.passed passed
 
     did_both : (crash : CrashesTo (look mid.disk) (look new.disk) (BootsFrom mid.state now))
-        → (HasRoom mid.place.tail mid.state → CrashesTo (look mid.disk) (look new.disk) Roomy) → (any_busy mid.state ≡ false → new ≡ ledger_of mid)
+        → (HasReserve mid.place.tail mid.state → CrashesTo (look mid.disk) (look new.disk) PairHasReserve) → (any_busy mid.state ≡ false → new ≡ ledger_of mid)
         → OpensDisk old (look new.disk) now
-    did_both crash roomy quiet = record {
+    did_both crash reserved quiet = record {
       crash = joined old (look mid.disk) (look new.disk) (StartsLike old now)
           (opens_like old (look mid.disk) now opens.opens.crash)
           (weakened (look mid.disk) (look new.disk) (BootsFrom mid.state now) (StartsLike old now)
           (λ h c left. inr (mid.state, opens.found (crash.passed.honest h), left)) crash);
-      roomy =
-          λ all. joined old (look mid.disk) (look new.disk) Roomy (opens.opens.roomy all)
-          (supposed (look mid.disk) (look new.disk) Roomy crash.passed (λ h. roomy (opens.room all (crash.passed.honest h))));
+      reserved =
+          λ all. joined old (look mid.disk) (look new.disk) PairHasReserve (opens.opens.reserved all)
+          (supposed (look mid.disk) (look new.disk) PairHasReserve crash.passed (λ h. reserved (opens.room all (crash.passed.honest h))));
       unwritten = λ is_quiet. rests is_quiet (any_busy mid.state) refl;
     }
       where
@@ -207,11 +207,11 @@ module _ {D : Type 0} (look : D → View) (law : WhatStands) (once : (c : Image)
         let short = lacks.1 in
         omega (arith, room, short)
 
-    lacks_room : (look mid.disk).honest → LacksBoot mid.place.tail mid.state → LacksRoom old.reads
-    lacks_room h lacks =
+    lacks_reserve : (look mid.disk).honest → LacksBoot mid.place.tail mid.state → LacksReserve old.reads
+    lacks_reserve h lacks =
         record { place = mid.place; state = mid.state; stands = stands_before h (lacks_unwritten h lacks); lacks = lacks }
 
-    lacks_boot : (look mid.disk).honest → LacksRoom old.reads → LacksBoot mid.place.tail mid.state
+    lacks_boot : (look mid.disk).honest → LacksReserve old.reads → LacksBoot mid.place.tail mid.state
     lacks_boot h lacks =
         let same = once old.reads lacks.state mid.state (law.found lacks.place lacks.state old.reads lacks.stands) (opens.found h) in
         let here = subst (λ (s : State). LacksBoot lacks.place.tail s) same lacks.lacks in
@@ -252,7 +252,7 @@ module _ {D : Type 0} (look : D → View) (law : WhatStands) (once : (c : Image)
             queued = queued_is;
           };
           reported = remembers;
-          did = subst (λ (d : D). OpensDisk old (look d) now) (sym disk) (did_both boots.crash boots.roomy boots.quiet);
+          did = subst (λ (d : D). OpensDisk old (look d) now) (sym disk) (did_both boots.crash boots.reserved boots.quiet);
           fits = λ h lacks. let bad = boots.full.1 (lacks_boot (boots.crash.passed.honest (honest_new h)) lacks) in let none : ⊥ = cc in
               none;
         }
@@ -261,7 +261,7 @@ module _ {D : Type 0} (look : D → View) (law : WhatStands) (once : (c : Image)
     pub boot_refused : (fault : SlotFault) (d : D) (to : ChildrenView) → Boots look now (ledger_of mid) new (Err fault) → d ≡ new.disk
         → to ≡ mid.children → NotOpened old (look d) from to now (told_slot fault)
     boot_refused fault d to boots same kids = subst (λ (x : D). NotOpened old (look x) from to now (told_slot fault)) (sym same) (record {
-      did = did_both boots.crash boots.roomy boots.quiet;
+      did = did_both boots.crash boots.reserved boots.quiet;
       children = inr (kids ∙ over.children);
       full_given_up = λ is. kids ∙ over.children;
       kept_unbooted = inr (
@@ -274,10 +274,10 @@ module _ {D : Type 0} (look : D → View) (law : WhatStands) (once : (c : Image)
       damaged = λ h x is. absurd (no_damage fault x is);
       cause = λ is. let increased = boots.cause (ap Err (as_disk fault is)) in let before = opens.opens.crash.passed.failures in
           omega (arith, increased, before);
-      full = λ h is. lacks_room (boots.crash.passed.honest h) (boots.full.0 (ap Err (as_full fault is)));
-      never_full = λ roomy h is.
+      full = λ h is. lacks_reserve (boots.crash.passed.honest h) (boots.full.0 (ap Err (as_full fault is)));
+      never_full = λ reserved h is.
           let lacks = boots.full.0 (ap Err (as_full fault is)) in
-          let room = opens.room roomy (boots.crash.passed.honest h) lacks.0 in
+          let room = opens.room reserved (boots.crash.passed.honest h) lacks.0 in
           let short = lacks.1 in
           omega (arith, room, short);
       not_foreign = λ h _. own h;

@@ -18,7 +18,7 @@ use Rattle.ocf_types.specs.declared.command.RequestOf.TheVariants as asked
 use Rattle.ocf_types.specs.declared.refusal.Refusal.{Refusal}
 use Rattle.disk_model.specs.Laws.{left_now, started}
 use Rattle.child_model.specs.Children.{ChildrenView}
-use Rattle.exec_journal.specs.Room.{Roomy}
+use Rattle.exec_journal.specs.Reserve.{PairHasReserve}
 use Rattle.exec_ledger.specs.Laws.{WhatStands, due_after_all-append, joined, settled_leaves, settles, whole as no_call}
 use Rattle.exec_ledger.specs.Pieces.{Effects, Leaves, followed_by, no_effects}
 use Rattle.exec_ledger.specs.Commands.{Obeys}
@@ -93,7 +93,7 @@ leads_still look w x a lawful is_open so_far = record {
   crash = no_call look x.disk x.state lawful
       (settles look w.disk x.disk w.state x.state a (so_far.whole is_open)
       (subst (λ (s : State). Leaves look w.disk x.disk w.state s a) (sym (so_far.state is_open)) so_far.crash))
-      (started (look x.disk) Roomy (left_now (look w.disk) (look x.disk) Roomy so_far.crash.roomy lawful) lawful);
+      (started (look x.disk) PairHasReserve (left_now (look w.disk) (look x.disk) PairHasReserve so_far.crash.reserved lawful) lawful);
   book = sym (append-nil x.children.book);
   log = sym (append-nil x.children.log);
   site = refl;

@@ -3,7 +3,7 @@ use Rattle.ocf_types.specs.Answer.{moment}
 use Rattle.ocf_types.specs.State.{State}
 use Rattle.ocf_types.specs.declared.reply.Notice.{Notice}
 use Rattle.ocf_types.specs.declared.reply.TurnEnd.TheVariants as turn_end
-use Rattle.exec_ledger.specs.Laws.{settled_found, settled_roomy, whole}
+use Rattle.exec_ledger.specs.Laws.{settled_found, settled_reserved, whole}
 use Rattle.exec_ledger.specs.Scenes.{scene_of}
 use Rattle.exec_ledger.specs.LedgerView.{due_in}
 use Rattle.exec_turn.specs.Turn.{IsFinish}
@@ -23,7 +23,7 @@ returns-then-room-len-clause-finishes g c =
     subst (λ (l : List Notice). Finishes g.D.Disk.view h.disk h.disk x h.state (due_in h) from from l turn_end.BookFull)
     (sym c.clear.ensures.items)
     (book_full IsFinish g.D.Disk.view h.disk x from (refl, refl) (whole g.D.Disk.view h.disk h.state lawful found
-    (settled_roomy c.what_stands.ensures.once h.place h.state v lawful kept.journal kept.room)))
+    (settled_reserved c.what_stands.ensures.once h.place h.state v lawful kept.journal kept.room)))
 
 pub returns-in-Ok-clause-finishes : goal.returns-in-Ok-clause-finishes
 returns-in-Ok-clause-finishes g c =
