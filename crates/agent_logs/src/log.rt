@@ -93,7 +93,7 @@ impl Kept {
     }
 
     // Whether a failure of the log is to be reported now; if so, this counts as its report.
-    fn is_to_tell(&self, rt: &impl Clock) -> bool {
+    fn is_to_report(&self, rt: &impl Clock) -> bool {
         let Ok(now) = rt.monotonic() else {
             return false;
         };
@@ -108,8 +108,8 @@ impl Kept {
     }
 
     // Reports on standard error that the log fails, once in a minute at most.
-    fn tell<R: Clock + Eprint>(&self, rt: &R, id: &RscId, error: &io::Error) {
-        if !self.is_to_tell(rt) {
+    fn report<R: Clock + Eprint>(&self, rt: &R, id: &RscId, error: &io::Error) {
+        if !self.is_to_report(rt) {
             return;
         }
         let id = str::from_utf8(id.as_bytes()).unwrap_or_default();
@@ -141,7 +141,7 @@ impl Kept {
     // Writes a line to a file; a failure is reported.
     fn write<R: Clock + Eprint>(&self, rt: &R, id: &RscId, file: &File, line: &[u8]) {
         if let Err(error) = write_line(file, line) {
-            self.tell(rt, id, &error);
+            self.report(rt, id, &error);
         }
     }
 
@@ -159,7 +159,7 @@ impl Kept {
                 Some(file)
             }
             Err(error) => {
-                self.tell(rt, id, &error);
+                self.report(rt, id, &error);
                 None
             }
         }

@@ -21,13 +21,13 @@ abbrev pub signal_of : ExitStatus → ℤ
 signal_of status = unwrap_or (exit_signal status) (pos 0)
 
 -- the report of an end by its status: its exit code, or where it has none the signal that ended the process
-abbrev pub TellsEnd : Poll → ExitStatus → Type 0
-TellsEnd (Exited code) status = exit_code status ≡ Some (pos code)
-TellsEnd (Signaled signal) status = (exit_code status ≡ None) × (signal_of status ≡ pos signal)
-TellsEnd _ status = ⊥
+abbrev pub ReportsEnd : Poll → ExitStatus → Type 0
+ReportsEnd (Exited code) status = exit_code status ≡ Some (pos code)
+ReportsEnd (Signaled signal) status = (exit_code status ≡ None) × (signal_of status ≡ pos signal)
+ReportsEnd _ status = ⊥
 
 -- the result of a poll by the system's answer
-abbrev pub Tells : Poll → Result (Option ExitStatus) Error → Type 0
-Tells answer (Ok None) = answer ≡ Running
-Tells answer (Ok (Some status)) = TellsEnd answer status
-Tells answer (Err error) = answer ≡ Fault
+abbrev pub IsPollOf : Poll → Result (Option ExitStatus) Error → Type 0
+IsPollOf answer (Ok None) = answer ≡ Running
+IsPollOf answer (Ok (Some status)) = ReportsEnd answer status
+IsPollOf answer (Err error) = answer ≡ Fault

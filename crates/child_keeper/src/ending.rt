@@ -4,7 +4,7 @@ ghost use Rattle.std.specs.Prelude.{◌≤◌, vec_len};
 use crate::agents::{Agent, Agents};
 use crate::descent::AgentsSought;
 use proc_files::{ProcFiles, Process};
-use process_ends::{Pauses, Signal, send_signal, still_lives, stopped, tell_all, tell_unstopped};
+use process_ends::{Pauses, Signal, send_signal, still_lives, stopped, report_all, report_unstopped};
 use std::alloc::Allocator;
 use std::io::Eprint;
 use std::process::{OpenProcess, Processes};
@@ -53,7 +53,7 @@ fn stopped_agents<
     match AgentsSought::new(rt, alloc, agents) {
         Ok(mut sought) => stopped(rt, alloc, &mut sought),
         Err(error) => {
-            tell_unstopped(rt, &error);
+            report_unstopped(rt, &error);
             Vec::new(alloc)
         }
     }
@@ -77,5 +77,5 @@ pub fn end_agents<
     }
     await_ends(rt, agents, &mut found);
     found.retain(|process| !is_agent(process, agents.agents.as_slice()));
-    tell_all(rt, found.as_slice());
+    report_all(rt, found.as_slice());
 }

@@ -1,7 +1,7 @@
 //! How the system's answers about an agent process are reported.
 ghost use Rattle.std.specs.Prelude.{◌≡◌, pos};
 ghost use Rattle.std.specs.IoError.{error_kind};
-ghost use Rattle.child_keeper.specs.Ends.{Tells, TellsEnd, signal_of, start_fault};
+ghost use Rattle.child_keeper.specs.Ends.{IsPollOf, ReportsEnd, signal_of, start_fault};
 
 use crate::Poll;
 use ocf_types::StartFault;
@@ -30,7 +30,7 @@ fn signal_of(status: ExitStatus) -> u8
 
 /// How an agent process ended.
 pub fn end_of(status: ExitStatus) -> Poll
-    ensures { TellsEnd result status }
+    ensures { ReportsEnd result status }
 {
     match status.code() {
         Some(code) => Poll::Exited((code.cast_unsigned() % 256) as u8),
@@ -40,7 +40,7 @@ pub fn end_of(status: ExitStatus) -> Poll
 
 /// The result of a poll, by the system's answer.
 pub fn poll_of(answer: &io::Result<Option<ExitStatus>>) -> Poll
-    ensures { Tells result answer.now }
+    ensures { IsPollOf result answer.now }
 {
     match answer {
         Ok(None) => Poll::Running,

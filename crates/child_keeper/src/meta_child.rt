@@ -18,7 +18,7 @@ use growth::Grows;
 use ocf_env::{Site, launch_meta};
 use ocf_types::{AgentType, MetaFault, Provider, StartFault};
 use proc_files::ProcFiles;
-use process_ends::{Deadline, Pauses, end_child, tell_alive};
+use process_ends::{Deadline, Pauses, end_child, report_alive};
 use std::alloc::{AllocError, Allocator};
 use std::io::{self, Eprint, Read};
 use std::process::{Child, Command, ExitStatus, OpenProcess, Processes, Stdio};
@@ -250,7 +250,7 @@ where
     /// Gives the agent up and ends it with all its descendants. An agent that lives on is named on standard error.
     pub fn give_up<R: Processes + Clock + Eprint + ProcFiles>(mut self, rt: &R, alloc: A) {
         if end_child(rt, alloc, &mut self.child) {
-            tell_alive(rt, &self.child, "meta-data");
+            report_alive(rt, &self.child, "meta-data");
         }
         drop(self.into_output());
     }

@@ -19,7 +19,7 @@ use growth::{GROWTH_LIMIT, Grows};
 use ocf_env::{Invocation, Launch};
 use ocf_types::{RunId, StartFault};
 use proc_files::ProcFiles;
-use process_ends::tell_alive;
+use process_ends::report_alive;
 use std::alloc::{AllocError, Allocator, Global};
 use std::io::{self, Eprint};
 use std::process::{Child, OpenProcess};
@@ -179,15 +179,15 @@ fn end_all<
         end_agents(rt, alloc, killed);
     }
     while let Some(agent) = killed.pop() {
-        tell_killed(rt, &agent);
+        report_killed(rt, &agent);
         dying.add(agent);
     }
 }
 
 // Reports on standard error that a killed agent lives on, and that it delays the actions of its resource.
-fn tell_killed<R: Eprint + ProcFiles, P: OpenProcess + Drop>(rt: &R, agent: &Agent<P>) {
+fn report_killed<R: Eprint + ProcFiles, P: OpenProcess + Drop>(rt: &R, agent: &Agent<P>) {
     let run = agent.run.get();
-    tell_alive(rt, &agent.child, format_args!("run {run}"));
+    report_alive(rt, &agent.child, format_args!("run {run}"));
     let id = name_text(agent.id.as_bytes());
     let _ = rt.eprintln(format_args!(
         "ocfexec: until it ends, no action of {id} except stop is started"
@@ -195,7 +195,7 @@ fn tell_killed<R: Eprint + ProcFiles, P: OpenProcess + Drop>(rt: &R, agent: &Age
 }
 
 // Reports on standard error which signal ended an agent, since its result does not record that.
-fn tell_signaled<R: Eprint, P: OpenProcess + Drop>(rt: &R, agent: &Agent<P>, signal: u8) {
+fn report_signaled<R: Eprint, P: OpenProcess + Drop>(rt: &R, agent: &Agent<P>, signal: u8) {
     let (run, id) = (agent.run.get(), name_text(agent.id.as_bytes()));
     let _ = rt.eprintln(format_args!("ocfexec: run {run} of {id} was ended by signal {signal}"));
 }
@@ -294,7 +294,7 @@ impl<R: process::Processes + Clock + Eprint + ProcFiles + Drop, A: Allocator + C
             Poll::Signaled(signal) => {
                 let agent = self.live.take(run);
                 log_end(&self.rt, &self.log, &agent, LoggedEnd::Signaled(signal));
-                tell_signaled(&self.rt, &agent, signal);
+                report_signaled(&self.rt, &agent, signal);
             }
             Poll::Fault => self.give_up(run, LoggedEnd::Lost),
         }

@@ -25,7 +25,7 @@ pub fn one_entry()
 {}
 
 /// An entry determines the answer of its call: different answers to a start have different entries, and so for a poll and a kill.
-pub fn answers_are_told()
+pub fn answers_are_reported()
     ensures start { (a b : Result Unit StartFault) → start_answer a ≡ start_answer b → a ≡ b }
     ensures poll { (a b : Poll) → poll_answer a ≡ poll_answer b → a ≡ b }
     ensures kill { (a b : Result Unit KillFault) → kill_answer a ≡ kill_answer b → a ≡ b }

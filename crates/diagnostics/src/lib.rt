@@ -6,6 +6,6 @@ mod signals;
 mod standard_error;
 mod streams;
 
-pub use signals::{children_ignored, tell_ignored};
+pub use signals::{children_ignored, report_ignored};
 pub use standard_error::{explain, is_journal, report, report_cause};
-pub use streams::{FirstError, Noted, tell_run, tell_shown};
+pub use streams::{FirstError, Noted, report_run, report_shown};

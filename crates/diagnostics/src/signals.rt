@@ -77,7 +77,7 @@ fn ignored_names(alloc: Global, line: &[u8]) -> Result<String, AllocError> {
 
 /// Reports the signals that agents inherit as ignored, in one line on standard error. Nothing is written if there are none or
 /// `/proc` cannot be read.
-pub fn tell_ignored(system: &System<'_>) {
+pub fn report_ignored(system: &System<'_>) {
     let rt = system.host();
     let mut status = [0u8; STATUS_LIMIT];
     let Ok(length) = read_head(rt, "/proc/self/status", &mut status) else {

@@ -92,7 +92,7 @@ impl FirstError {
 
 // Reports that input or output failed, with the stream and its error for a person. If neither met an error, the program ended because
 // the reader of its output has gone.
-fn tell(system: &System<'_>, input: &FirstError, output: &FirstError) {
+fn report(system: &System<'_>, input: &FirstError, output: &FirstError) {
     name(system, Fault::InputOrOutput);
     match (input.met.get(), output.met.get()) {
         (Some(error), _) => {
@@ -112,21 +112,21 @@ fn tell(system: &System<'_>, input: &FirstError, output: &FirstError) {
 }
 
 /// Reports a failure of output that ended the program before any command was read.
-pub fn tell_shown(system: &System<'_>, output: &FirstError, ended: Result<(), Fault>) {
+pub fn report_shown(system: &System<'_>, output: &FirstError, ended: Result<(), Fault>) {
     if let Err(Fault::InputOrOutput) = ended {
-        tell(system, &FirstError::none(), output);
+        report(system, &FirstError::none(), output);
     }
 }
 
 /// Reports a failure of input or output that ended a session before its input did, with advice.
-pub fn tell_run(
+pub fn report_run(
     system: &System<'_>,
     input: &FirstError,
     output: &FirstError,
     ended: Result<(), Fault>,
 ) {
     if let Err(Fault::InputOrOutput) = ended {
-        tell(system, input, output);
+        report(system, input, output);
         advise(system, Fault::InputOrOutput);
     }
 }

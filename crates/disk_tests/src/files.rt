@@ -1,6 +1,6 @@
 //! The journal's files in a directory: the end of a part, and calls after a fault.
 use disk_model::Disk;
-use file_disk::{FileDisk, Owners, TellsError};
+use file_disk::{FileDisk, Owners, ReportsError};
 use ocf_types::{PART_LIMIT, Part};
 use std::fs::{self, File};
 use std::io;

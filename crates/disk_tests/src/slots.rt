@@ -23,7 +23,7 @@ fn failed(alloc: Global, call: u64) -> Option<(SlotRead, u64, u64)> {
 }
 
 #[test]
-fn a_reading_in_which_a_device_call_fails_is_told(rt: HostRuntime) {
+fn a_reading_in_which_a_device_call_fails_is_reported(rt: HostRuntime) {
     for call in 1..=4 {
         let (found, calls, faults) = failed(rt.alloc(), call).expect(&rt, "out of memory");
         assert!(rt;

@@ -148,7 +148,7 @@ impl Write for Sparing {
 }
 
 impl Output for Sparing {
-    fn is_heard(&self) -> bool {
+    fn has_reader(&self) -> bool {
         true
     }
 }

@@ -2,7 +2,7 @@
 use child_keeper::{Script, Scripted};
 use child_model::Poll;
 use disk_model::MemDisk;
-use exec_client::Teller;
+use exec_client::JsonClient;
 use exec_commands::{NoticeForm, Service};
 use exec_faults::Fault;
 use exec_lines::{Input, Output};
@@ -88,7 +88,7 @@ fn ended_in_way<R: Input + Drop, W: Output>(
     };
     match Executor::open(alloc, disk, children, nowhere(alloc), 5_000) {
         Ok((executor, report)) => {
-            let client = Teller::new(alloc, writer, &executor);
+            let client = JsonClient::new(alloc, writer, &executor);
             let Ok(room) = LineRoom::new(alloc) else {
                 return None;
             };
@@ -189,7 +189,7 @@ const SERVED_NOT_RUNNING: &str =
     \"key\":\"r1_start_0\",\"name\":\"OCF_NOT_RUNNING\",\"outcome\":\"done\",\"run\":1,\"since\":6000}\n{\"end\":\"idle\"}\n";
 
 #[test]
-fn a_run_that_serves_says_that_it_is_ready_and_answers_as_a_run_does(rt: HostRuntime) {
+fn a_run_that_serves_states_that_it_is_ready_and_answers_as_a_run_does(rt: HostRuntime) {
     let alloc = rt.alloc();
     for (polls, wanted) in [
         ([].as_slice(), SERVED_ON),
@@ -241,7 +241,7 @@ const READY_AFTER_THE_REPORT: &str =
     {\"dropped\":2,\"interrupted\":1,\"journal\":null,\"ready\":true,\"resources\":2,\"version\":\"9.8.7\"}\n";
 
 #[test]
-fn a_run_that_serves_says_after_the_report_how_many_lines_that_had(rt: HostRuntime) {
+fn a_run_that_serves_states_after_the_report_how_many_lines_that_had(rt: HostRuntime) {
     let alloc = rt.alloc();
     let before = run_over(alloc, MemDisk::new(alloc), &[], TWO_STARTS).expect(&rt, "no run");
     assert_eq!(rt; before.ended, Ok(()), "the end of the run before");

@@ -25,64 +25,64 @@ use Rattle.exec_ledger.specs.Scenes.{Scene}
 use Rattle.exec_ledger.specs.Replies.{IsReplyTo, KeepsRunning, recorded}
 use Rattle.exec_ledger.specs.Together.{Adds, Answered as BatchAnswered, disk_each, failed}
 use Rattle.exec_ledger.proofs.Keeping.{command_keeps}
-use Rattle.exec_client.specs.Behind.{Behind, TellsOf, claims, nothing, says_else, tells, untold}
-use Rattle.exec_client.specs.Said.{Said, answered, noticed_by}
+use Rattle.exec_client.specs.Behind.{Behind, IsMessageOf, claims, nothing, states_else, sends, untold}
+use Rattle.exec_client.specs.SentItem.{SentItem, answered, noticed_by}
 
 -- no message is backed by any events
-pub none_told : (es : List Event) → Behind [] es
-none_told [] = nothing
-none_told (e ∷ es) = untold e [] es (none_told es)
+pub none_sent : (es : List Event) → Behind [] es
+none_sent [] = nothing
+none_sent (e ∷ es) = untold e [] es (none_sent es)
 
 -- one after the other
-pub both_behind : (ss : List Said) (es : List Event) (ts : List Said) (fs : List Event) → Behind ss es → Behind ts fs
+pub both_behind : (ss : List SentItem) (es : List Event) (ts : List SentItem) (fs : List Event) → Behind ss es → Behind ts fs
     → Behind (ss ++ ts) (es ++ fs)
 both_behind _ _ ts fs nothing later = later
 both_behind _ _ ts fs (untold e ss es b) later = untold e (ss ++ ts) (es ++ fs) (both_behind ss es ts fs b later)
-both_behind _ _ ts fs (tells s e ss es t b) later = tells s e (ss ++ ts) (es ++ fs) t (both_behind ss es ts fs b later)
-both_behind _ _ ts fs (says_else s ss es none b) later = says_else s (ss ++ ts) (es ++ fs) none (both_behind ss es ts fs b later)
+both_behind _ _ ts fs (sends s e ss es t b) later = sends s e (ss ++ ts) (es ++ fs) t (both_behind ss es ts fs b later)
+both_behind _ _ ts fs (states_else s ss es none b) later = states_else s (ss ++ ts) (es ++ fs) none (both_behind ss es ts fs b later)
 
 -- after more events
-pub behind_more : (ss : List Said) (es fs : List Event) → Behind ss es → Behind ss (es ++ fs)
+pub behind_more : (ss : List SentItem) (es fs : List Event) → Behind ss es → Behind ss (es ++ fs)
 behind_more ss es fs b =
-    subst (λ (ts : List Said). Behind ts (es ++ fs)) (append-nil ss) (both_behind ss es [] fs b (none_told fs))
+    subst (λ (ts : List SentItem). Behind ts (es ++ fs)) (append-nil ss) (both_behind ss es [] fs b (none_sent fs))
 
-pub behind_after : (ss : List Said) (fs es : List Event) → Behind ss es → Behind ss (fs ++ es)
-behind_after ss fs es b = both_behind [] fs ss es (none_told fs) b
+pub behind_after : (ss : List SentItem) (fs es : List Event) → Behind ss es → Behind ss (fs ++ es)
+behind_after ss fs es b = both_behind [] fs ss es (none_sent fs) b
 
 -- a message that claims one event, or none
-one_told : (s : Said) (e : Event) → TellsOf s e → Behind (s ∷ []) (e ∷ [])
-one_told s e t = tells s e [] [] t nothing
+one_sent : (s : SentItem) (e : Event) → IsMessageOf s e → Behind (s ∷ []) (e ∷ [])
+one_sent s e t = sends s e [] [] t nothing
 
-pub says_none : (s : Said) → claims s ≡ false → Behind (s ∷ []) []
-says_none s none = says_else s [] [] none nothing
+pub states_nothing : (s : SentItem) → claims s ≡ false → Behind (s ∷ []) []
+states_nothing s none = states_else s [] [] none nothing
 
 -- a command that is this event
 pub reply_behind : (e : Event) (r : Reply) → KeepsRunning e.change → IsReplyTo e r → Behind (answered r ∷ []) (recorded e r)
-reply_behind e (reply.Refused why) keeps is = says_none (answered (reply.Refused why)) refl
-reply_behind e reply.Done keeps (inl is) = one_told (answered reply.Done) e (keeps, is)
+reply_behind e (reply.Refused why) keeps is = states_nothing (answered (reply.Refused why)) refl
+reply_behind e reply.Done keeps (inl is) = one_sent (answered reply.Done) e (keeps, is)
 reply_behind e reply.Done keeps (inr (inl is)) = absurd cc
 reply_behind e reply.Done keeps (inr (inr (inl is))) = absurd cc
 reply_behind e reply.Done keeps (inr (inr (inr is))) = absurd cc
-reply_behind e (reply.Accepted call key) keeps (inl is) = one_told (answered (reply.Accepted call key)) e (keeps, is)
+reply_behind e (reply.Accepted call key) keeps (inl is) = one_sent (answered (reply.Accepted call key)) e (keeps, is)
 reply_behind e (reply.Accepted call key) keeps (inr (inl is)) = absurd cc
 reply_behind e (reply.Accepted call key) keeps (inr (inr (inl is))) = absurd cc
 reply_behind e (reply.Accepted call key) keeps (inr (inr (inr is))) = absurd cc
-reply_behind e (reply.List ids) keeps is = untold e (answered (reply.List ids) ∷ []) [] (says_none (answered (reply.List ids)) refl)
-reply_behind e (reply.Info info) keeps is = untold e (answered (reply.Info info) ∷ []) [] (says_none (answered (reply.Info info)) refl)
-reply_behind e (reply.History rs) keeps is = untold e (answered (reply.History rs) ∷ []) [] (says_none (answered (reply.History rs)) refl)
-reply_behind e (reply.Turn end) keeps is = untold e (answered (reply.Turn end) ∷ []) [] (says_none (answered (reply.Turn end)) refl)
+reply_behind e (reply.List ids) keeps is = untold e (answered (reply.List ids) ∷ []) [] (states_nothing (answered (reply.List ids)) refl)
+reply_behind e (reply.Info info) keeps is = untold e (answered (reply.Info info) ∷ []) [] (states_nothing (answered (reply.Info info)) refl)
+reply_behind e (reply.History rs) keeps is = untold e (answered (reply.History rs) ∷ []) [] (states_nothing (answered (reply.History rs)) refl)
+reply_behind e (reply.Turn end) keeps is = untold e (answered (reply.Turn end) ∷ []) [] (states_nothing (answered (reply.Turn end)) refl)
 
 -- a command of a batch
 add_behind : (s : State) (now : ℕ) (c : Command) (x : Result Event Refusal) (r : Reply) (es : List Event) → event_of s now c ≡ x
     → Adds x r es → Behind (answered r ∷ []) es
 add_behind s now c (Err why) r es is (refused, none) =
     subst (λ (t : Reply). Behind (answered t ∷ []) es) (sym refused)
-    (subst (λ (fs : List Event). Behind (answered (reply.Refused why) ∷ []) fs) (sym none) (says_none (answered (reply.Refused why)) refl))
-add_behind s now c (Ok e) r es is (inl (told, one)) =
-    subst (λ (fs : List Event). Behind (answered r ∷ []) fs) (sym one) (one_told (answered r) e (command_keeps s now c e is, told))
+    (subst (λ (fs : List Event). Behind (answered (reply.Refused why) ∷ []) fs) (sym none) (states_nothing (answered (reply.Refused why)) refl))
+add_behind s now c (Ok e) r es is (inl (reported, one)) =
+    subst (λ (fs : List Event). Behind (answered r ∷ []) fs) (sym one) (one_sent (answered r) e (command_keeps s now c e is, reported))
 add_behind s now c (Ok e) r es is (inr (refused, registers, none)) =
     subst (λ (t : Reply). Behind (answered t ∷ []) es) (sym refused)
-    (subst (λ (fs : List Event). Behind (answered (reply.Refused Memory) ∷ []) fs) (sym none) (says_none (answered (reply.Refused Memory)) refl))
+    (subst (λ (fs : List Event). Behind (answered (reply.Refused Memory) ∷ []) fs) (sym none) (states_nothing (answered (reply.Refused Memory)) refl))
 
 -- commands in a batch
 pub batch_behind : (now : ℕ) (s : State) (cs : List Command) (rs : List Reply) (es : List Event) → BatchAnswered now s cs rs es
@@ -98,12 +98,12 @@ batch_behind now s (c ∷ cs) [] es none = absurd none
 -- refusals
 disk_behind : (rs : List Reply) → Behind (map answered (disk_each rs)) []
 disk_behind [] = nothing
-disk_behind (r ∷ rs) = says_else (answered (reply.Refused Disk)) (map answered (disk_each rs)) [] refl (disk_behind rs)
+disk_behind (r ∷ rs) = states_else (answered (reply.Refused Disk)) (map answered (disk_each rs)) [] refl (disk_behind rs)
 
 pub failed_behind : (rs : List Reply) → Behind (map answered (failed rs)) []
 failed_behind [] = nothing
 failed_behind (reply.Refused why ∷ rs) =
-    says_else (answered (reply.Refused why)) (map answered (failed rs)) [] refl (failed_behind rs)
+    states_else (answered (reply.Refused why)) (map answered (failed rs)) [] refl (failed_behind rs)
 failed_behind (reply.Done ∷ rs) = disk_behind (reply.Done ∷ rs)
 failed_behind (reply.Accepted call key ∷ rs) = disk_behind (reply.Accepted call key ∷ rs)
 failed_behind (reply.List ids ∷ rs) = disk_behind (reply.List ids ∷ rs)
@@ -117,14 +117,14 @@ module _ (book : List Entry) where
   ends_behind : (at : ℕ) (a : Active) (ends : List RunEnd) → Behind (map (noticed_by book) (map (notice_of at a) ends)) (map (result_of at a) ends)
   ends_behind at a [] = nothing
   ends_behind at a (end ∷ ends) =
-      tells (noticed_by book (notice_of at a end)) (result_of at a end) _ _ (record { end = end; is = refl; ended = refl }) (ends_behind at a ends)
+      sends (noticed_by book (notice_of at a end)) (result_of at a end) _ _ (record { end = end; is = refl; ended = refl }) (ends_behind at a ends)
 
   -- the ends of several
   all_behind : {X : Type 0} (at : ℕ) (who : X → Active) (ends : X → List RunEnd) (xs : List X)
       → Behind (map (noticed_by book) (flat_map (λ x. map (notice_of at (who x)) (ends x)) xs)) (flat_map (λ x. map (result_of at (who x)) (ends x)) xs)
   all_behind at who ends [] = nothing
   all_behind at who ends (x ∷ xs) =
-      subst (λ (ss : List Said). Behind ss (flat_map (λ x. map (result_of at (who x)) (ends x)) (x ∷ xs)))
+      subst (λ (ss : List SentItem). Behind ss (flat_map (λ x. map (result_of at (who x)) (ends x)) (x ∷ xs)))
       (sym (map-append (noticed_by book) (map (notice_of at (who x)) (ends x)) (flat_map (λ x. map (notice_of at (who x)) (ends x)) xs)))
       (both_behind _ _ _ _ (ends_behind at (who x) (ends x)) (all_behind at who ends xs))
 
@@ -140,40 +140,40 @@ module _ (book : List Entry) where
       behind_more (map (noticed_by book) (result_notices at ps)) (results at ps) (begins at bs) (results_behind at ps)
 
   -- these notices and events, by what they are
-  moved : (told told2 : List Notice) (es es2 : List Event) → told ≡ told2 → es ≡ es2 → Behind (map (noticed_by book) told2) es2 → Behind (map (noticed_by book) told) es
-  moved told told2 es es2 same same2 b =
-      subst (λ (ns : List Notice). Behind (map (noticed_by book) ns) es) (sym same) (subst (λ (fs : List Event). Behind (map (noticed_by book) told2) fs) (sym same2) b)
+  moved : (reported sent2 : List Notice) (es es2 : List Event) → reported ≡ sent2 → es ≡ es2 → Behind (map (noticed_by book) sent2) es2 → Behind (map (noticed_by book) reported) es
+  moved reported sent2 es es2 same same2 b =
+      subst (λ (ns : List Notice). Behind (map (noticed_by book) ns) es) (sym same) (subst (λ (fs : List Event). Behind (map (noticed_by book) sent2) fs) (sym same2) b)
 
-  whole_behind : (end : TurnEnd) (x : Scene) (did : Effects) (told : List Notice) → Whole end x did told
-      → Behind (map (noticed_by book) told) did.events
-  whole_behind end x did told (t, is, ns) =
-      moved told _ did.events _ ns (same_events is)
-      (subst (λ (ss : List Said). Behind ss (results x.at t.polled ++ begins x.at t.begun ++ refusals x.at t.started))
+  whole_behind : (end : TurnEnd) (x : Scene) (did : Effects) (reported : List Notice) → Whole end x did reported
+      → Behind (map (noticed_by book) reported) did.events
+  whole_behind end x did reported (t, is, ns) =
+      moved reported _ did.events _ ns (same_events is)
+      (subst (λ (ss : List SentItem). Behind ss (results x.at t.polled ++ begins x.at t.begun ++ refusals x.at t.started))
       (sym (map-append (noticed_by book) (result_notices x.at t.polled) (refusal_notices x.at t.started)))
       (both_behind _ _ _ _ (begun_behind x.at t.polled t.begun) (refusals_behind x.at t.started)))
 
   -- a turn
-  pub turn_behind : (end : TurnEnd) (x : Scene) (did : Effects) (told : List Notice) → IsTurn end x did told
-      → Behind (map (noticed_by book) told) did.events
-  turn_behind turn_end.Closed x did told none = absurd none
-  turn_behind turn_end.BookFull x did told (is, ns) = moved told [] did.events [] ns (same_events is) nothing
-  turn_behind turn_end.Done x did told whole = whole_behind turn_end.Done x did told whole
-  turn_behind turn_end.RunsSpent x did told whole = whole_behind turn_end.RunsSpent x did told whole
-  turn_behind turn_end.Full x did told whole = whole_behind turn_end.Full x did told whole
-  turn_behind turn_end.Memory x did told whole = whole_behind turn_end.Memory x did told whole
-  turn_behind turn_end.Disk x did told (inl (ps, _, is, ns)) = moved told [] did.events [] ns (same_events is) nothing
-  turn_behind turn_end.Disk x did told (inr (inl (ps, end, bs, _, _, is, ns))) =
-      moved told _ did.events _ ns (same_events is) (results_behind x.at ps)
-  turn_behind turn_end.Disk x did told (inr (inr (end, t, is, ns))) =
-      moved told _ did.events _ ns (same_events is) (begun_behind x.at t.polled t.begun)
+  pub turn_behind : (end : TurnEnd) (x : Scene) (did : Effects) (reported : List Notice) → IsTurn end x did reported
+      → Behind (map (noticed_by book) reported) did.events
+  turn_behind turn_end.Closed x did reported none = absurd none
+  turn_behind turn_end.BookFull x did reported (is, ns) = moved reported [] did.events [] ns (same_events is) nothing
+  turn_behind turn_end.Done x did reported whole = whole_behind turn_end.Done x did reported whole
+  turn_behind turn_end.RunsSpent x did reported whole = whole_behind turn_end.RunsSpent x did reported whole
+  turn_behind turn_end.Full x did reported whole = whole_behind turn_end.Full x did reported whole
+  turn_behind turn_end.Memory x did reported whole = whole_behind turn_end.Memory x did reported whole
+  turn_behind turn_end.Disk x did reported (inl (ps, _, is, ns)) = moved reported [] did.events [] ns (same_events is) nothing
+  turn_behind turn_end.Disk x did reported (inr (inl (ps, end, bs, _, _, is, ns))) =
+      moved reported _ did.events _ ns (same_events is) (results_behind x.at ps)
+  turn_behind turn_end.Disk x did reported (inr (inr (end, t, is, ns))) =
+      moved reported _ did.events _ ns (same_events is) (begun_behind x.at t.polled t.begun)
 
   -- a turn that begins nothing
-  pub finish_behind : (end : TurnEnd) (x : Scene) (did : Effects) (told : List Notice) → IsFinish end x did told
-      → Behind (map (noticed_by book) told) did.events
-  finish_behind turn_end.Done x did told (ps, _, is, ns) = moved told _ did.events _ ns (same_events is) (results_behind x.at ps)
-  finish_behind turn_end.BookFull x did told (is, ns) = moved told [] did.events [] ns (same_events is) nothing
-  finish_behind turn_end.Disk x did told (ps, _, is, ns) = moved told [] did.events [] ns (same_events is) nothing
-  finish_behind turn_end.Closed x did told none = absurd none
-  finish_behind turn_end.RunsSpent x did told none = absurd none
-  finish_behind turn_end.Full x did told none = absurd none
-  finish_behind turn_end.Memory x did told none = absurd none
+  pub finish_behind : (end : TurnEnd) (x : Scene) (did : Effects) (reported : List Notice) → IsFinish end x did reported
+      → Behind (map (noticed_by book) reported) did.events
+  finish_behind turn_end.Done x did reported (ps, _, is, ns) = moved reported _ did.events _ ns (same_events is) (results_behind x.at ps)
+  finish_behind turn_end.BookFull x did reported (is, ns) = moved reported [] did.events [] ns (same_events is) nothing
+  finish_behind turn_end.Disk x did reported (ps, _, is, ns) = moved reported [] did.events [] ns (same_events is) nothing
+  finish_behind turn_end.Closed x did reported none = absurd none
+  finish_behind turn_end.RunsSpent x did reported none = absurd none
+  finish_behind turn_end.Full x did reported none = absurd none
+  finish_behind turn_end.Memory x did reported none = absurd none

@@ -7,32 +7,32 @@ use Rattle.executor.specs.Lives.{Took}
 use Rattle.executor.specs.Sessions.{Effects}
 use Rattle.executor.specs.ExecutorView.{ExecutorView}
 use Rattle.executor.specs.declared.session.InputOf.TheVariants as input
-use Rattle.exec_client.specs.Behind.{Behind, says_else, tells, untold}
-use Rattle.exec_client.specs.Said.{Said, answered}
-use Rattle.exec_client.specs.Tells.{TellsCalls}
+use Rattle.exec_client.specs.Behind.{Behind, states_else, sends, untold}
+use Rattle.exec_client.specs.SentItem.{SentItem, answered}
+use Rattle.exec_client.specs.Sends.{SendsCalls}
 
 -- the line that acknowledges a command
-abbrev ok : Said
+abbrev ok : SentItem
 ok = answered Done
 
 -- no recorded event backs it
-too_early : (ss : List Said) → Behind (ok ∷ ss) [] → ⊥
-too_early ss (says_else _ _ _ none behind) = true≢false none
+too_early : (ss : List SentItem) → Behind (ok ∷ ss) [] → ⊥
+too_early ss (states_else _ _ _ none behind) = true≢false none
 
 -- one event backs two of them
 twice : (e : Event) → Behind (ok ∷ ok ∷ []) (e ∷ []) → ⊥
 twice e (untold _ _ _ behind) = too_early (ok ∷ []) behind
-twice e (tells _ _ _ _ is behind) = too_early [] behind
-twice e (says_else _ _ _ none behind) = true≢false none
+twice e (sends _ _ _ _ is behind) = too_early [] behind
+twice e (states_else _ _ _ none behind) = true≢false none
 
 module _ {D : Type 0} (look : D → View) (x y : ExecutorView D) (d : Effects) where
   -- no call was made
-  of_no_call : TellsCalls look x [] y d (ok ∷ []) → ⊥
+  of_no_call : SendsCalls look x [] y d (ok ∷ []) → ⊥
   of_no_call (same, none, nothing) = true≢false nothing.0
 
   -- the reply to a command is left out
-  left_out : (now : ℕ) (request : Request) (reply : Reply) → TellsCalls look x (Took (input.Request now request) reply ∷ []) y d [] → ⊥
-  left_out now request reply (aside, mine, later, mid, first, rest, quiet, does, says, others, both, told) =
-      let all = ap length told in
+  left_out : (now : ℕ) (request : Request) (reply : Reply) → SendsCalls look x (Took (input.Request now request) reply ∷ []) y d [] → ⊥
+  left_out now request reply (aside, mine, later, mid, first, rest, quiet, does, says, others, both, reported) =
+      let all = ap length reported in
       let one = ap length says in
       omega (arith, all, one, length-append aside (mine ++ later), length-append mine later)

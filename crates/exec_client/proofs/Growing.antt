@@ -29,65 +29,65 @@ use Rattle.executor.specs.declared.session.InputOf.TheVariants as input
 use Rattle.exec_ledger.proofs.Keeping.{command_keeps}
 use Rattle.exec_client.specs.Behind.{Behind, claims, nothing}
 use Rattle.exec_client.specs.ClientView.{ClientView}
-use Rattle.exec_client.specs.MayTell.{AllStand, MayBeReplied, MayReply, MaySay, MayTell, StandsBehind}
-use Rattle.exec_client.specs.Said.{Answered, Said, answered, said_in}
-use Rattle.exec_client.specs.Tells.{Says, TellsCalls, noticed}
-use Rattle.exec_client.specs.declared.told.Told.{Told}
+use Rattle.exec_client.specs.MaySend.{AllStand, MayBeReplied, MayReply, IsOfView, MaySend, StandsBehind}
+use Rattle.exec_client.specs.SentItem.{Answered, SentItem, answered, sent_in}
+use Rattle.exec_client.specs.Sends.{States, SendsCalls, noticed}
+use Rattle.exec_client.specs.declared.message.Message.{Message}
 use Rattle.exec_commands.specs.declared.reply.LineReply.{LineReply}
-use Rattle.exec_client.proofs.Behinds.{both_behind, failed_behind, finish_behind, reply_behind, batch_behind, says_none, turn_behind}
+use Rattle.exec_client.proofs.Behinds.{both_behind, failed_behind, finish_behind, reply_behind, batch_behind, states_nothing, turn_behind}
 use Rattle.exec_client.proofs.Saying.{no_claim}
-use Rattle.exec_client.proofs.CallsTold.{both_tell, claims_nothing, commands_tell, one_tells}
+use Rattle.exec_client.proofs.CallsSent.{both_send, claims_nothing, commands_send, one_sends}
 
 -- a refusal
 refused_behind : (r : Reply) (why : Refusal) → r ≡ reply.Refused why → Behind (answered r ∷ []) []
 refused_behind r why is =
-    subst (λ (t : Reply). Behind (answered t ∷ []) []) (sym is) (says_none (answered (reply.Refused why)) refl)
+    subst (λ (t : Reply). Behind (answered t ∷ []) []) (sym is) (states_nothing (answered (reply.Refused why)) refl)
 
 -- events that are equal to these
-events_are : (ss : List Said) (d e : Effects) → d ≡ e → Behind ss e.events → Behind ss d.events
+events_are : (ss : List SentItem) (d e : Effects) → d ≡ e → Behind ss e.events → Behind ss d.events
 events_are ss d e same behind = subst (λ (f : Effects). Behind ss f.events) (sym same) behind
 
 module _ {D : Type 0} (look : D → View) where
   -- no call, one call, and calls after others
-  pub none_stands : (x y : ExecutorView D) (said : List Said) → y ≡ x → Behind said [] → StandsBehind look x y said
-  none_stands x y said same behind = record {
+  pub none_stands : (x y : ExecutorView D) (items : List SentItem) → y ≡ x → Behind items [] → StandsBehind look x y items
+  none_stands x y items same behind = record {
     calls = [];
     effects = no_effects;
     leads = (same, refl);
-    tells = (same, refl, claims_nothing said behind);
+    sends = (same, refl, claims_nothing items behind);
     behind = behind;
   }
 
-  one_stands : (x y : ExecutorView D) (e : Exchange) (d : Effects) (said : List Said) → Does look e x y d → Says e y said → Behind said d.events
-      → StandsBehind look x y said
-  one_stands x y e d said does says behind = record {
+  one_stands : (x y : ExecutorView D) (e : Exchange) (d : Effects) (items : List SentItem) → Does look e x y d → States e y items → Behind items d.events
+      → StandsBehind look x y items
+  one_stands x y e d items does says behind = record {
     calls = e ∷ [];
     effects = d;
     leads = (y, d, no_effects, does, (refl, refl), sym (followed_by_none d));
-    tells = one_tells look x y e d said does says;
+    sends = one_sends look x y e d items does says;
     behind = behind;
   }
 
-  pub both_stand : (x y z : ExecutorView D) (ss ts : List Said) → StandsBehind look x y ss → StandsBehind look y z ts
+  pub both_stand : (x y z : ExecutorView D) (ss ts : List SentItem) → StandsBehind look x y ss → StandsBehind look y z ts
       → StandsBehind look x z (ss ++ ts)
   both_stand x y z ss ts one two = record {
     calls = one.calls ++ two.calls;
     effects = followed_by one.effects two.effects;
     leads = calls_behind look x y z one.calls two.calls one.effects two.effects one.leads two.leads;
-    tells = both_tell look x y z one.calls two.calls one.effects two.effects ss ts one.tells two.tells;
+    sends = both_send look x y z one.calls two.calls one.effects two.effects ss ts one.sends two.sends;
     behind = both_behind ss one.effects.events ts two.effects.events one.behind two.behind;
   }
 
   -- nothing is sent of the later calls
-  pub still_stand : (x y z : ExecutorView D) (ss : List Said) → StandsBehind look x y ss → StandsBehind look y z [] → StandsBehind look x z ss
+  pub still_stand : (x y z : ExecutorView D) (ss : List SentItem) → StandsBehind look x y ss → StandsBehind look y z [] → StandsBehind look x z ss
   still_stand x y z ss one two =
-      subst (λ (said : List Said). StandsBehind look x z said) (append-nil ss) (both_stand x y z ss [] one two)
+      subst (λ (items : List SentItem). StandsBehind look x z items) (append-nil ss) (both_stand x y z ss [] one two)
 
   -- a command
   obeys_behind : (now : ℕ) (c : Command) (x y : ExecutorView D) (r : Reply) (found : Result Event Refusal) → event_of x.state now c ≡ found
       → Obeys look found (ledger_of x) (ledger_of y) r → Behind (answered r ∷ []) (command_effects found r).events
   obeys_behind now c x y r (Err why) is (refused, same) = refused_behind r why refused
-  obeys_behind now c x y r (Ok e) is records = reply_behind e r (command_keeps x.state now c e is) records.told
+  obeys_behind now c x y r (Ok e) is records = reply_behind e r (command_keeps x.state now c e is) records.reported
 
   -- a request
   while_taken : (b : Bool) (now : ℕ) (request : Request) (x y : ExecutorView D) (r : Reply) → ServesWhile b look now request x y r
@@ -96,7 +96,7 @@ module _ {D : Type 0} (look : D → View) where
   while_taken true now (asked.Question question) x y r serves closes = (
     no_effects,
     record { serves = serves; closes = closes refl; does = refl },
-    says_none (answered r) (no_claim x question r serves.0),
+    states_nothing (answered r) (no_claim x question r serves.0),
   )
   while_taken true now (asked.Command c) x y r serves closes = (
     command_effects (event_of x.state now c) r,
@@ -116,16 +116,16 @@ module _ {D : Type 0} (look : D → View) where
       → Behind (map answered rs) d.events
   batch_stands now cs x y rs d takes = by y.is_open refl
     where
-      told_so : (b : Bool) → y.is_open ≡ b → Behind (map answered (batch_replies b takes.takes.meant)) (batch_effects b takes.takes.events).events
+      sent_so : (b : Bool) → y.is_open ≡ b → Behind (map answered (batch_replies b takes.takes.meant)) (batch_effects b takes.takes.events).events
           → Behind (map answered rs) d.events
-      told_so b is behind =
+      sent_so b is behind =
           events_are (map answered rs) d (batch_effects b takes.takes.events) (takes.does ∙ ap (λ (o : Bool). batch_effects o takes.takes.events) is)
           (subst (λ (ts : List Reply). Behind (map answered ts) (batch_effects b takes.takes.events).events)
-          (sym (takes.takes.told ∙ ap (λ (o : Bool). batch_replies o takes.takes.meant) is)) behind)
+          (sym (takes.takes.reported ∙ ap (λ (o : Bool). batch_replies o takes.takes.meant) is)) behind)
 
       by : (b : Bool) → y.is_open ≡ b → Behind (map answered rs) d.events
-      by true is = told_so true is (batch_behind now x.state cs takes.takes.meant takes.takes.events takes.takes.answered)
-      by false is = told_so false is (failed_behind takes.takes.meant)
+      by true is = sent_so true is (batch_behind now x.state cs takes.takes.meant takes.takes.events takes.takes.answered)
+      by false is = sent_so false is (failed_behind takes.takes.meant)
 
   -- one of the calls by which commands are carried out
   taken_behind : (b : Bool) (at : ℕ) (c : Command) (x y : ExecutorView D) (r : Reply) (d : Effects)
@@ -146,14 +146,14 @@ module _ {D : Type 0} (look : D → View) where
   one_behind now Cleared x y d is does = absurd is
   one_behind now Abandoned x y d is does = absurd is
 
-  calls_told : (now : ℕ) (es : List Exchange) (x y : ExecutorView D) (d : Effects) → AllByRecursion (IsAt now) es → Calls look x es y d
+  calls_sent : (now : ℕ) (es : List Exchange) (x y : ExecutorView D) (d : Effects) → AllByRecursion (IsAt now) es → Calls look x es y d
       → Behind (map answered (flat_map replies_of es)) d.events
-  calls_told now [] x y d at (same, none) = events_are [] d no_effects none nothing
-  calls_told now (e ∷ es) x y d at (mid, first, later, does, calls, is) =
-      subst (λ (ss : List Said). Behind ss d.events) (sym (map-append answered (replies_of e) (flat_map replies_of es)))
+  calls_sent now [] x y d at (same, none) = events_are [] d no_effects none nothing
+  calls_sent now (e ∷ es) x y d at (mid, first, later, does, calls, is) =
+      subst (λ (ss : List SentItem). Behind ss d.events) (sym (map-append answered (replies_of e) (flat_map replies_of es)))
       (events_are (map answered (replies_of e) ++ map answered (flat_map replies_of es)) d (followed_by first later) is
       (both_behind (map answered (replies_of e)) first.events (map answered (flat_map replies_of es)) later.events
-      (one_behind now e x mid first at.0 does) (calls_told now es mid y later at.1 calls)))
+      (one_behind now e x mid first at.0 does) (calls_sent now es mid y later at.1 calls)))
 
   pub commands_stand : (now : ℕ) (cs : List Command) (x y : ExecutorView D) (rs : List Reply) → TakesCommands look now cs x y rs
       → StandsBehind look x y (map answered rs)
@@ -162,10 +162,10 @@ module _ {D : Type 0} (look : D → View) where
         calls = takes.exchanges;
         effects = takes.effects;
         leads = takes.calls;
-        tells = subst (λ (ts : List Reply). TellsCalls look x takes.exchanges y takes.effects (map answered ts)) takes.answered
-            (commands_tell look now takes.exchanges x y takes.effects takes.at_once takes.calls);
+        sends = subst (λ (ts : List Reply). SendsCalls look x takes.exchanges y takes.effects (map answered ts)) takes.answered
+            (commands_send look now takes.exchanges x y takes.effects takes.at_once takes.calls);
         behind = subst (λ (ts : List Reply). Behind (map answered ts) takes.effects.events) takes.answered
-            (calls_told now takes.exchanges x y takes.effects takes.at_once takes.calls);
+            (calls_sent now takes.exchanges x y takes.effects takes.at_once takes.calls);
       }
 
   -- a turn, a turn that begins nothing, a tidy, and an emptied book
@@ -174,13 +174,13 @@ module _ {D : Type 0} (look : D → View) where
   turn_stands now x y end is_open takes =
       one_stands x y (Took (input.Turn now) (reply.Turn end)) takes.turns.effects (noticed y)
       (while_open _ is_open (record { end = end; takes = takes; replies = refl; does = refl })) refl
-      (turn_behind y.children.book end _ takes.turns.effects y.told takes.turns.does)
+      (turn_behind y.children.book end _ takes.turns.effects y.reported takes.turns.does)
 
   pub finish_stands : (now : ℕ) (x y : ExecutorView D) (end : TurnEnd) → x.is_open ≡ true → FinishesTurn look now x y end
       → StandsBehind look x y (noticed y)
   finish_stands now x y end is_open takes =
       one_stands x y (Finished now end) takes.turns.effects (noticed y) (while_open _ is_open (takes, refl)) refl
-      (finish_behind y.children.book end _ takes.turns.effects y.told takes.turns.does)
+      (finish_behind y.children.book end _ takes.turns.effects y.reported takes.turns.does)
 
   pub tidied_stands : (x y : ExecutorView D) (end : TidyEnd) → TidiesWhile x.is_open look x y end → StandsBehind look x y []
   tidied_stands x y end tidies = one_stands x y (Tidied end) no_effects [] (tidies, refl) refl nothing
@@ -193,25 +193,25 @@ module _ {D : Type 0} (look : D → View) where
   cleared_stands x y cleared = one_stands x y Cleared no_effects [] (cleared, refl) refl nothing
 
   -- what may be sent of an executor after calls
-  pub may_tell : (client_view : ClientView D) (x y : ExecutorView D) (what : Told) → AllStand look client_view x → StandsBehind look x y (said_in what)
-      → MaySay y what → MayTell look client_view y what
-  may_tell client_view x y what stands more says =
-      record { stands = both_stand client_view.opened x y client_view.told (said_in what) stands more; says = says }
+  pub may_send : (client_view : ClientView D) (x y : ExecutorView D) (what : Message) → AllStand look client_view x → StandsBehind look x y (sent_in what)
+      → IsOfView y what → MaySend look client_view y what
+  may_send client_view x y what stands more says =
+      record { stands = both_stand client_view.opened x y client_view.reported (sent_in what) stands more; says = says }
 
   -- calls of which nothing is sent
   pub all_still_stand : (client_view : ClientView D) (x y : ExecutorView D) → AllStand look client_view x → StandsBehind look x y [] → AllStand look client_view y
-  all_still_stand client_view x y stands more = still_stand client_view.opened x y client_view.told stands more
+  all_still_stand client_view x y stands more = still_stand client_view.opened x y client_view.reported stands more
 
   -- a reply to a line, of an executor after calls
   pub may_reply : (client_view : ClientView D) (x y : ExecutorView D) (given : LineReply) → AllStand look client_view x
       → StandsBehind look x y (Answered given ∷ []) → MayReply y given → MayBeReplied look client_view y given
-  may_reply client_view x y given stands more says = (both_stand client_view.opened x y client_view.told (Answered given ∷ []) stands more, says)
+  may_reply client_view x y given stands more says = (both_stand client_view.opened x y client_view.reported (Answered given ∷ []) stands more, says)
 
   -- a reply that claims nothing
   pub may_reply_none : (client_view : ClientView D) (x : ExecutorView D) (given : LineReply) → AllStand look client_view x → claims (Answered given) ≡ false
       → MayReply x given → MayBeReplied look client_view x given
   may_reply_none client_view x given stands none says =
-      may_reply client_view x x given stands (none_stands x x (Answered given ∷ []) refl (says_none (Answered given) none)) says
+      may_reply client_view x x given stands (none_stands x x (Answered given ∷ []) refl (states_nothing (Answered given) none)) says
 
   -- all agent processes are given up
   pub abandoned_stands : (x y : ExecutorView D) → y ≡ abandoned x → StandsBehind look x y []

@@ -3,7 +3,7 @@ pub mod Saying
 pub mod Along
 pub mod Lines
 pub mod TagLemmas
-pub mod CallsTold
+pub mod CallsSent
 pub mod Growing
 pub mod Plain
 pub mod Lives

@@ -9,10 +9,10 @@ use Rattle.ocf_types.specs.declared.reply.ReplyOf.TheVariants as reply
 use Rattle.exec_commands.specs.Replies.{formed_line}
 use Rattle.exec_commands.specs.declared.notice.NoticeForm.{NoticeForm}
 use Rattle.child_model.specs.declared.answer.Entry.{Entry}
-use Rattle.exec_client.specs.Said.{Noticed, Reported, answered, line_of, lines_of, noticed_by}
+use Rattle.exec_client.specs.SentItem.{Noticed, Reported, answered, line_of, lines_of, noticed_by}
 use Rattle.exec_client.specs.Signals.{signal_of}
 use Rattle.exec_client.specs.Tags.{TagsView, after_notice, after_reply, first_tag, next_line, tag_of_call}
-use Rattle.exec_client.specs.ToldTags.{after_notices, after_replies, notice_tags}
+use Rattle.exec_client.specs.MessageTags.{after_notices, after_replies, notice_tags}
 use Rattle.exec_client.proofs.Along.{Along, along_all, along_more, along_part, drop_next, drop_none}
 
 -- bytes that are equal

@@ -21,7 +21,7 @@ use Rattle.executor.specs.CommandBatches.{IsAt, TakesCommands, replies_of}
 use Rattle.executor.specs.Sessions.{Effects, TakesWhile}
 use Rattle.executor.specs.ExecutorView.{ExecutorView, ledger_of}
 use Rattle.executor.specs.declared.session.InputOf.TheVariants as input
-use Rattle.exec_client.specs.MayTell.{MayAnswer}
+use Rattle.exec_client.specs.MaySend.{MayAnswer}
 
 all_both : {X : Type 0} (P : X → Type 0) (xs ys : List X) → AllByRecursion P xs → AllByRecursion P ys → AllByRecursion P (xs ++ ys)
 all_both P [] ys one two = two
@@ -56,12 +56,12 @@ module _ {D : Type 0} (z : ExecutorView D) where
 
   pub obeys_plain : (look : D → View) (x y : ExecutorView D) (r : Reply) (found : Result Event Refusal) → Obeys look found (ledger_of x) (ledger_of y) r → Plain r
   obeys_plain look x y r (Err why) (refused, same) = is_plain r _ refused tt
-  obeys_plain look x y r (Ok e) records = reply_plain e r records.told
+  obeys_plain look x y r (Ok e) records = reply_plain e r records.reported
 
   -- the replies to a batch
   adds_plain : (found : Result Event Refusal) (r : Reply) (es : List Event) → Adds found r es → Plain r
   adds_plain (Err why) r es (refused, none) = is_plain r _ refused tt
-  adds_plain (Ok e) r es (inl (told, one)) = is_plain r _ told (ack_plain e.change)
+  adds_plain (Ok e) r es (inl (reported, one)) = is_plain r _ reported (ack_plain e.change)
   adds_plain (Ok e) r es (inr (refused, registers, none)) = is_plain r _ refused tt
 
   answered_plain : (now : ℕ) (s : State) (cs : List Command) (rs : List Reply) (es : List Event) → Answered now s cs rs es
@@ -106,7 +106,7 @@ module _ {D : Type 0} (z : ExecutorView D) where
     one_plain now (Took (input.Request at (asked.Question q)) r) x y d is does = absurd is
     one_plain now (Took (input.Turn at) r) x y d is does = absurd is
     one_plain now (Batch at cs rs) x y d is does =
-        subst (λ (ts : List Reply). AllByRecursion Plain ts) (sym does.takes.told)
+        subst (λ (ts : List Reply). AllByRecursion Plain ts) (sym does.takes.reported)
         (batch_plain y.is_open at x.state cs does.takes.meant does.takes.events does.takes.answered)
     one_plain now (Finished at end) x y d is does = absurd is
     one_plain now (Tidied end) x y d is does = absurd is

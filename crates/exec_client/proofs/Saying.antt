@@ -12,8 +12,8 @@ use Rattle.ocf_types.specs.declared.reply.ReplyOf.TheVariants as reply
 use Rattle.exec_state.specs.Answers.{IsReplyOrMemory}
 use Rattle.executor.specs.ExecutorView.{ExecutorView}
 use Rattle.exec_client.specs.Behind.{claims}
-use Rattle.exec_client.specs.MayTell.{MayAnswer}
-use Rattle.exec_client.specs.Said.{answered}
+use Rattle.exec_client.specs.MaySend.{MayAnswer}
+use Rattle.exec_client.specs.SentItem.{answered}
 
 -- an answer to a question, or memory was refused
 is_or_memory : (r given : Reply) → IsReplyOrMemory r given → (given ≡ r) ⊎ (given ≡ reply.Refused Memory)
@@ -26,16 +26,16 @@ is_or_memory (reply.History results) given is = is
 is_or_memory (reply.Turn end) given is = is
 
 -- an answer about a resource, or that there is none
-said_none : (o : Option Resource) (say : Resource → Reply) → ((r : Resource) → claims (answered (say r)) ≡ false)
+sent_none : (o : Option Resource) (say : Resource → Reply) → ((r : Resource) → claims (answered (say r)) ≡ false)
     → claims (answered (option_map_or say o (reply.Refused UnknownResource))) ≡ false
-said_none None say none = refl
-said_none (Some r) say none = none r
+sent_none None say none = refl
+sent_none (Some r) say none = none r
 
 -- an answer claims nothing
 answer_none : (s : State) (q : Question) → claims (answered (reply_to s q)) ≡ false
 answer_none s question.List = refl
-answer_none s (question.Info id) = said_none (resource_at s id) (λ r. reply.Info (info_of id r)) (λ r. refl)
-answer_none s (question.History id) = said_none (resource_at s id) (λ r. reply.History r.history.ended) (λ r. refl)
+answer_none s (question.Info id) = sent_none (resource_at s id) (λ r. reply.Info (info_of id r)) (λ r. refl)
+answer_none s (question.History id) = sent_none (resource_at s id) (λ r. reply.History r.history.ended) (λ r. refl)
 
 pub no_claim : {D : Type 0} (x : ExecutorView D) (q : Question) (given : Reply) → IsReplyOrMemory (reply_to x.state q) given
     → claims (answered given) ≡ false

@@ -9,7 +9,7 @@ use Rattle.child_model.specs.declared.answer.Answer.{Answer}
 use Rattle.child_model.specs.declared.answer.Answer.TheVariants as asked
 use Rattle.child_model.specs.declared.answer.Entry.{Entry}
 use Rattle.child_model.specs.declared.answer.Poll.TheVariants as poll
-use Rattle.exec_client.specs.Signals.{signal_in, signal_of, tells_signal}
+use Rattle.exec_client.specs.Signals.{signal_in, signal_of, sends_signal}
 
 both : (a b : Bool) → (a && b) ≡ true → (a ≡ true) × (b ≡ true)
 both true true e = (refl, refl)
@@ -29,8 +29,8 @@ entry_of run at answer = record { run = run; at = at; answer = answer }
 
 -- an entry by its fields
 entry_is : (e : Entry) (run : ℕ) (answer : Answer) → e.run ≡ run → e.answer ≡ answer → e ≡ entry_of run e.at answer
-entry_is e run answer same told =
-    ap (λ (r : ℕ). entry_of r e.at e.answer) same ∙ ap (λ (a : Answer). entry_of run e.at a) told
+entry_is e run answer same reported =
+    ap (λ (r : ℕ). entry_of r e.at e.answer) same ∙ ap (λ (a : Answer). entry_of run e.at a) reported
 
 -- an answer that names a signal is that poll
 is_poll : (answer : Answer) (signal : ℕ) → signal_in answer ≡ Some signal → answer ≡ poll_answer (poll.Signaled signal)
@@ -42,18 +42,18 @@ is_poll (asked.Start given) signal is = absurd cc
 is_poll (asked.Kill given) signal is = absurd cc
 
 -- a signal that is named is that of a poll
-pub told_is_polled : (book : List Entry) (run signal : ℕ) → signal_of book run ≡ Some signal
+pub sent_is_polled : (book : List Entry) (run signal : ℕ) → signal_of book run ≡ Some signal
     → (at : ℕ) × Contains book (signaled run at signal)
-told_is_polled [] run signal is = absurd cc
-told_is_polled (e ∷ es) run signal is =
-    cond_both (tells_signal run e) (Some e) (find (tells_signal run) es)
+sent_is_polled [] run signal is = absurd cc
+sent_is_polled (e ∷ es) run signal is =
+    cond_both (sends_signal run e) (Some e) (find (sends_signal run) es)
     (λ (o : Option Entry). option_map_or signal_in (option_map (λ (x : Entry). x.answer) o) None ≡ Some signal
     → (at : ℕ) × Contains (e ∷ es) (signaled run at signal))
-    (λ yes told.
+    (λ yes reported.
     let same = eqb-true e.run run (both (e.run == run) (is_some (signal_in e.answer)) yes).0 in
-    (e.at, (0, omega arith, entry_is e run (poll_answer (poll.Signaled signal)) same (is_poll e.answer signal told))))
-    (λ no told.
-    let later = told_is_polled es run signal told in
+    (e.at, (0, omega arith, entry_is e run (poll_answer (poll.Signaled signal)) same (is_poll e.answer signal reported))))
+    (λ no reported.
+    let later = sent_is_polled es run signal reported in
     (later.0, (suc later.1.0, omega (arith, later.1.1), later.1.2)))
     is
 
@@ -67,14 +67,14 @@ some_there None e = absurd (true≢false (sym e))
 some_there (Some n) e = (n, refl)
 
 -- a signal is named for each run of which a poll says that a signal ended it
-pub polled_is_told : (book : List Entry) (run at signal : ℕ) → Contains book (signaled run at signal)
+pub polled_is_sent : (book : List Entry) (run at signal : ℕ) → Contains book (signaled run at signal)
     → (n : ℕ) × (signal_of book run ≡ Some n)
-polled_is_told [] run at signal there = absurd (omega (arith, there.1))
-polled_is_told (e ∷ es) run at signal there =
-    cond_both (tells_signal run e) (Some e) (find (tells_signal run) es)
+polled_is_sent [] run at signal there = absurd (omega (arith, there.1))
+polled_is_sent (e ∷ es) run at signal there =
+    cond_both (sends_signal run e) (Some e) (find (sends_signal run) es)
     (λ (o : Option Entry). (n : ℕ) × (option_map_or signal_in (option_map (λ (x : Entry). x.answer) o) None ≡ Some n))
     (λ yes. some_there (signal_in e.answer) (both (e.run == run) (is_some (signal_in e.answer)) yes).1)
     (λ no. elim (first_or_rest e (signaled run at signal) es there) [
-      | inl same ↦ absurd (eqb-false run run (first_not (run == run) (sym (ap (tells_signal run) same) ∙ no)) refl)
-      | inr later ↦ polled_is_told es run at signal later
+      | inl same ↦ absurd (eqb-false run run (first_not (run == run) (sym (ap (sends_signal run) same) ∙ no)) refl)
+      | inr later ↦ polled_is_sent es run at signal later
     ])

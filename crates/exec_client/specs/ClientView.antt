@@ -4,27 +4,27 @@ use Rattle.std.specs.Io.KnownBytes.{Appends}
 use Rattle.executor.specs.ExecutorView.{ExecutorView}
 use Rattle.exec_lines.specs.Prefixes.{AppendsPrefix}
 use Rattle.exec_commands.specs.declared.notice.NoticeForm.{NoticeForm}
-use Rattle.exec_client.specs.Said.{Said, lines_of}
+use Rattle.exec_client.specs.SentItem.{SentItem, lines_of}
 use Rattle.exec_client.specs.Tags.{LineTag}
 
 -- the executor as it was opened, the messages that were sent since, in order, and the bytes that the writer holds, if they are known
 pub record ClientView (D : Type 0) : Type 0 where
   pub opened : ExecutorView D
-  pub told : List Said
+  pub reported : List SentItem
   pub written : Option (List ℕ)
 
 -- these messages were sent after all others
-abbrev pub IsTold : {D : Type 0} → ClientView D → ClientView D → List Said → Type 0
-IsTold old new more = (new.opened ≡ old.opened) × (new.told ≡ old.told ++ more)
+abbrev pub IsSent : {D : Type 0} → ClientView D → ClientView D → List SentItem → Type 0
+IsSent old new more = (new.opened ≡ old.opened) × (new.reported ≡ old.reported ++ more)
 
 -- These messages were sent, and exactly their lines were written, each with some tag or none.
-pub record Receives {D : Type 0} (form : NoticeForm) (old new : ClientView D) (more : List Said) : Type 0 where
-  pub told : IsTold old new more
+pub record Receives {D : Type 0} (form : NoticeForm) (old new : ClientView D) (more : List SentItem) : Type 0 where
+  pub reported : IsSent old new more
   pub tags : List LineTag
   pub written : Appends old.written new.written (lines_of form tags more)
 
 -- These messages were sent in part: a prefix of their lines was written, and maybe a prefix of the next line.
-pub record ReceivesPart {D : Type 0} (form : NoticeForm) (old new : ClientView D) (more : List Said) : Type 0 where
-  pub told : IsTold old new more
+pub record ReceivesPart {D : Type 0} (form : NoticeForm) (old new : ClientView D) (more : List SentItem) : Type 0 where
+  pub reported : IsSent old new more
   pub tags : List LineTag
   pub written : AppendsPrefix old.written new.written (lines_of form tags more)

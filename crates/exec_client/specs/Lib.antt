@@ -1,10 +1,10 @@
 pub mod Signals
 pub mod Tags
 pub mod Waiting
-pub mod Said
-pub mod ToldTags
+pub mod SentItem
+pub mod MessageTags
 pub mod Behind
-pub mod Tells
+pub mod Sends
 pub mod ClientView
-pub mod MayTell
+pub mod MaySend
 pub mod Lives

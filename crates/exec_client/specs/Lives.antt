@@ -2,12 +2,12 @@
 use Rattle.std.specs.Prelude.{◌≡◌, List, [], ◌∷◌, ◌++◌}
 use Rattle.executor.specs.Lives.{InOpening, InService, Sitting}
 use Rattle.exec_client.specs.Behind.{Behind}
-use Rattle.exec_client.specs.Said.{Said}
+use Rattle.exec_client.specs.SentItem.{SentItem}
 
 -- these messages were sent over these incarnations, the last one first: in each incarnation the messages are backed by what its calls had
 -- recorded when they returned
-abbrev pub ToldOver : {D : Type 0} → List (Sitting D) → List Said → Type 0
-ToldOver [] told = told ≡ []
-ToldOver (InOpening old new now end ∷ older) told = ToldOver older told
-ToldOver (InService x ∷ older) told =
-    (before : List Said) × (later : List Said) × ToldOver older before × Behind later x.done.events × (told ≡ before ++ later)
+abbrev pub SentOver : {D : Type 0} → List (Sitting D) → List SentItem → Type 0
+SentOver [] reported = reported ≡ []
+SentOver (InOpening old new now end ∷ older) reported = SentOver older reported
+SentOver (InService x ∷ older) reported =
+    (before : List SentItem) × (later : List SentItem) × SentOver older before × Behind later x.done.events × (reported ≡ before ++ later)

@@ -1,11 +1,11 @@
 //! A client, to which messages about an executor are sent.
 ghost use Rattle.std.specs.Prelude.{◌≡◌, Bool, IfErr, IsTrue, OnErr, OnOk};
-ghost use Rattle.exec_client.specs.ClientView.{ClientView, Receives, ReceivesPart, IsTold};
-ghost use Rattle.exec_client.specs.MayTell.{MayTell};
-ghost use Rattle.exec_client.specs.Said.{said_in};
+ghost use Rattle.exec_client.specs.ClientView.{ClientView, Receives, ReceivesPart, IsSent};
+ghost use Rattle.exec_client.specs.MaySend.{MaySend};
+ghost use Rattle.exec_client.specs.SentItem.{sent_in};
 ghost use Rattle.exec_messages.specs.declared.send.IoFault.TheVariants.{Memory};
 
-use crate::told::Told;
+use crate::message::Message;
 use child_model::Children;
 use disk_model::Disk;
 use exec_commands::{NoticeForm, Tag};
@@ -23,18 +23,18 @@ pub trait Client<D: Disk + Drop, C: Children + Drop> {
 
     /// Sends a message, once what it reports is recorded; notices have this form. On error a prefix of its lines was sent, and maybe a
     /// prefix of the next line.
-    fn tell(
+    fn send(
         &mut self,
         executor: &Executor<D, C>,
         form: NoticeForm,
-        what: &Told,
+        what: &Message,
     ) -> Result<(), IoFault>
-        requires may_tell { MayTell D.view (client_view self.old) executor.now what.now }
-        ensures told { IsTold (client_view self.old) (client_view self.new) (said_in what.now) }
+        requires may_send { MaySend D.view (client_view self.old) executor.now what.now }
+        ensures reported { IsSent (client_view self.old) (client_view self.new) (sent_in what.now) }
         ensures receives { OnOk result
-            (Receives form.entry (client_view self.old) (client_view self.new) (said_in what.now)) }
+            (Receives form.entry (client_view self.old) (client_view self.new) (sent_in what.now)) }
         ensures breaks { OnErr result
-            (ReceivesPart form.entry (client_view self.old) (client_view self.new) (said_in what.now)) }
+            (ReceivesPart form.entry (client_view self.old) (client_view self.new) (sent_in what.now)) }
         ensures memory { IfErr result (λ f. f ≡ Memory → IsTrue Self.refuses) };
 
     /// Notes a line that was read, with its tag if it has one. Its reply repeats the tag, and so does each notice of the call that the line
@@ -45,5 +45,5 @@ pub trait Client<D: Disk + Drop, C: Children + Drop> {
         ensures memory { OnErr result (IsTrue Self.refuses) };
 
     /// Whether anyone may still read what is sent.
-    fn is_heard(&self) -> bool;
+    fn has_reader(&self) -> bool;
 }

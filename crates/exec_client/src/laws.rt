@@ -12,8 +12,8 @@ ghost use Rattle.executor.specs.Promise.{IsKept};
 ghost use Rattle.executor.specs.Runs.{Runs};
 ghost use Rattle.executor.specs.SeenLives.{seen};
 ghost use Rattle.exec_client.specs.Behind.{Behind};
-ghost use Rattle.exec_client.specs.Lives.{ToldOver};
-ghost use Rattle.exec_client.specs.Said.{Said};
+ghost use Rattle.exec_client.specs.Lives.{SentOver};
+ghost use Rattle.exec_client.specs.SentItem.{SentItem};
 ghost use Rattle.exec_client.specs.Signals.{signal_of};
 
 use disk_model::Disk;
@@ -22,13 +22,13 @@ use executor::laws::promise;
 /// The promise, with what clients were sent. Each history of incarnations has one list of events for which all of
 /// `executor::laws::promise` holds. In this list each acknowledgement and each notice that a client was sent in any incarnation has an
 /// event of its own, in the order in which they were sent.
-pub fn told_stands<D: Disk>()
+pub fn sent_stands<D: Disk>()
     ensures stands { (start : State) (life : List (Sitting D)) (is : IsLife D.view start life)
-        (told : List Said) → ToldOver life told
+        (reported : List SentItem) → SentOver life reported
         → (c : Image) → LifeLeaves D.view start life c
         → (zs : List Event) × FoundAs (after_all start zs) c
         × Runs start (seen D.view start life is) zs × Lived start life zs
-        × IsKept start (seen D.view start life is) zs × Behind told zs }
+        × IsKept start (seen D.view start life is) zs × Behind reported zs }
 {
     promise::<D>();
 }
@@ -38,7 +38,7 @@ pub fn signals_are_polled()
     ensures polled { (book : List Entry) (run signal : ℕ) → signal_of book run ≡ Some signal
         → (at : ℕ) × Contains book
         (record { run = run; at = at; answer = poll_answer (Signaled signal) }) }
-    ensures told { (book : List Entry) (run at signal : ℕ)
+    ensures reported { (book : List Entry) (run at signal : ℕ)
         → Contains book (record { run = run; at = at; answer = poll_answer (Signaled signal) })
         → (n : ℕ) × (signal_of book run ≡ Some n) }
 {}

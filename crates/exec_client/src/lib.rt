@@ -8,12 +8,12 @@ mod notices;
 mod replies;
 mod signals;
 mod tags;
-mod teller;
-mod telling;
-mod told;
+mod json_client;
+mod sent_log;
+mod message;
 mod waiting;
 
 pub use client::Client;
 pub use tags::Tags;
-pub use teller::Teller;
-pub use told::{Told, TurnNotices};
+pub use json_client::JsonClient;
+pub use message::{Message, TurnNotices};

@@ -3,15 +3,15 @@ ghost use Rattle.std.specs.Prelude.{◌≡◌, IfErr, IsTrue, OnErr, OnOk, map};
 ghost use Rattle.std.specs.Io.KnownBytes.{Appends};
 ghost use Rattle.exec_lines.specs.Prefixes.{AppendsPrefix};
 ghost use Rattle.exec_messages.specs.declared.send.IoFault.TheVariants.{Memory};
-ghost use Rattle.exec_client.specs.Said.{Noticed, line_of, lines_of, noticed_by};
+ghost use Rattle.exec_client.specs.SentItem.{Noticed, line_of, lines_of, noticed_by};
 ghost use Rattle.exec_client.specs.Signals.{signal_of};
 ghost use Rattle.exec_client.specs.Tags.{after_notice, tag_of_call};
-ghost use Rattle.exec_client.specs.ToldTags.{after_notices, notice_tags};
+ghost use Rattle.exec_client.specs.MessageTags.{after_notices, notice_tags};
 
 use crate::replies::Making;
 use crate::signals::signal_of;
 use crate::tags::Tags;
-use crate::told::TurnNotices;
+use crate::message::TurnNotices;
 use child_model::Entry;
 use exec_commands::Tagged;
 use exec_messages::{IoFault, send_notice};

@@ -3,9 +3,9 @@ ghost use Rattle.std.specs.Prelude.{◌≡◌, IfErr, IsTrue, None, OnErr, OnOk,
 ghost use Rattle.std.specs.Io.KnownBytes.{Appends};
 ghost use Rattle.exec_lines.specs.Prefixes.{AppendsPrefix};
 ghost use Rattle.exec_messages.specs.declared.send.IoFault.TheVariants.{Memory};
-ghost use Rattle.exec_client.specs.Said.{Answered, answered, line_of, lines_of};
+ghost use Rattle.exec_client.specs.SentItem.{Answered, answered, line_of, lines_of};
 ghost use Rattle.exec_client.specs.Tags.{after_line_reply, after_reply, first_tag, next_line};
-ghost use Rattle.exec_client.specs.ToldTags.{after_replies};
+ghost use Rattle.exec_client.specs.MessageTags.{after_replies};
 
 use crate::tags::Tags;
 use exec_commands::{LineReply, NoticeForm, Tagged};

@@ -270,12 +270,12 @@ abbrev pub served_request_line : Option (List ℕ) → Reply → List ℕ
 served_request_line tag reply = compact_text (with_tag tag (served_request_data reply)) ++ 10 ∷ []
 
 -- the reply in a session whose notices have this form
-abbrev pub told_reply_line : NoticeForm → Option (List ℕ) → LineReply → List ℕ
-told_reply_line notice_form.Short tag r = reply_line r
-told_reply_line (notice_form.Timed service) tag r = served_reply_line service tag r
+abbrev pub sent_reply_line : NoticeForm → Option (List ℕ) → LineReply → List ℕ
+sent_reply_line notice_form.Short tag r = reply_line r
+sent_reply_line (notice_form.Timed service) tag r = served_reply_line service tag r
 
-abbrev pub told_request_line : NoticeForm → Option (List ℕ) → Reply → List ℕ
-told_request_line form tag r = told_reply_line form tag (line.Request r)
+abbrev pub written_request_line : NoticeForm → Option (List ℕ) → Reply → List ℕ
+written_request_line form tag r = sent_reply_line form tag (line.Request r)
 
 -- the line of a reply to a request
 abbrev pub request_line : Reply → List ℕ

@@ -36,8 +36,8 @@ abbrev pub IsTaggedAs : List ℕ → Option (List ℕ) → Type 0
 IsTaggedAs bytes tag = (HasKeyTwice bytes → tag ≡ None) × (¬ (HasKeyTwice bytes) → tag ≡ tag_read bytes)
 
 -- the tag that a line is to be written with
-abbrev pub told_tag : Tagged → Option (List ℕ)
-told_tag t = option_map (λ tag. tag.now) t.tag
+abbrev pub written_tag : Tagged → Option (List ℕ)
+written_tag t = option_map (λ tag. tag.now) t.tag
 
 -- the same of a line of this form: a `run` session writes no tag
 abbrev pub formed_tag : NoticeForm → Option (List ℕ) → Option (List ℕ)

@@ -25,7 +25,7 @@ mod strict;
 mod tag;
 mod tagged;
 mod texts;
-mod told;
+mod sent;
 mod values;
 
 pub use direct::Direct;
@@ -40,4 +40,4 @@ pub use statuses::Statuses;
 pub use strict::read_strictly;
 pub use tag::{TAG_LIMIT, Tag};
 pub use tagged::Tagged;
-pub use told::{write_told_reply, write_told_request};
+pub use sent::{write_sent_reply, write_written_request};

@@ -3,7 +3,7 @@ ghost use Rattle.std.specs.Prelude.{◌≡◌, IsTrue, OnErr, OnOk, option_map};
 ghost use Rattle.serde_json.specs.Data.{string};
 ghost use Rattle.serde_json.specs.View.{view};
 ghost use Rattle.exec_commands.specs.Objects.{object_with};
-ghost use Rattle.exec_commands.specs.Tags.{formed_tag, told_tag, with_tag};
+ghost use Rattle.exec_commands.specs.Tags.{formed_tag, written_tag, with_tag};
 
 use crate::notice::NoticeForm;
 use growth::Grows;
@@ -21,7 +21,7 @@ pub struct Tagged<'a> {
 /// The tag that a line of this form is written with.
 pub fn formed_tag<'a>(tagged: Tagged<'a>) -> Option<&'a str>
     ensures { option_map (λ tag. tag.now) result
-        ≡ formed_tag tagged.entry.form (told_tag tagged.entry) }
+        ≡ formed_tag tagged.entry.form (written_tag tagged.entry) }
 {
     match tagged.form {
         NoticeForm::Short => None,

@@ -8,8 +8,8 @@ use Rattle.ocf_types.specs.declared.outcome.Outcome.{Outcome}
 use Rattle.ocf_types.specs.declared.outcome.Outcome.TheVariants.{Run, Interrupted, Dropped}
 use Rattle.ocf_types.specs.declared.outcome.RunEnd.TheVariants.{Done, TimedOut, Signaled, Lost}
 use Rattle.ocf_types.specs.declared.reply.Notice.{Notice}
-use Rattle.exec_client.specs.declared.told.Told.{Told}
-use Rattle.exec_client.specs.declared.told.Told.TheVariants as told
+use Rattle.exec_client.specs.declared.message.Message.{Message}
+use Rattle.exec_client.specs.declared.message.Message.TheVariants as message
 use Rattle.resource_status.specs.Meanings.{failure_meaning, meaning, tone_of}
 use Rattle.resource_status.specs.Texts.{span_text}
 use Rattle.resource_status.specs.declared.meanings.Tone.{Tone}
@@ -64,9 +64,9 @@ abbrev pub event_line : Bool → Notice → List ℕ
 event_line marks n = marked marks (is_failure n) n.result.outcome ++ event_text n ++ codes "\n"
 
 -- the results in a message
-abbrev pub notices_in : Told → List Notice
-notices_in (told.Reply reply) = []
-notices_in (told.Replies replies) = []
-notices_in (told.News reply) = []
-notices_in (told.Notices turn) = turn.notices.now
-notices_in (told.Report notices) = notices.now
+abbrev pub notices_in : Message → List Notice
+notices_in (message.Reply reply) = []
+notices_in (message.Replies replies) = []
+notices_in (message.News reply) = []
+notices_in (message.Notices turn) = turn.notices.now
+notices_in (message.Report notices) = notices.now

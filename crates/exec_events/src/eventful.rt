@@ -7,7 +7,7 @@ ghost use Rattle.exec_events.specs.Events.{event_line, notices_in};
 use crate::lines::event_line;
 use child_model::Children;
 use disk_model::Disk;
-use exec_client::{Client, Told};
+use exec_client::{Client, Message};
 use exec_commands::{NoticeForm, Tag};
 use exec_lines::write_flushed;
 use exec_messages::IoFault;
@@ -87,13 +87,13 @@ fn write_events<W: Write>(
 }
 
 // The results in a message.
-fn notices_in<'a>(what: &Told<'a>) -> &'a [Notice]
+fn notices_in<'a>(what: &Message<'a>) -> &'a [Notice]
     ensures { result.now ≡ notices_in what.now }
 {
     match what {
-        Told::Reply(_) | Told::Replies(_) | Told::News(_) => &[],
-        Told::Notices(turn) => turn.notices,
-        Told::Report(notices) => notices,
+        Message::Reply(_) | Message::Replies(_) | Message::News(_) => &[],
+        Message::Notices(turn) => turn.notices,
+        Message::Report(notices) => notices,
     }
 }
 
@@ -103,15 +103,15 @@ impl<D: Disk + Drop, C: Children + Drop, T: Client<D, C>, W: Write> Client<D, C>
 
     ghost refuses = { T.refuses };
 
-    fn tell(
+    fn send(
         &mut self,
         executor: &Executor<D, C>,
         form: NoticeForm,
-        what: &Told,
+        what: &Message,
     ) -> Result<(), IoFault> {
-        let told = self.client.tell(executor, form, what);
+        let reported = self.client.send(executor, form, what);
         let marks = match self.events {
-            Events::None => return told,
+            Events::None => return reported,
             Events::Plain => false,
             Events::Marked => true,
         };
@@ -119,17 +119,17 @@ impl<D: Disk + Drop, C: Children + Drop, T: Client<D, C>, W: Write> Client<D, C>
             alloc: self.alloc,
             marks,
         };
-        if told.is_ok() {
+        if reported.is_ok() {
             let _ = write_events(&making, &mut self.errors, notices_in(what));
         }
-        told
+        reported
     }
 
     fn note_tag(&mut self, tag: Option<Tag>) -> Result<(), AllocError> {
         self.client.note_tag(tag)
     }
 
-    fn is_heard(&self) -> bool {
-        self.client.is_heard()
+    fn has_reader(&self) -> bool {
+        self.client.has_reader()
     }
 }

@@ -18,7 +18,7 @@ pub trait Input: BufRead {
 /// Output whose reader may be gone.
 pub trait Output: Write {
     /// Whether the output may still have a reader.
-    fn is_heard(&self) -> bool;
+    fn has_reader(&self) -> bool;
 }
 
 /// All bytes are ready at once.
@@ -33,19 +33,19 @@ impl Input for &[u8] {
 }
 
 impl<A: Allocator> Output for Vec<u8, A> {
-    fn is_heard(&self) -> bool {
+    fn has_reader(&self) -> bool {
         true
     }
 }
 
 impl Output for &mut [u8] {
-    fn is_heard(&self) -> bool {
+    fn has_reader(&self) -> bool {
         true
     }
 }
 
 impl<W: Output> Output for &mut W {
-    fn is_heard(&self) -> bool {
-        (**self).is_heard()
+    fn has_reader(&self) -> bool {
+        (**self).has_reader()
     }
 }

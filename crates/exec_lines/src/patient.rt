@@ -89,7 +89,7 @@ impl<W: Write> Write for Patient<W> {
 }
 
 impl<W: Write> Output for Patient<W> {
-    fn is_heard(&self) -> bool {
+    fn has_reader(&self) -> bool {
         !is_hung_up(self.descriptor)
     }
 }

@@ -2,13 +2,13 @@
 ghost use Rattle.std.specs.Prelude.{◌≡◌, ◌≢◌, None, OnErr, OnOk, IfOk, IfErr, IsTrue, Err};
 ghost use Rattle.std.specs.Io.KnownBytes.{Appends};
 ghost use Rattle.std.specs.List.{flat_map};
-ghost use Rattle.exec_commands.specs.Replies.{formed_line, told_reply_line, told_request_line};
-ghost use Rattle.exec_commands.specs.Tags.{told_tag};
+ghost use Rattle.exec_commands.specs.Replies.{formed_line, sent_reply_line, written_request_line};
+ghost use Rattle.exec_commands.specs.Tags.{written_tag};
 ghost use Rattle.exec_lines.specs.Prefixes.{AppendsPrefix};
 ghost use Rattle.exec_messages.specs.declared.send.IoFault.TheVariants.{InputOrOutput, Memory};
 
 use exec_commands::{
-    LineReply, NoticeForm, Tagged, write_notice, write_told_reply, write_told_request,
+    LineReply, NoticeForm, Tagged, write_notice, write_sent_reply, write_written_request,
 };
 use exec_lines::{write_bytes, write_flushed};
 use growth::Grows;
@@ -66,13 +66,13 @@ pub fn send_reply<W: Write>(
 ) -> Result<(), IoFault>
     ensures sent { OnOk result
         (Appends (W.contents writer.old) (W.contents writer.new)
-        (told_reply_line tagged.entry.form (told_tag tagged.entry) reply.now)) }
+        (sent_reply_line tagged.entry.form (written_tag tagged.entry) reply.now)) }
     ensures prefix { OnErr result
         (AppendsPrefix (W.contents writer.old) (W.contents writer.new)
-        (told_reply_line tagged.entry.form (told_tag tagged.entry) reply.now)) }
+        (sent_reply_line tagged.entry.form (written_tag tagged.entry) reply.now)) }
     ensures memory { IfErr result (λ f. f ≡ Memory → IsTrue ⟦<Global as Grows>⟧.refuses) }
 {
-    send_line(writer, write_told_reply(alloc, tagged, reply))
+    send_line(writer, write_sent_reply(alloc, tagged, reply))
 }
 
 /// Writes the line of a reply to a request in this form and with this tag, without a flush. On error a prefix of the line was written.
@@ -84,13 +84,13 @@ pub fn put_reply<W: Write>(
 ) -> Result<(), IoFault>
     ensures sent { OnOk result
         (Appends (W.contents writer.old) (W.contents writer.new)
-        (told_request_line tagged.entry.form (told_tag tagged.entry) reply.now)) }
+        (written_request_line tagged.entry.form (written_tag tagged.entry) reply.now)) }
     ensures prefix { OnErr result
         (AppendsPrefix (W.contents writer.old) (W.contents writer.new)
-        (told_request_line tagged.entry.form (told_tag tagged.entry) reply.now)) }
+        (written_request_line tagged.entry.form (written_tag tagged.entry) reply.now)) }
     ensures memory { IfErr result (λ f. f ≡ Memory → IsTrue ⟦<Global as Grows>⟧.refuses) }
 {
-    let line = write_told_request(alloc, tagged, reply)?;
+    let line = write_written_request(alloc, tagged, reply)?;
     write_bytes(writer, line.as_slice())?;
     Ok(())
 }
@@ -106,10 +106,10 @@ pub fn send_notice<W: Write>(
 ) -> Result<(), IoFault>
     ensures sent { OnOk result
         (Appends (W.contents writer.old) (W.contents writer.new)
-        (formed_line tagged.entry.form (told_tag tagged.entry) signal notice.now)) }
+        (formed_line tagged.entry.form (written_tag tagged.entry) signal notice.now)) }
     ensures prefix { OnErr result
         (AppendsPrefix (W.contents writer.old) (W.contents writer.new)
-        (formed_line tagged.entry.form (told_tag tagged.entry) signal notice.now)) }
+        (formed_line tagged.entry.form (written_tag tagged.entry) signal notice.now)) }
     ensures memory { IfErr result (λ f. f ≡ Memory → IsTrue ⟦<Global as Grows>⟧.refuses) }
 {
     send_line(writer, write_notice(alloc, tagged, notice, signal))

@@ -16,15 +16,15 @@ once_status Lost = 125
 once_status NotStarted = 125
 
 -- the report of an end by its status: its exit code, or where it has none the signal that ended the agent
-abbrev pub TellsStatus : ExitStatus → OnceEnd → Type 0
-TellsStatus status (Exited code) = exit_code status ≡ Some (pos code)
-TellsStatus status (Signaled signal) = (exit_code status ≡ None) × (signal_of status ≡ pos signal)
-TellsStatus status _ = ⊥
+abbrev pub ReportsStatus : ExitStatus → OnceEnd → Type 0
+ReportsStatus status (Exited code) = exit_code status ≡ Some (pos code)
+ReportsStatus status (Signaled signal) = (exit_code status ≡ None) × (signal_of status ≡ pos signal)
+ReportsStatus status _ = ⊥
 
 -- an end is reported by the status that the system gave, or is not known
 abbrev pub IsEndOf : ExitStatus → OnceEnd → Type 0
 IsEndOf status Lost = ⊤
-IsEndOf status end = TellsStatus status end
+IsEndOf status end = ReportsStatus status end
 
 -- the report by the system's answer to a poll, with the milliseconds that are left: without a status only a timeout when none is left, or
 -- an end that is not known

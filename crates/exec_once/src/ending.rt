@@ -2,7 +2,7 @@
 ghost use Rattle.std.specs.Prelude.{◌≡◌, ◌<◌, IfSome, IfNone, pos};
 ghost use Rattle.std.specs.Process.{child_status};
 ghost use Rattle.child_keeper.specs.Ends.{signal_of};
-ghost use Rattle.exec_once.specs.Ends.{IsEndNow, TellsStatus, once_status};
+ghost use Rattle.exec_once.specs.Ends.{IsEndNow, ReportsStatus, once_status};
 
 use std::os::unix::process::ExitStatusExt;
 use std::process::{Child, ExitStatus, OpenProcess};
@@ -45,7 +45,7 @@ fn signal_of(status: ExitStatus) -> u8
 
 // How an agent ended, by the status that the system reports.
 fn end_of(status: ExitStatus) -> OnceEnd
-    ensures { TellsStatus status result }
+    ensures { ReportsStatus status result }
 {
     match status.code() {
         Some(code) => OnceEnd::Exited((code.cast_unsigned() % 256) as u8),

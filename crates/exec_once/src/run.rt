@@ -9,7 +9,7 @@ use child_keeper::{Deadline, command_of};
 use growth::Grows;
 use ocf_env::Site;
 use proc_files::ProcFiles;
-use process_ends::{Pauses, end_child, tell_alive};
+use process_ends::{Pauses, end_child, report_alive};
 use std::alloc::{AllocError, Allocator, Global};
 use std::io::Eprint;
 use std::process::{Child, Command, OpenProcess, Processes, Stdio};
@@ -76,7 +76,7 @@ where
             if matches!(end, OnceEnd::TimedOut | OnceEnd::Lost)
                 && end_child(rt, alloc, &mut child)
             {
-                tell_alive(rt, &child, "the agent");
+                report_alive(rt, &child, "the agent");
             }
             end
         }

@@ -143,7 +143,7 @@ impl Sought for ActionsSought<'_> {
 }
 
 // Reports a process whose action is past its deadline.
-fn tell_late(out: &impl Eprint, orphan: &Orphan<'_>, leave: bool) {
+fn report_late(out: &impl Eprint, orphan: &Orphan<'_>, leave: bool) {
     let done = if leave { "left running" } else { "killed" };
     let _ = out.eprintln(format_args!(
         "ocfexec: pid {} of the interrupted {} is {done}",
@@ -166,7 +166,7 @@ fn deal_with(
         let pid = orphan.process.pid;
         let is_new = !dealt.iter().any(|left| left.pid == pid);
         if is_new && orphan.of.deadline.left(rt) == 0 {
-            tell_late(system, orphan, how.leave);
+            report_late(system, orphan, how.leave);
             late.push(orphan.of)?;
             dealt.push(Left {
                 run: orphan.of.run,
@@ -198,7 +198,7 @@ fn await_all(
         if found.iter().all(|orphan| orphan.of.deadline.left(rt) == 0) {
             break;
         }
-        if !client.is_heard() {
+        if !client.has_reader() {
             return Err(io::Error::from(ErrorKind::BrokenPipe));
         }
         sleep(rt, Duration::from_millis(PAUSE));

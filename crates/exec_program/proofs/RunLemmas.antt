@@ -5,7 +5,7 @@ use Rattle.child_model.specs.Children.{ChildrenView}
 use Rattle.executor.specs.ExecutorView.{ExecutorView}
 use Rattle.executor.specs.declared.report.Report.{Report}
 use Rattle.exec_client.specs.ClientView.{ClientView}
-use Rattle.exec_client.specs.Said.{Said}
+use Rattle.exec_client.specs.SentItem.{SentItem}
 use Rattle.exec_faults.specs.declared.fault.Fault.{Fault}
 use Rattle.exec_session.specs.Answers.{Source}
 use Rattle.exec_session.specs.Ends.{Ended}
@@ -17,20 +17,20 @@ use Rattle.exec_trace.specs.Edges.{EdgeView}
 abbrev pub edge_with : {D : Type 0} → Option (List ℕ) → ClientView D → EdgeView D
 edge_with left client_view = record { left = left; client_view = client_view; events = [] }
 
-abbrev pub heard_with : {D : Type 0} → ExecutorView D → List Said → Option (List ℕ) → ClientView D
-heard_with opened told written = record { opened = opened; told = told; written = written }
+abbrev pub client_view_with : {D : Type 0} → ExecutorView D → List SentItem → Option (List ℕ) → ClientView D
+client_view_with opened reported written = record { opened = opened; reported = reported; written = written }
 
-heard_is : {D : Type 0} (opened x : ExecutorView D) (told : List Said) (written held : Option (List ℕ)) → opened ≡ x → told ≡ [] → written ≡ held
-    → heard_with opened told written ≡ heard_with x [] held
-heard_is opened x told written held e f h =
-    ap (λ (a : ExecutorView _). heard_with a told written) e ∙ (ap (λ (t : List Said). heard_with x t written) f ∙ ap (λ (w : Option (List ℕ)). heard_with x [] w) h)
+client_view_is : {D : Type 0} (opened x : ExecutorView D) (reported : List SentItem) (written held : Option (List ℕ)) → opened ≡ x → reported ≡ [] → written ≡ held
+    → client_view_with opened reported written ≡ client_view_with x [] held
+client_view_is opened x reported written held e f h =
+    ap (λ (a : ExecutorView _). client_view_with a reported written) e ∙ (ap (λ (t : List SentItem). client_view_with x t written) f ∙ ap (λ (w : Option (List ℕ)). client_view_with x [] w) h)
 
 -- the edge of a session over this executor begins like this
-pub edge_begins : {D : Type 0} (from : EdgeView D) (left : Option (List ℕ)) (opened x : ExecutorView D) (told : List Said)
-    (written held : Option (List ℕ)) → from ≡ edge_with left (heard_with opened told written) → opened ≡ x → told ≡ [] → written ≡ held
-    → from ≡ edge_with left (heard_with x [] held)
-edge_begins from left opened x told written held is e f h =
-    is ∙ ap (λ (a : ClientView _). edge_with left a) (heard_is opened x told written held e f h)
+pub edge_begins : {D : Type 0} (from : EdgeView D) (left : Option (List ℕ)) (opened x : ExecutorView D) (reported : List SentItem)
+    (written held : Option (List ℕ)) → from ≡ edge_with left (client_view_with opened reported written) → opened ≡ x → reported ≡ [] → written ≡ held
+    → from ≡ edge_with left (client_view_with x [] held)
+edge_begins from left opened x reported written held is e f h =
+    is ∙ ap (λ (a : ClientView _). edge_with left a) (client_view_is opened x reported written held e f h)
 
 -- how a session ended that began like this, with metadata from this source
 pub ended_from : {D C N S : Type 0} (look : D → View) (tend : C → ChildrenView) (gives : S → Source) (s source : S) (rules : Rules)

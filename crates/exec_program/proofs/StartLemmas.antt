@@ -22,7 +22,7 @@ use Rattle.exec_session.specs.Rules.{Rules}
 use Rattle.exec_session.specs.Spots.{Position, position, spot}
 use Rattle.exec_session.specs.Ends.{Ended, EndsAs}
 use Rattle.journal_folder.specs.Ends.{IsFolderEnd}
-use Rattle.exec_program.specs.Starts.{EndsFor, IsEndOf, IsToldAs, StartEndsFor, opening_fault, with_status}
+use Rattle.exec_program.specs.Starts.{EndsFor, IsEndOf, IsWrittenAs, StartEndsFor, opening_fault, with_status}
 
 -- a session does not end because of its arguments
 ends : {D N T : Type 0} (look : D → View) (source : Source) (rules : Rules) (report : Report N)
@@ -86,18 +86,18 @@ opening_ends {T} why f r is same =
     subst IsRunEnd (sym same) (subst (λ (x : Fault). IsRunEnd {T = T} (Err x)) (sym is) (opening_end T why))
 
 -- arguments that give no options
-pub refused_ends : {T : Type 0} (named : Option (List ℕ)) (words : List (List ℕ)) (f : WordsFault) (r : Result T Fault) → IsFault named words f → IsToldAs f r
+pub refused_ends : {T : Type 0} (named : Option (List ℕ)) (words : List (List ℕ)) (f : WordsFault) (r : Result T Fault) → IsFault named words f → IsWrittenAs f r
     → EndsFor named words r
-refused_ends named words (words_fault.Help text) (Ok done) is told = inl (text, is)
-refused_ends {T} named words (words_fault.Help text) (Err f) is told = subst (λ x. EndsFor {T = T} named words (Err x)) (sym told) (inl (text, is))
-refused_ends named words (words_fault.Usage text) r is told = subst (λ x. EndsFor named words x) (sym told) (inl (text, is))
-refused_ends named words words_fault.Choice r is told = subst (λ x. EndsFor named words x) (sym told) is
-refused_ends named words words_fault.TidyAt r is told = subst (λ x. EndsFor named words x) (sym told) is
-refused_ends named words words_fault.Root r is told = subst (λ x. EndsFor named words x) (sym told) is
-refused_ends named words words_fault.Orphans r is told = subst (λ x. EndsFor named words x) (sym told) is
-refused_ends named words words_fault.Since r is told = subst (λ x. EndsFor named words x) (sym told) (inr (inl is))
-refused_ends named words words_fault.Timeout r is told = subst (λ x. EndsFor named words x) (sym told) (inr (inr is))
-refused_ends named words words_fault.Memory r is told = subst (λ x. EndsFor named words x) (sym told) tt
+refused_ends named words (words_fault.Help text) (Ok done) is reported = inl (text, is)
+refused_ends {T} named words (words_fault.Help text) (Err f) is reported = subst (λ x. EndsFor {T = T} named words (Err x)) (sym reported) (inl (text, is))
+refused_ends named words (words_fault.Usage text) r is reported = subst (λ x. EndsFor named words x) (sym reported) (inl (text, is))
+refused_ends named words words_fault.Choice r is reported = subst (λ x. EndsFor named words x) (sym reported) is
+refused_ends named words words_fault.TidyAt r is reported = subst (λ x. EndsFor named words x) (sym reported) is
+refused_ends named words words_fault.Root r is reported = subst (λ x. EndsFor named words x) (sym reported) is
+refused_ends named words words_fault.Orphans r is reported = subst (λ x. EndsFor named words x) (sym reported) is
+refused_ends named words words_fault.Since r is reported = subst (λ x. EndsFor named words x) (sym reported) (inr (inl is))
+refused_ends named words words_fault.Timeout r is reported = subst (λ x. EndsFor named words x) (sym reported) (inr (inr is))
+refused_ends named words words_fault.Memory r is reported = subst (λ x. EndsFor named words x) (sym reported) tt
 
 -- arguments that ask for a journal
 pub journal_ends : {T : Type 0} (named : Option (List ℕ)) (words : List (List ℕ)) (o : Options) (r : Result T Fault) → Gives named words o → IsRunEnd r → EndsFor named words r
@@ -145,8 +145,8 @@ pub starts_once : (home : Option (List ℕ)) (words : List (List ℕ)) (o : Once
 starts_once home words o ended gives = inl (o, gives)
 
 pub starts_nothing : (home : Option (List ℕ)) (words : List (List ℕ)) (f : WordsFault) (r : Result (Unit {0}) Fault) (ended : Result ℕ Fault)
-    → IsFault home words f → IsToldAs f r → ended ≡ with_status r → StartEndsFor home words ended
-starts_nothing home words f r ended is told same = inr (r, same, refused_ends home words f r is told)
+    → IsFault home words f → IsWrittenAs f r → ended ≡ with_status r → StartEndsFor home words ended
+starts_nothing home words f r ended is reported same = inr (r, same, refused_ends home words f r is reported)
 
 -- the same where it is known what the arguments ask for
 pub starts_asked_journal : (home : Option (List ℕ)) (words : List (List ℕ)) (w : Wanted) (o : Options) (r : Result (Unit {0}) Fault)

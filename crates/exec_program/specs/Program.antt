@@ -21,7 +21,7 @@ use Rattle.exec_faults.specs.declared.fault.Fault.TheVariants as fault
 use Rattle.exec_session.specs.Answers.{Source}
 use Rattle.exec_program.specs.Asked.{Asked}
 use Rattle.exec_program.specs.Runs.{RunsOn}
-use Rattle.exec_program.specs.Starts.{IsToldAs, with_status}
+use Rattle.exec_program.specs.Starts.{IsWrittenAs, with_status}
 
 -- a view of a journal shows what the options ask for, of that directory or of memory, and ends as that did
 abbrev pub Looks : {F L A S R W H : Type 0} → Asked F L A S R W H → Options → JournalPlace → Result Unit Fault → Type 0
@@ -72,4 +72,4 @@ Does refuses asked tend gives left contents look named words ended =
     × ((r : Result Unit Fault) × DoesAs refuses asked tend gives left contents look o o.subcommand r × (ended ≡ with_status r)))
     ⊎ (((o : OnceOptions) × GivesOnce words o × ((status : ℕ) × asked.once o status × (ended ≡ Ok status)))
     ⊎ ((f : WordsFault) × IsFault named words f × (f ≡ words_fault.Memory → IsTrue refuses)
-    × ((r : Result Unit Fault) × IsToldAs f r × Prints asked f × (ended ≡ with_status r))))
+    × ((r : Result Unit Fault) × IsWrittenAs f r × Prints asked f × (ended ≡ with_status r))))

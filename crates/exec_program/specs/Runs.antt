@@ -123,7 +123,7 @@ pub record Runs {F L A S R W H D : Type 0} (asked : Asked F L A S R W H) (tend :
   pub watches : asked.watch (served_folder o) watch
   pub held : IsHeldTo o lives rules
   pub runs : Ended look tend (gives source) rules report
-      (at_of executor (record { left = left reader; client_view = record { opened = executor; told = []; written = contents writer }; events = [] }))
+      (at_of executor (record { left = left reader; client_view = record { opened = executor; reported = []; written = contents writer }; events = [] }))
       edge ran last_disk last_agents
   pub ends : EndsBy asked o watch ran ended
 

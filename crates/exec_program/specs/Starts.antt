@@ -41,17 +41,17 @@ opening_fault opening.Foreign = fault.Disk
 opening_fault opening.Full = fault.Full
 
 -- how the program ends where arguments give no options: a text that was asked for is written, or output fails
-abbrev pub IsToldAs : {T : Type 0} → WordsFault → Result T Fault → Type 0
-IsToldAs (words_fault.Help text) (Ok done) = ⊤
-IsToldAs (words_fault.Help text) (Err f) = f ≡ fault.InputOrOutput
-IsToldAs (words_fault.Usage text) ended = ended ≡ Err fault.Usage
-IsToldAs words_fault.Choice ended = ended ≡ Err fault.Choice
-IsToldAs words_fault.TidyAt ended = ended ≡ Err fault.TidyAt
-IsToldAs words_fault.Root ended = ended ≡ Err fault.Root
-IsToldAs words_fault.Orphans ended = ended ≡ Err fault.Orphans
-IsToldAs words_fault.Since ended = ended ≡ Err fault.Usage
-IsToldAs words_fault.Timeout ended = ended ≡ Err fault.Usage
-IsToldAs words_fault.Memory ended = ended ≡ Err fault.Memory
+abbrev pub IsWrittenAs : {T : Type 0} → WordsFault → Result T Fault → Type 0
+IsWrittenAs (words_fault.Help text) (Ok done) = ⊤
+IsWrittenAs (words_fault.Help text) (Err f) = f ≡ fault.InputOrOutput
+IsWrittenAs (words_fault.Usage text) ended = ended ≡ Err fault.Usage
+IsWrittenAs words_fault.Choice ended = ended ≡ Err fault.Choice
+IsWrittenAs words_fault.TidyAt ended = ended ≡ Err fault.TidyAt
+IsWrittenAs words_fault.Root ended = ended ≡ Err fault.Root
+IsWrittenAs words_fault.Orphans ended = ended ≡ Err fault.Orphans
+IsWrittenAs words_fault.Since ended = ended ≡ Err fault.Usage
+IsWrittenAs words_fault.Timeout ended = ended ≡ Err fault.Usage
+IsWrittenAs words_fault.Memory ended = ended ≡ Err fault.Memory
 
 -- the arguments ask for a session over a journal or a view of one, where the environment names this directory
 abbrev pub AsksForJournal : Option (List ℕ) → List (List ℕ) → Type 0

@@ -10,7 +10,7 @@ use crate::options::served_folder;
 use exec_faults::Fault;
 use exec_options::Options;
 use executor::OpenError;
-use file_disk::TellsError;
+use file_disk::ReportsError;
 use growth::Grows;
 use std::alloc::Global;
 
@@ -32,7 +32,7 @@ pub fn opening_fault(why: OpenError) -> Fault
 }
 
 /// Reports a fault of the device, of which the disk knows more than the fault holds, and returns the end unchanged.
-pub fn told<H: Host, D: TellsError>(
+pub fn reported<H: Host, D: ReportsError>(
     host: &H,
     options: Options,
     disk: &D,
@@ -41,7 +41,7 @@ pub fn told<H: Host, D: TellsError>(
     ensures { result ≡ ended }
 {
     if let Err(Fault::Disk) = ended {
-        host.tell_device(options, disk.first_error());
+        host.report_device(options, disk.first_error());
     }
     ended
 }
@@ -68,6 +68,6 @@ pub fn ended_over<H: Host>(
         return ended;
     };
     host.write_line(DISK_LINE);
-    host.tell_device(options, Some(error));
+    host.report_device(options, Some(error));
     Err(Fault::Disk)
 }

@@ -14,7 +14,7 @@ use exec_lines::{Input, Output};
 use exec_options::{OnceOptions, Options};
 use exec_session::Metadata;
 use exec_state::State;
-use file_disk::{FileError, TellsError};
+use file_disk::{FileError, ReportsError};
 use growth::{GROWTH_LIMIT, Grows};
 use ocf_env::Site;
 use std::alloc::{AllocError, Global};
@@ -41,7 +41,7 @@ pub struct Wait<'a> {
 /// requests of its contract, makes no others.
 pub trait Host {
     /// The files of a journal.
-    type Files: Disk + TellsError + Drop;
+    type Files: Disk + ReportsError + Drop;
 
     /// Where agents write.
     type Log: Drop;
@@ -135,7 +135,7 @@ pub trait Host {
         ensures { (asked self.now).ignored result };
 
     /// Reports which signals are ignored.
-    fn tell_ignored(&self);
+    fn report_ignored(&self);
 
     /// Waits for what is left of the actions that run at this state, of agents at this site. Gives the processes that live on, with their
     /// runs; `None` once nobody can read the report.
@@ -189,14 +189,14 @@ pub trait Host {
     fn say(&self, line: &str);
 
     /// Reports that a text that was asked for could not be written, and why.
-    fn tell_unwritten(&self, error: io::Error);
+    fn report_unwritten(&self, error: io::Error);
 
     /// Reports that nobody can read the report any more.
-    fn tell_unheard(&self);
+    fn report_unheard(&self);
 
     /// Reports that the journal's device failed, and its error.
-    fn tell_device(&self, options: Options, met: Option<FileError>);
+    fn report_device(&self, options: Options, met: Option<FileError>);
 
     /// Reports why a session ended before its input did, where standard input or output failed.
-    fn tell_run(&self, ended: Result<(), Fault>);
+    fn report_run(&self, ended: Result<(), Fault>);
 }

@@ -8,14 +8,14 @@ ghost use Rattle.exec_program.specs.Requests.{Allows, IsFoundOn, IsOfRun, LeaveW
 ghost use Rattle.exec_program.specs.Runs.{LeavesWord, RunsOn};
 ghost use Rattle.exec_program.specs.Starts.{site_of};
 
-use crate::ends::{ended_over, opening_fault, told};
+use crate::ends::{ended_over, opening_fault, reported};
 use crate::host::Host;
 use crate::limits::BOOK_ROOM;
 use crate::options::{context_of, events_of, served_folder};
 use crate::site::site_of;
 use crate::wait::await_interrupted;
 use disk_model::Disk;
-use exec_client::Teller;
+use exec_client::JsonClient;
 use exec_events::Eventful;
 use exec_faults::Fault;
 use exec_lines::{RunClock, moment_now};
@@ -23,7 +23,7 @@ use exec_options::{JournalPlace, Options};
 use exec_session::{LineRoom, run_lines};
 use exec_trace::Edge;
 use executor::Executor;
-use file_disk::TellsError;
+use file_disk::ReportsError;
 use growth::Grows;
 use ocf_env::Site;
 use std::alloc::{AllocError, Global};
@@ -62,7 +62,7 @@ fn leave_own_word<H: Host>(host: &H, options: Options, clock: &impl Clock)
 
 /// Opens the executor on this disk and answers the lines of standard input.
 #[tactic(auto, using(crate::proofs::StartLemmas::run_ends, crate::proofs::StartLemmas::same_ends, crate::proofs::StartLemmas::unheard_ends))]
-pub fn run_agents<H: Host, D: Disk + TellsError + Drop>(
+pub fn run_agents<H: Host, D: Disk + ReportsError + Drop>(
     host: &H,
     options: Options,
     log: H::Log,
@@ -93,16 +93,16 @@ pub fn run_agents<H: Host, D: Disk + TellsError + Drop>(
             leave_own_word(host, options, &clock);
             let source = host.source(site);
             let context = context_of(alloc, options, &source, left.as_slice());
-            let teller = Teller::new(alloc, host.writer(served_folder(options)), &executor);
-            let client = Eventful::new(alloc, teller, host.errors(), events_of(host, options));
+            let json_client = JsonClient::new(alloc, host.writer(served_folder(options)), &executor);
+            let client = Eventful::new(alloc, json_client, host.errors(), events_of(host, options));
             let edge = Edge::new(reader, client, &clock);
             let run = run_lines(&context, edge, (executor, report), room);
             host.give_up(source);
-            let ended = told(host, options, &run.disk, run.ended);
+            let ended = reported(host, options, &run.disk, run.ended);
             let ended = ended_over(host, options, &watch, ended);
-            host.tell_run(ended);
+            host.report_run(ended);
             ended
         }
-        Err(fault) => told(host, options, &fault.disk, Err(opening_fault(fault.why))),
+        Err(fault) => reported(host, options, &fault.disk, Err(opening_fault(fault.why))),
     }
 }

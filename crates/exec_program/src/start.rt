@@ -2,7 +2,7 @@
 ghost use Rattle.std.specs.Prelude.{◌≡◌, map, option_map, string_bytes};
 ghost use Rattle.exec_program.specs.Program.{Does, DoesAs, Looks, Prints, RunsFor};
 ghost use Rattle.exec_program.specs.Requests.{Allows, IsAskedFor, IsFoundIn, IsOfFault, IsOfLook, IsOfRun, IsOfSubcommand};
-ghost use Rattle.exec_program.specs.Starts.{IsEndOf, IsToldAs, StartEndsFor, with_status};
+ghost use Rattle.exec_program.specs.Starts.{IsEndOf, IsWrittenAs, StartEndsFor, with_status};
 
 use crate::host::Host;
 use crate::run::run_agents;
@@ -26,7 +26,7 @@ fn with_status(ended: Result<(), Fault>) -> Result<u8, Fault>
 // How the program ends where its arguments give no options. A text that was asked for is printed, and so is the text of a usage fault.
 fn refuse<H: Host>(host: &H, fault: &WordsFault) -> Result<(), Fault>
     requires may { Allows (H.may host.now) (IsOfFault fault.now) }
-    ensures told { IsToldAs fault.now result }
+    ensures reported { IsWrittenAs fault.now result }
     ensures prints { Prints (H.asked host.now) fault.now }
 {
     match fault {
@@ -35,7 +35,7 @@ fn refuse<H: Host>(host: &H, fault: &WordsFault) -> Result<(), Fault>
             // the reader has read enough
             Err(error) if error.kind() == ErrorKind::BrokenPipe => Ok(()),
             Err(error) => {
-                host.tell_unwritten(error);
+                host.report_unwritten(error);
                 Err(Fault::InputOrOutput)
             }
         },
@@ -117,7 +117,7 @@ fn start_agents<H: Host>(host: &H, options: Options) -> Result<(), Fault>
     if host.children_ignored() {
         return Err(Fault::ChildrenIgnored);
     }
-    host.tell_ignored();
+    host.report_ignored();
     let log = match host.log(options.log, options.logs) {
         Ok(log) => log,
         Err(fault) => return Err(fault),

@@ -41,7 +41,7 @@ pub fn await_interrupted<H: Host, D: Disk + Drop>(
     match Journal::open(alloc, disk) {
         Ok((journal, state)) => {
             let Some(left) = host.await_orphans(wait, site, &state) else {
-                host.tell_unheard();
+                host.report_unheard();
                 return Err(Fault::InputOrOutput);
             };
             Ok((journal.into_disk(), left))

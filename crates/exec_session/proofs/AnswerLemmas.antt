@@ -11,10 +11,10 @@ use Rattle.exec_commands.specs.declared.line.Line.{Line}
 use Rattle.exec_commands.specs.declared.line.Line.TheVariants as line
 use Rattle.exec_commands.specs.declared.reply.LineReply.{LineReply}
 use Rattle.exec_commands.specs.declared.reply.LineReply.TheVariants as answer
-use Rattle.exec_client.specs.Said.{Answered}
+use Rattle.exec_client.specs.SentItem.{Answered}
 use Rattle.exec_trace.specs.Edges.{EdgeView}
 use Rattle.exec_trace.specs.declared.event.IoEvent.TheVariants.{Shown}
-use Rattle.exec_session.specs.Answers.{DrainTold, DrainsFor, IsClosedReply, IsOpenReply, Source}
+use Rattle.exec_session.specs.Answers.{DrainSent, DrainsFor, IsClosedReply, IsOpenReply, Source}
 use Rattle.exec_session.specs.Breaks.{AnswerBreaks}
 use Rattle.exec_session.specs.Broken.{DrainBreaks, DrainBreaksFor, DrainEndsEarly, ReplyBreaks}
 use Rattle.exec_session.specs.Drains.{Drains}
@@ -22,61 +22,61 @@ use Rattle.exec_session.specs.declared.drain.Terms.{Terms}
 use Rattle.exec_commands.specs.declared.ends.DrainEnd.{DrainEnd}
 use Rattle.exec_session.specs.Progress.{Answers, AnswersSo}
 use Rattle.exec_session.specs.Rules.{MakesRoom, Rules}
-use Rattle.exec_session.specs.Spots.{Keeps, Position, Spot, Telling, Tells, TellsPart, at_of, behind, moved, noted, spot}
+use Rattle.exec_session.specs.Spots.{Keeps, Position, Spot, Sending, SendsAll, SendsPart, at_of, behind, moved, noted, spot}
 use Rattle.exec_session.specs.Steps.{Sends, Steps}
 use Rattle.exec_session.proofs.EventLemmas.{here_keeps}
 use Rattle.exec_session.proofs.StepLemmas.{step_after}
 
 module _ {D : Type 0} (look : D → View) (source : Source) (rules : Rules) where
-  module _ (tells_so : Telling D) where
+  module _ (sends_so : Sending D) where
     -- the reply of an open executor
     pub open_answered : (found : Result Line Refusal) (reply : LineReply) (p noticed q : Spot D) → p.executor.is_open ≡ true
-        → IsOpenReply look source rules p noticed found reply → tells_so noticed q (Answered reply ∷ [])
-        → AnswersSo tells_so look source rules found p q
-    open_answered found reply p noticed q is_open is tells = record {
+        → IsOpenReply look source rules p noticed found reply → sends_so noticed q (Answered reply ∷ [])
+        → AnswersSo sends_so look source rules found p q
+    open_answered found reply p noticed q is_open is sends_all = record {
       reply = reply;
       noticed = noticed;
       answered = record { while_open = λ _. is; once_closed = λ closed. absurd (true≢false (sym is_open ∙ closed)) };
-      tells = tells;
+      sends_all = sends_all;
     }
 
     -- the reply of a closed one
     pub closed_answered : (found : Result Line Refusal) (reply : LineReply) (p q : Spot D) → p.executor.is_open ≡ false
-        → IsClosedReply source found reply → tells_so p q (Answered reply ∷ []) → AnswersSo tells_so look source rules found p q
-    closed_answered found reply p q closed is tells = record {
+        → IsClosedReply source found reply → sends_so p q (Answered reply ∷ []) → AnswersSo sends_so look source rules found p q
+    closed_answered found reply p q closed is sends_all = record {
       reply = reply;
       noticed = p;
       answered = record { while_open = λ is_open. absurd (true≢false (sym is_open ∙ closed)); once_closed = λ _. (is, refl) };
-      tells = tells;
+      sends_all = sends_all;
     }
 
     -- a request, at the clock reading
     pub request_answered : (now : ℕ) (request : Request) (x r y : ExecutorView D) (e : EdgeView D) (p m : Position D) (q : Spot D) (given : Reply)
         → m ≡ noted p (Shown now) → at_of x e ≡ m → p.at.executor.is_open ≡ true → MakesRoom look rules now x r
         → (r.is_open ≡ true → Serves look now request r y given) → (r.is_open ≡ false → (given ≡ Refused refusal.Disk) × (y ≡ r))
-        → (y.is_open ≡ false ↔ (given ≡ Refused refusal.Disk)) → tells_so (spot y e.client_view e.events) q (Answered (answer.Request given) ∷ [])
-        → AnswersSo tells_so look source rules (Ok (line.Request request)) p.at q
-    request_answered now request x r y e p m q given is_noted is is_open room serves fails closes tells =
+        → (y.is_open ≡ false ↔ (given ≡ Refused refusal.Disk)) → sends_so (spot y e.client_view e.events) q (Answered (answer.Request given) ∷ [])
+        → AnswersSo sends_so look source rules (Ok (line.Request request)) p.at q
+    request_answered now request x r y e p m q given is_noted is is_open room serves fails closes sends_all =
         let is_p = is ∙ is_noted in
         open_answered (Ok (line.Request request)) (answer.Request given) p.at (spot y e.client_view e.events) q is_open (record {
           now = now;
           middle = r;
           given = given;
-          told = refl;
+          reported = refl;
           shown = ap (λ (P : Position D). moved P.at y) is_p;
           room = subst (λ (z : ExecutorView D). MakesRoom look rules now z r) (ap (λ (P : Position D). P.at.executor) is_p) room;
           serves = serves;
           fails = fails;
           closes = closes;
-        }) tells
+        }) sends_all
 
   -- the reply after what was kept, sent whole or in part
   pub answers_step : {T E : Type 0} (r : Result T E) (found : Result Line Refusal) (reply : LineReply) (p m q : Position D) → Keeps p m
-      → ((tells_so : Telling D) → tells_so m.at q.at (Answered reply ∷ []) → AnswersSo tells_so look source rules found p.at q.at)
+      → ((sends_so : Sending D) → sends_so m.at q.at (Answered reply ∷ []) → AnswersSo sends_so look source rules found p.at q.at)
       → Sends rules.form (Answered reply ∷ []) m q r
       → Steps (Answers look source rules found p.at) (AnswerBreaks look source rules found p.at) p q r
   answers_step r found reply p m q keeps answers sends =
-      step_after p m q r keeps sends (λ tells. answers (Tells rules.form) tells) (λ tells. inl (answers (TellsPart rules.form) tells))
+      step_after p m q r keeps sends (λ sends_all. answers (SendsAll rules.form) sends_all) (λ sends_all. inl (answers (SendsPart rules.form) sends_all))
 
   -- a drain or a watch, whose reply is an open executor's
   pub drain_step : {T E : Type 0} (r : Result T E) (found : Result Line Refusal) (ends_idle : Bool) (limit : ℕ) (p q : Position D)
@@ -84,18 +84,18 @@ module _ {D : Type 0} (look : D → View) (source : Source) (rules : Rules) wher
       → ((noticed : Spot D) (reply : LineReply) → DrainsFor look ends_idle limit rules p.at noticed reply
       → IsOpenReply look source rules p.at noticed found reply)
       → (DrainBreaksFor look ends_idle limit rules p.at q.at → ReplyBreaks look rules p.at q.at found)
-      → Steps (DrainTold (Tells rules.form) look ends_idle limit rules p.at) (DrainEndsEarly look ends_idle limit rules p.at) p q r
+      → Steps (DrainSent (SendsAll rules.form) look ends_idle limit rules p.at) (DrainEndsEarly look ends_idle limit rules p.at) p q r
       → Steps (Answers look source rules found p.at) (AnswerBreaks look source rules found p.at) p q r
   drain_step r found ends_idle limit p q is_open is broke step =
-      step_after p p q r (here_keeps p) step (λ told. told_so (Tells rules.form) told) breaks
+      step_after p p q r (here_keeps p) step (λ reported. sent_so (SendsAll rules.form) reported) breaks
     where
-      told_so : (tells_so : Telling D) → DrainTold tells_so look ends_idle limit rules p.at q.at
-          → AnswersSo tells_so look source rules found p.at q.at
-      told_so tells_so told =
-          open_answered tells_so found told.reply p.at told.noticed q.at is_open (is told.noticed told.reply told.drains) told.tells
+      sent_so : (sends_so : Sending D) → DrainSent sends_so look ends_idle limit rules p.at q.at
+          → AnswersSo sends_so look source rules found p.at q.at
+      sent_so sends_so reported =
+          open_answered sends_so found reported.reply p.at reported.noticed q.at is_open (is reported.noticed reported.reply reported.drains) reported.sends_all
 
       breaks : DrainEndsEarly look ends_idle limit rules p.at q.at → AnswerBreaks look source rules found p.at q.at
-      breaks (inl told) = inl (told_so (TellsPart rules.form) told)
+      breaks (inl reported) = inl (sent_so (SendsPart rules.form) reported)
       breaks (inr early) = inr (is_open, broke early)
 
 module _ {D : Type 0} (look : D → View) (rules : Rules) (ends_idle : Bool) (limit n start : ℕ) (p m q : Position D) where

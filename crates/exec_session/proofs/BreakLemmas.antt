@@ -12,7 +12,7 @@ use Rattle.exec_session.specs.Leaving.{LeaveBreaks, LeavesFrom}
 use Rattle.exec_session.specs.Reports.{ended}
 use Rattle.exec_session.specs.Rules.{Rules}
 use Rattle.exec_session.specs.Runs.{ReachesFault, ReachesLeave}
-use Rattle.exec_session.specs.Spots.{Position, Spot, Tells, TellsPart, position}
+use Rattle.exec_session.specs.Spots.{Position, Spot, SendsAll, SendsPart, position}
 use Rattle.exec_session.specs.Steps.{Sends, Steps}
 
 pub ends_err : {D E : Type 0} (look : D → View) (source : Source) (rules : Rules) (p q : Position D) (r : Result Unit E) → IsErr r
@@ -22,22 +22,22 @@ ends_err look source rules p q (Err e) bad breaks = breaks
 
 module _ {D : Type 0} (look : D → View) (source : Source) (rules : Rules) (p q : Position D) (m : Spot D) where
   -- the line that a disk fault ends the session was sent, or it broke off
-  pub fault_told : {E : Type 0} (w : Position D) (r : Result Unit E) → w.at ≡ m → ReachesFault look source rules p m
+  pub fault_sent : {E : Type 0} (w : Position D) (r : Result Unit E) → w.at ≡ m → ReachesFault look source rules p m
       → Sends rules.form (ended Disk ∷ []) w q r → EndsOrBreaks look source rules p q r
-  fault_told w (Ok done) same fault sends =
+  fault_sent w (Ok done) same fault sends =
       inr (inl (record {
         last = m;
         fault = fault;
-        tells = subst (λ (s : Spot D). Tells rules.form s q.at (ended Disk ∷ [])) same sends.done;
+        sends_all = subst (λ (s : Spot D). SendsAll rules.form s q.at (ended Disk ∷ [])) same sends.done;
       }))
-  fault_told w (Err e) same fault sends = record {
+  fault_sent w (Err e) same fault sends = record {
     own = fault.own;
     count = fault.count;
     lines = fault.lines;
     last = position m fault.left;
     reached = fault.reached;
     breaks =
-        in_fault fault.serves fault.is_closed (subst (λ (s : Spot D). TellsPart rules.form s q.at (ended Disk ∷ [])) same sends.breaks);
+        in_fault fault.serves fault.is_closed (subst (λ (s : Spot D). SendsPart rules.form s q.at (ended Disk ∷ [])) same sends.breaks);
     cause = sends.cause;
   }
 

@@ -19,11 +19,11 @@ use Rattle.exec_commands.specs.declared.notice.NoticeForm.{NoticeForm}
 use Rattle.exec_commands.specs.declared.reply.LineReply.{LineReply}
 use Rattle.exec_commands.specs.declared.reply.LineReply.TheVariants as answer
 use Rattle.exec_client.specs.Behind.{nothing}
-use Rattle.exec_client.specs.ClientView.{ClientView, IsTold}
-use Rattle.exec_client.specs.MayTell.{StandsBehind}
-use Rattle.exec_client.specs.Said.{Answered, Said, answered}
-use Rattle.exec_client.specs.Tells.{noticed}
-use Rattle.exec_client.proofs.Behinds.{says_none}
+use Rattle.exec_client.specs.ClientView.{ClientView, IsSent}
+use Rattle.exec_client.specs.MaySend.{StandsBehind}
+use Rattle.exec_client.specs.SentItem.{Answered, SentItem, answered}
+use Rattle.exec_client.specs.Sends.{noticed}
+use Rattle.exec_client.proofs.Behinds.{states_nothing}
 use Rattle.exec_client.proofs.Growing.{both_stand, none_stands, tidy_stands}
 use Rattle.exec_session.specs.Answers.{IsOpenReply, ServesNow, Source}
 use Rattle.exec_trace.specs.declared.event.IoEvent.TheVariants.{Shown}
@@ -33,13 +33,13 @@ use Rattle.exec_session.specs.Rules.{Rules, MakesRoom, is_tidy_due}
 use Rattle.exec_session.specs.Progress.{Answers}
 use Rattle.exec_session.specs.Looks.{Lines}
 use Rattle.exec_session.specs.Runs.{GoesByCalls, MakesOwnTurn, NewsSo, OwnTurn, Reaches, answers, here, looks, news, no_news, passes, reads, batch, turn as one_turn, waits}
-use Rattle.exec_session.specs.Spots.{Pauses, Position, Spot, Tells, behind}
+use Rattle.exec_session.specs.Spots.{Pauses, Position, Spot, SendsAll, behind}
 use Rattle.exec_session.specs.Together.{AnswersTogether}
 use Rattle.exec_session.specs.declared.drain.Terms.{Terms}
 use Rattle.exec_session.proofs.DrainLemmas.{closes, still_open}
-use Rattle.exec_session.proofs.LeaveLemmas.{finish_told}
-use Rattle.exec_session.proofs.TellLemmas.{Plain, cleared_room, closed_plain, is_plain, refused_stand, request_stands, status_plain}
-use Rattle.exec_session.proofs.TellLemmas.{together_stand, turn_behind_room}
+use Rattle.exec_session.proofs.LeaveLemmas.{finish_sent}
+use Rattle.exec_session.proofs.SendLemmas.{Plain, cleared_room, closed_plain, is_plain, refused_stand, request_stands, status_plain}
+use Rattle.exec_session.proofs.SendLemmas.{together_stand, turn_behind_room}
 
 -- a tidy by a call, or none, and no message
 room_stands : {D : Type 0} (look : D → View) (rules : Rules) (now : ℕ) (x y : ExecutorView D) → x.is_open ≡ true
@@ -57,8 +57,8 @@ module _ {D : Type 0} (look : D → View) where
   -- no call; one step after another; and calls with the messages that were sent of them
   here_still : (p : Spot D) → Goes p p
   here_still p = record {
-    said = [];
-    told = (refl, sym (append-nil p.client_view.told));
+    items = [];
+    reported = (refl, sym (append-nil p.client_view.reported));
     stands = none_stands look p.executor p.executor [] refl nothing;
   }
 
@@ -67,39 +67,39 @@ module _ {D : Type 0} (look : D → View) where
 
   both_go : (p m q : Spot D) → Goes p m → Goes m q → Goes p q
   both_go p m q one two = record {
-    said = one.said ++ two.said;
-    told = (
-      two.told.0 ∙ one.told.0,
-      two.told.1 ∙ ap (λ (ss : List Said). ss ++ two.said) one.told.1 ∙ append_assoc p.client_view.told one.said two.said,
+    items = one.items ++ two.items;
+    reported = (
+      two.reported.0 ∙ one.reported.0,
+      two.reported.1 ∙ ap (λ (ss : List SentItem). ss ++ two.items) one.reported.1 ∙ append_assoc p.client_view.reported one.items two.items,
     );
-    stands = both_stand look p.executor m.executor q.executor one.said two.said one.stands two.stands;
+    stands = both_stand look p.executor m.executor q.executor one.items two.items one.stands two.stands;
   }
 
-  told_go : (p q : Spot D) (more : List Said) → IsTold p.client_view q.client_view more → StandsBehind look p.executor q.executor more → Goes p q
-  told_go p q more told stands = record { said = more; told = told; stands = stands }
+  sent_go : (p q : Spot D) (more : List SentItem) → IsSent p.client_view q.client_view more → StandsBehind look p.executor q.executor more → Goes p q
+  sent_go p q more reported stands = record { items = more; reported = reported; stands = stands }
 
   -- no message
   quiet_go : (p q : Spot D) → q.client_view ≡ p.client_view → StandsBehind look p.executor q.executor [] → Goes p q
   quiet_go p q same stands =
-      told_go p q [] (subst (λ (h : ClientView D). IsTold p.client_view h []) (sym same) (refl, sym (append-nil p.client_view.told))) stands
+      sent_go p q [] (subst (λ (h : ClientView D). IsSent p.client_view h []) (sym same) (refl, sym (append-nil p.client_view.reported))) stands
 
   -- no call: one question at most
   unmoved : (p q : Spot D) → q.executor ≡ p.executor → q.client_view ≡ p.client_view → Goes p q
   unmoved p q same client_view = quiet_go p q client_view (none_stands look p.executor q.executor [] same nothing)
 
   -- a reply that acknowledges no command
-  plain_go : (form : NoticeForm) (s q : Spot D) (reply : LineReply) → Plain s.executor reply → Tells form s q (Answered reply ∷ [])
+  plain_go : (form : NoticeForm) (s q : Spot D) (reply : LineReply) → Plain s.executor reply → SendsAll form s q (Answered reply ∷ [])
       → Goes s q
-  plain_go form s q reply plain tells =
-      told_go s q (Answered reply ∷ []) tells.receives.told
-      (none_stands look s.executor q.executor (Answered reply ∷ []) tells.executor (says_none (Answered reply) plain.0))
+  plain_go form s q reply plain sends_all =
+      sent_go s q (Answered reply ∷ []) sends_all.receives.reported
+      (none_stands look s.executor q.executor (Answered reply ∷ []) sends_all.executor (states_nothing (Answered reply) plain.0))
 
   -- messages of an executor that went on by calls
-  tells_go : (form : NoticeForm) (p s q : Spot D) (more : List Said) → s.client_view ≡ p.client_view → StandsBehind look p.executor s.executor more
-      → Tells form s q more → Goes p q
-  tells_go form p s q more same stands tells =
-      told_go p q more (subst (λ (h : ClientView D). IsTold h q.client_view more) same tells.receives.told)
-      (subst (λ (x : ExecutorView D). StandsBehind look p.executor x more) (sym tells.executor) stands)
+  sends_go : (form : NoticeForm) (p s q : Spot D) (more : List SentItem) → s.client_view ≡ p.client_view → StandsBehind look p.executor s.executor more
+      → SendsAll form s q more → Goes p q
+  sends_go form p s q more same stands sends_all =
+      sent_go p q more (subst (λ (h : ClientView D). IsSent h q.client_view more) same sends_all.receives.reported)
+      (subst (λ (x : ExecutorView D). StandsBehind look p.executor x more) (sym sends_all.executor) stands)
 
   -- a pause
   pauses_go : (since now : ℕ) (client_view : Bool) (p q : Spot D) → Pauses since now client_view p q → Goes p q
@@ -119,7 +119,7 @@ module _ {D : Type 0} (look : D → View) where
     request_goes : (request : Request) (p s : Spot D) (reply : LineReply) → p.executor.is_open ≡ true
         → ServesNow look rules request p s reply → StandsBehind look p.executor s.executor (Answered reply ∷ [])
     request_goes request p s reply is_open serves =
-        subst (λ (r : LineReply). StandsBehind look p.executor s.executor (Answered r ∷ [])) (sym serves.told)
+        subst (λ (r : LineReply). StandsBehind look p.executor s.executor (Answered r ∷ [])) (sym serves.reported)
         (by serves.middle.is_open refl)
       where
         room : StandsBehind look p.executor serves.middle []
@@ -138,7 +138,7 @@ module _ {D : Type 0} (look : D → View) where
     together_goes : (commands : List Command) (p q : Spot D) → p.executor.is_open ≡ true → AnswersTogether look rules commands p q
         → Goes p q
     together_goes commands p q is_open together =
-        told_go p q (map answered together.given) together.tells.receives.told (by middle.is_open refl)
+        sent_go p q (map answered together.given) together.sends_all.receives.reported (by middle.is_open refl)
       where
         middle : ExecutorView D
         middle = together.serves.middle
@@ -167,7 +167,7 @@ module _ {D : Type 0} (look : D → View) where
 
         by : (b : Bool) → made.middle.is_open ≡ b → Goes p q
         by true open_still =
-            told_go p q (noticed q.executor) (made.tells open_still).receives.told
+            sent_go p q (noticed q.executor) (made.sends_all open_still).receives.reported
             (turn_behind_room look now p.executor made.middle q.executor end room open_still (made.takes open_still))
         by false closed =
             let (ended, same) = made.fails closed in
@@ -179,12 +179,12 @@ module _ {D : Type 0} (look : D → View) where
         → p.executor.is_open ≡ true → GoesOn look rules t start p turns now q
         → Goes p q × (q.executor.is_open ≡ true)
     turns_go t start p _ _ _ is_open at_start = (here_still p, is_open)
-    turns_go t start p _ _ _ is_open (further n before after m told q end gone_on made rests on) =
+    turns_go t start p _ _ _ is_open (further n before after m reported q end gone_on made rests on) =
         let so_far = turns_go t start p n before m is_open gone_on in
-        let idle = not (any_busy told.executor.state) in (
-          both_go p m q so_far.0 (both_go m told q (turn_goes before m told end so_far.1 made) (rests_go start before told q after rests)),
-          ap (λ (x : ExecutorView D). x.is_open) (rests_same start before told q after rests)
-              ∙ still_open t (n + 1) after end idle told.executor.is_open (closes look rules before m told end made) on,
+        let idle = not (any_busy reported.executor.state) in (
+          both_go p m q so_far.0 (both_go m reported q (turn_goes before m reported end so_far.1 made) (rests_go start before reported q after rests)),
+          ap (λ (x : ExecutorView D). x.is_open) (rests_same start before reported q after rests)
+              ∙ still_open t (n + 1) after end idle reported.executor.is_open (closes look rules before m reported end made) on,
         )
 
     drain_goes : (t : Terms) (start : ℕ) (p q : Spot D) (end : DrainEnd) → p.executor.is_open ≡ true
@@ -192,60 +192,60 @@ module _ {D : Type 0} (look : D → View) where
     drain_goes t start p q end is_open drains =
         let so_far = turns_go t start p drains.turns drains.now drains.last is_open drains.gone_on in
         both_go p drains.last q so_far.0
-        (both_go drains.last drains.told q (turn_goes drains.now drains.last drains.told drains.turn_end so_far.1 drains.made)
-        (rests_go start drains.now drains.told q drains.after drains.rests))
+        (both_go drains.last drains.reported q (turn_goes drains.now drains.last drains.reported drains.turn_end so_far.1 drains.made)
+        (rests_go start drains.now drains.reported q drains.after drains.rests))
 
     -- what an open executor does with a line, and then the reply
     open_goes : (source : Source) (p s q : Spot D) (found : Result Line Refusal) (reply : LineReply)
-        → p.executor.is_open ≡ true → IsOpenReply look source rules p s found reply → Tells rules.form s q (Answered reply ∷ [])
+        → p.executor.is_open ≡ true → IsOpenReply look source rules p s found reply → SendsAll rules.form s q (Answered reply ∷ [])
         → Goes p q
-    open_goes source p s q (Ok (line.Request request)) reply is_open serves tells =
-        tells_go rules.form p s q (Answered reply ∷ []) (ap (λ (t : Spot D). t.client_view) serves.shown)
-        (request_goes request p s reply is_open serves) tells
-    open_goes source p s q (Ok (line.Drain limit)) reply is_open (now, end, is, drains) tells =
+    open_goes source p s q (Ok (line.Request request)) reply is_open serves sends_all =
+        sends_go rules.form p s q (Answered reply ∷ []) (ap (λ (t : Spot D). t.client_view) serves.shown)
+        (request_goes request p s reply is_open serves) sends_all
+    open_goes source p s q (Ok (line.Drain limit)) reply is_open (now, end, is, drains) sends_all =
         both_go p s q (both_go p (behind p (Shown now)) s (unmoved p (behind p (Shown now)) refl refl)
         (drain_goes _ _ (behind p (Shown now)) s end is_open drains))
-        (plain_go rules.form s q reply (is_plain s.executor reply (answer.Drain end) is (refl, tt)) tells)
-    open_goes source p s q (Ok (line.Watch limit)) reply is_open (now, end, is, drains) tells =
+        (plain_go rules.form s q reply (is_plain s.executor reply (answer.Drain end) is (refl, tt)) sends_all)
+    open_goes source p s q (Ok (line.Watch limit)) reply is_open (now, end, is, drains) sends_all =
         both_go p s q (both_go p (behind p (Shown now)) s (unmoved p (behind p (Shown now)) refl refl)
         (drain_goes _ _ (behind p (Shown now)) s end is_open drains))
-        (plain_go rules.form s q reply (is_plain s.executor reply (answer.Drain end) is (refl, tt)) tells)
-    open_goes source p s q (Ok line.Tidy) reply is_open (end, is, tidies, same) tells =
+        (plain_go rules.form s q reply (is_plain s.executor reply (answer.Drain end) is (refl, tt)) sends_all)
+    open_goes source p s q (Ok line.Tidy) reply is_open (end, is, tidies, same) sends_all =
         both_go p s q (quiet_go p s (ap (λ (t : Spot D). t.client_view) same) (tidy_stands look p.executor s.executor end is_open tidies))
-        (plain_go rules.form s q reply (is_plain s.executor reply (answer.Tidy end) is (refl, tt)) tells)
-    open_goes source p s q (Ok line.Leave) reply is_open (is, same) tells =
+        (plain_go rules.form s q reply (is_plain s.executor reply (answer.Tidy end) is (refl, tt)) sends_all)
+    open_goes source p s q (Ok line.Leave) reply is_open (is, same) sends_all =
         both_go p s q (stays p s same)
-        (plain_go rules.form s q reply (is_plain s.executor reply (answer.Request (Refused UnknownOp)) is (refl, tt)) tells)
-    open_goes source p s q (Ok line.Version) reply is_open (is, same) tells =
-        both_go p s q (stays p s same) (plain_go rules.form s q reply (is_plain s.executor reply answer.Version is (refl, tt)) tells)
-    open_goes source p s q (Ok line.Status) reply is_open (is, same) tells =
+        (plain_go rules.form s q reply (is_plain s.executor reply (answer.Request (Refused UnknownOp)) is (refl, tt)) sends_all)
+    open_goes source p s q (Ok line.Version) reply is_open (is, same) sends_all =
+        both_go p s q (stays p s same) (plain_go rules.form s q reply (is_plain s.executor reply answer.Version is (refl, tt)) sends_all)
+    open_goes source p s q (Ok line.Status) reply is_open (is, same) sends_all =
         let plain = status_plain p.executor reply is_open is in
         both_go p s q (stays p s same)
-        (plain_go rules.form s q reply (subst (λ (t : Spot D). Plain t.executor reply) (sym same) plain) tells)
-    open_goes source p s q (Ok (line.Meta provider agent limit)) reply is_open ((meta, gives, is), same) tells =
+        (plain_go rules.form s q reply (subst (λ (t : Spot D). Plain t.executor reply) (sym same) plain) sends_all)
+    open_goes source p s q (Ok (line.Meta provider agent limit)) reply is_open ((meta, gives, is), same) sends_all =
         both_go p s q (stays p s same)
-        (plain_go rules.form s q reply (is_plain s.executor reply (answer.Meta meta) is (refl, tt)) tells)
-    open_goes source p s q (Ok (line.Direct direct)) reply is_open (is, same) tells =
+        (plain_go rules.form s q reply (is_plain s.executor reply (answer.Meta meta) is (refl, tt)) sends_all)
+    open_goes source p s q (Ok (line.Direct direct)) reply is_open (is, same) sends_all =
         both_go p s q (stays p s same)
-        (plain_go rules.form s q reply (is_plain s.executor reply (answer.Direct direct) is (refl, tt)) tells)
-    open_goes source p s q (Err why) reply is_open (is, same) tells =
+        (plain_go rules.form s q reply (is_plain s.executor reply (answer.Direct direct) is (refl, tt)) sends_all)
+    open_goes source p s q (Err why) reply is_open (is, same) sends_all =
         both_go p s q (stays p s same)
-        (plain_go rules.form s q reply (is_plain s.executor reply (answer.Request (Refused why)) is (refl, tt)) tells)
+        (plain_go rules.form s q reply (is_plain s.executor reply (answer.Request (Refused why)) is (refl, tt)) sends_all)
 
     line_goes : (source : Source) (p q : Spot D) (found : Result Line Refusal) → Answers look source rules found p q → Goes p q
     line_goes source p q found given = by p.executor.is_open refl
       where
         by : (b : Bool) → p.executor.is_open ≡ b → Goes p q
-        by true is_open = open_goes source p given.noticed q found given.reply is_open (given.answered.while_open is_open) given.tells
+        by true is_open = open_goes source p given.noticed q found given.reply is_open (given.answered.while_open is_open) given.sends_all
         by false closed =
             let (replies, same) = given.answered.once_closed closed in
             both_go p given.noticed q (stays p given.noticed same)
             (plain_go rules.form given.noticed q given.reply (closed_plain given.noticed.executor source found given.reply replies)
-            given.tells)
+            given.sends_all)
 
     -- how an own turn ended, which is sent if it is news
-    news_go : (before end : TurnEnd) (p q : Spot D) → NewsSo (Tells rules.form) before end p q → Goes p q
-    news_go before end p q (news is tells) = plain_go rules.form p q (answer.Drain (Turn end)) (refl, tt) tells
+    news_go : (before end : TurnEnd) (p q : Spot D) → NewsSo (SendsAll rules.form) before end p q → Goes p q
+    news_go before end p q (news is sends_all) = plain_go rules.form p q (answer.Drain (Turn end)) (refl, tt) sends_all
     news_go before end p q (no_news none same) = stays p q same
 
     own_turn_goes : (before : TurnEnd) (now : ℕ) (p q : Spot D) (end : TurnEnd) → p.executor.is_open ≡ true
@@ -253,7 +253,7 @@ module _ {D : Type 0} (look : D → View) where
     own_turn_goes before now p q end is_open own =
         both_go p own.noticed q (both_go p (behind p (Shown now)) own.noticed (unmoved p (behind p (Shown now)) refl refl)
         (turn_goes now (behind p (Shown now)) own.noticed end is_open own.made))
-        (news_go before end own.noticed q own.told)
+        (news_go before end own.noticed q own.reported)
 
     -- line after line, and turns between them
     pub lines_go : (source : Source) (p : Position D) (own : OwnTurn) (n : ℕ) (lines : Lines) (q : Position D)
@@ -276,10 +276,10 @@ module _ {D : Type 0} (look : D → View) where
     -- turns that begin nothing
     pub winds_go : (p : Spot D) (q : Spot D) → WindsDown look rules p q → Goes p q
     winds_go p _ at_first = here_still p
-    winds_go p _ (more_winding now m told q winds one is_open paused) =
+    winds_go p _ (more_winding now m reported q winds one is_open paused) =
         both_go p m q (winds_go p m winds)
-        (both_go m told q
-        (told_go m told (noticed told.executor) one.client_view.tells.receives.told
-        (finish_told look one.client_view.now m.executor (with_empty_book m.executor) told.executor one.client_view.end refl one.is_open
+        (both_go m reported q
+        (sent_go m reported (noticed reported.executor) one.client_view.sends_all.receives.reported
+        (finish_sent look one.client_view.now m.executor (with_empty_book m.executor) reported.executor one.client_view.end refl one.is_open
         one.client_view.takes))
-        (pauses_go 0 now true told q paused))
+        (pauses_go 0 now true reported q paused))

@@ -43,9 +43,9 @@ closes {D} look rules now p q end made = by made.middle.is_open refl
     by false closed = let fails = made.fails closed in (λ _. fails.0, λ _. ap (λ (s : Spot D). s.executor.is_open) fails.1 ∙ closed)
 
 -- the end of a drain, by the executor's own answer whether it is idle
-pub told_end : (t : Terms) (turns now : ℕ) (end : TurnEnd) (idle asked : Bool) (told given : Option DrainEnd)
-    → told ≡ end_behind t turns now end asked → asked ≡ idle → told ≡ given → end_behind t turns now end idle ≡ given
-told_end t turns now end idle asked told given is was same = ap (λ b. end_behind t turns now end b) (sym was) ∙ sym is ∙ same
+pub sent_end : (t : Terms) (turns now : ℕ) (end : TurnEnd) (idle asked : Bool) (reported given : Option DrainEnd)
+    → reported ≡ end_behind t turns now end asked → asked ≡ idle → reported ≡ given → end_behind t turns now end idle ≡ given
+sent_end t turns now end idle asked reported given is was same = ap (λ b. end_behind t turns now end b) (sym was) ∙ sym is ∙ same
 
 -- a pause that is short since one time is short since an earlier one
 pub short_since : (before since now micros : ℕ) → before ≤ since → IsShort since now micros → IsShort before now micros
@@ -61,23 +61,23 @@ module _ {D : Type 0} where
   at_moment since now now' client_view p q same paused = subst (λ (n : ℕ). Pauses since n client_view p q) same paused
 
   -- a pause, a client that still reads, and a clock reading
-  pub rests : (start since now : ℕ) (told : Spot D) (mid q : Position D) (client_view : Bool) (after : ℕ) → start ≤ since → client_view ≡ true
-      → Pauses since now client_view told mid.at → q ≡ noted mid (Shown after) → Rests start now told q.at after
-  rests start since now told mid q client_view after le receives paused is = (
+  pub rests : (start since now : ℕ) (reported : Spot D) (mid q : Position D) (client_view : Bool) (after : ℕ) → start ≤ since → client_view ≡ true
+      → Pauses since now client_view reported mid.at → q ≡ noted mid (Shown after) → Rests start now reported q.at after
+  rests start since now reported mid q client_view after le receives paused is = (
     mid.at,
-    earlier start since now true told mid.at le (subst (λ (b : Bool). Pauses since now b told mid.at) receives paused),
+    earlier start since now true reported mid.at le (subst (λ (b : Bool). Pauses since now b reported mid.at) receives paused),
     ap (λ (P : Position D). P.at) is,
   )
 
   pub paused_executor : (since now : ℕ) (client_view : Bool) (p q : Spot D) → Pauses since now client_view p q → q.executor ≡ p.executor
   paused_executor since now client_view p q (micros, short, is) = ap (λ (s : Spot D). s.executor) is
 
-  pub rests_executor : (start now : ℕ) (told q : Spot D) (after : ℕ) → Rests start now told q after → q.executor ≡ told.executor
-  rests_executor start now told q after (m, paused, is) =
-      ap (λ (s : Spot D). s.executor) is ∙ paused_executor start now true told m paused
+  pub rests_executor : (start now : ℕ) (reported q : Spot D) (after : ℕ) → Rests start now reported q after → q.executor ≡ reported.executor
+  rests_executor start now reported q after (m, paused, is) =
+      ap (λ (s : Spot D). s.executor) is ∙ paused_executor start now true reported m paused
 
-  pub rests_shown : (start now : ℕ) (told q : Spot D) (after : ℕ) → Rests start now told q after → last_shown q.events ≡ Some after
-  rests_shown start now told q after (m, paused, is) = ap (λ (s : Spot D). last_shown s.events) is ∙ shown_last m.events after
+  pub rests_shown : (start now : ℕ) (reported q : Spot D) (after : ℕ) → Rests start now reported q after → last_shown q.events ≡ Some after
+  rests_shown start now reported q after (m, paused, is) = ap (λ (s : Spot D). last_shown s.events) is ∙ shown_last m.events after
 
   -- a pause adds an event
   pub paused_longer : (since now : ℕ) (client_view : Bool) (p q : Spot D) → Pauses since now client_view p q → length p.events + 1 ≤ length q.events
@@ -102,9 +102,9 @@ module _ {D : Type 0} where
       earlier before since now true p q le (subst (λ (b : Bool). Pauses since now b p q) receives paused)
 
   -- the end of a drain is that of the executor after the turn
-  pub told_end_at : (t : Terms) (turns now : ℕ) (end : TurnEnd) (told q : Spot D) (asked : Bool) (given found : Option DrainEnd)
-      → q.executor ≡ told.executor → given ≡ end_behind t turns now end asked → asked ≡ not (any_busy q.executor.state) → given ≡ found
-      → end_at t turns now end told.executor ≡ found
-  told_end_at t turns now end told q asked given found same is was so =
-      told_end t turns now end (not (any_busy told.executor.state)) asked given found is
+  pub sent_end_at : (t : Terms) (turns now : ℕ) (end : TurnEnd) (reported q : Spot D) (asked : Bool) (given found : Option DrainEnd)
+      → q.executor ≡ reported.executor → given ≡ end_behind t turns now end asked → asked ≡ not (any_busy q.executor.state) → given ≡ found
+      → end_at t turns now end reported.executor ≡ found
+  sent_end_at t turns now end reported q asked given found same is was so =
+      sent_end t turns now end (not (any_busy reported.executor.state)) asked given found is
       (was ∙ ap (λ (x : ExecutorView D). not (any_busy x.state)) same) so

@@ -4,13 +4,13 @@ use Rattle.std.proofs.lemmas.List.{append-nil}
 use Rattle.std.specs.Prelude.{is_ok}
 use Rattle.exec_commands.specs.declared.notice.NoticeForm.{NoticeForm}
 use Rattle.exec_client.specs.ClientView.{Receives, ReceivesPart}
-use Rattle.exec_client.specs.Said.{Said}
+use Rattle.exec_client.specs.SentItem.{SentItem}
 use Rattle.executor.specs.ExecutorView.{ExecutorView}
 use Rattle.exec_trace.specs.Edges.{EdgeView, rest_events}
 use Rattle.exec_trace.specs.Events.{later_of, last_shown}
 use Rattle.exec_trace.specs.declared.event.IoEvent.{IoEvent}
 use Rattle.exec_trace.specs.declared.event.IoEvent.TheVariants.{Asked, Looked, Peeked, Read, Rested, Sent, Shown}
-use Rattle.exec_session.specs.Spots.{Keeps, Lasts, MayBreakOff, Pauses, Position, Spot, Tells, TellsPart, at_of, noted, paused, spot}
+use Rattle.exec_session.specs.Spots.{Keeps, Lasts, MayBreakOff, Pauses, Position, Spot, SendsAll, SendsPart, at_of, noted, paused, spot}
 
 -- a clock reading at the end is the last one
 pub shown_last : (es : List IoEvent) (now : ℕ) → last_shown (es ++ Shown now ∷ []) ≡ Some now
@@ -77,27 +77,27 @@ module _ {D : Type 0} where
   pub pause_keeps : (since now : ℕ) (client_view : Bool) (p q : Position D) → q.left ≡ p.left → Pauses since now client_view p.at q.at → Keeps p q
   pause_keeps since now client_view p q left paused = (pause_lasts since now client_view p.at q.at paused, left)
 
-  pub told_lasts : (form : NoticeForm) (p q : Spot D) (said : List Said) → Tells form p q said → Lasts p q
-  told_lasts form p q said tells = record { opened = tells.receives.told.0; later = Sent true ∷ []; grows = tells.events }
+  pub sent_lasts : (form : NoticeForm) (p q : Spot D) (items : List SentItem) → SendsAll form p q items → Lasts p q
+  sent_lasts form p q items sends_all = record { opened = sends_all.receives.reported.0; later = Sent true ∷ []; grows = sends_all.events }
 
-  pub part_lasts : (form : NoticeForm) (p q : Spot D) (said : List Said) → TellsPart form p q said → Lasts p q
-  part_lasts form p q said tells = record { opened = tells.receives.told.0; later = Sent false ∷ []; grows = tells.events }
+  pub part_lasts : (form : NoticeForm) (p q : Spot D) (items : List SentItem) → SendsPart form p q items → Lasts p q
+  part_lasts form p q items sends_all = record { opened = sends_all.receives.reported.0; later = Sent false ∷ []; grows = sends_all.events }
 
   -- the messages of an edge to its client, from this view of the executor
-  module _ (form : NoticeForm) (said : List Said) (x : ExecutorView D) (e e' : EdgeView D) where
+  module _ (form : NoticeForm) (items : List SentItem) (x : ExecutorView D) (e e' : EdgeView D) where
     abbrev Old : Spot D
     Old = spot x e.client_view e.events
 
     abbrev New : Spot D
     New = spot x e'.client_view e'.events
 
-    pub sends : {E : Type 0} (r : Result Unit E) → OnOk r (Receives form e.client_view e'.client_view said)
-        → e'.events ≡ e.events ++ Sent (is_ok r) ∷ [] → OnOk r (Tells form Old New said)
+    pub sends : {E : Type 0} (r : Result Unit E) → OnOk r (Receives form e.client_view e'.client_view items)
+        → e'.events ≡ e.events ++ Sent (is_ok r) ∷ [] → OnOk r (SendsAll form Old New items)
     sends (Ok done) receives is = record { executor = refl; receives = receives; events = is }
     sends (Err fault) receives is = tt
 
-    pub sends_part : {E : Type 0} (r : Result Unit E) → OnErr r (ReceivesPart form e.client_view e'.client_view said)
-        → e'.events ≡ e.events ++ Sent (is_ok r) ∷ [] → OnErr r (TellsPart form Old New said)
+    pub sends_part : {E : Type 0} (r : Result Unit E) → OnErr r (ReceivesPart form e.client_view e'.client_view items)
+        → e'.events ≡ e.events ++ Sent (is_ok r) ∷ [] → OnErr r (SendsPart form Old New items)
     sends_part (Ok done) receives is = tt
     sends_part (Err fault) receives is = record { executor = refl; receives = receives; events = is }
 
@@ -107,8 +107,8 @@ module _ {D : Type 0} where
 
     pub send_keeps : (r : Bool) (p : Position D) (y : ExecutorView D) → at_of y e ≡ p → e'.client_view.opened ≡ e.client_view.opened → e'.left ≡ e.left
         → e'.events ≡ e.events ++ Sent r ∷ [] → Keeps p (at_of x e')
-    send_keeps r p y is told left events =
-        subst (λ (P : Position D). Keeps P (at_of x e')) is (record { opened = told; later = Sent r ∷ []; grows = events }, left)
+    send_keeps r p y is reported left events =
+        subst (λ (P : Position D). Keeps P (at_of x e')) is (record { opened = reported; later = Sent r ∷ []; grows = events }, left)
 
 -- a fact about any value, or about any error
 pub ok_map : {T E : Type 0} (r : Result T E) (A B : Type 0) → (A → B) → OnOk r A → OnOk r B

@@ -7,12 +7,12 @@ use Rattle.disk_model.specs.View.{View}
 use Rattle.exec_commands.specs.declared.line.Line.{Line}
 use Rattle.exec_commands.specs.declared.line.Line.TheVariants as line
 use Rattle.exec_commands.specs.declared.reply.LineReply.TheVariants as answer
-use Rattle.exec_client.specs.Said.{Answered}
+use Rattle.exec_client.specs.SentItem.{Answered}
 use Rattle.exec_session.specs.Answers.{Source}
 use Rattle.exec_session.specs.Held.{AnswersHeld, MayAnswerAtOnce, MayTakeAtOnce, asks}
 use Rattle.exec_session.specs.Progress.{AnswersSo}
 use Rattle.exec_session.specs.Rules.{Rules}
-use Rattle.exec_session.specs.Spots.{MayBreakOff, Spot, Telling, TellsPart}
+use Rattle.exec_session.specs.Spots.{MayBreakOff, Spot, Sending, SendsPart}
 use Rattle.exec_session.specs.declared.context.Way.{Way}
 use Rattle.exec_session.specs.declared.context.Way.TheVariants.{Run}
 use Rattle.exec_session.specs.declared.held.Held.{Held}
@@ -38,22 +38,22 @@ found_at_once way is found.Empty = tt
 found_at_once way is found.End = tt
 
 -- an open executor replied to a held line with what the source gave
-pub answered_held : {D : Type 0} (tells_so : Telling D) (look : D → View) (source : Source) (rules : Rules)
+pub answered_held : {D : Type 0} (sends_so : Sending D) (look : D → View) (source : Source) (rules : Rules)
     (provider agent : List ℕ) (limit : Option ℕ) (given : Result (Vec ℕ) MetaFault) (p q : Spot D) → p.executor.is_open ≡ true
-    → source provider agent limit given → tells_so p q (Answered (answer.Meta given) ∷ [])
-    → AnswersSo tells_so look source rules (Ok (line.Meta provider agent limit)) p q
-answered_held tells_so look source rules provider agent limit given p q is_open gives tells = record {
+    → source provider agent limit given → sends_so p q (Answered (answer.Meta given) ∷ [])
+    → AnswersSo sends_so look source rules (Ok (line.Meta provider agent limit)) p q
+answered_held sends_so look source rules provider agent limit given p q is_open gives sends_all = record {
   reply = answer.Meta given;
   noticed = p;
   answered = record {
     while_open = λ _. ((given, gives, refl), refl);
     once_closed = λ closed. absurd (true≢false (sym is_open ∙ closed));
   };
-  tells = tells;
+  sends_all = sends_all;
 }
 
 pub held_err : {D E : Type 0} (look : D → View) (source : Source) (rules : Rules) (held : Held) (p q : Spot D) (r : Result Bool E)
-    → IsErr r → AnswersSo (TellsPart rules.form) look source rules (Ok (asks held)) p q → MayBreakOff q.events
+    → IsErr r → AnswersSo (SendsPart rules.form) look source rules (Ok (asks held)) p q → MayBreakOff q.events
     → AnswersHeld look source rules held p q r
 held_err look source rules held p q (Ok done) bad broke cause = let none : ⊥ = cc in absurd none
 held_err look source rules held p q (Err fault) bad broke cause = (broke, cause)

@@ -5,16 +5,16 @@ use Rattle.disk_model.specs.View.{View}
 use Rattle.executor.specs.ExecutorView.{ExecutorView}
 use Rattle.executor.specs.TurnCalls.{FinishesTurn, FinishesWhile, with_empty_book}
 use Rattle.exec_turn.specs.Actives.{any_running}
-use Rattle.exec_client.specs.MayTell.{StandsBehind}
-use Rattle.exec_client.specs.Tells.{noticed}
+use Rattle.exec_client.specs.MaySend.{StandsBehind}
+use Rattle.exec_client.specs.Sends.{noticed}
 use Rattle.exec_client.proofs.Growing.{both_stand, cleared_stands, finish_stands}
 use Rattle.exec_session.specs.Leaving.{FinishReceived, WindsOne}
-use Rattle.exec_session.specs.Spots.{Spot, Telling}
+use Rattle.exec_session.specs.Spots.{Spot, Sending}
 
 -- the notices of a turn that begins nothing are backed by what it recorded
-pub finish_told : {D : Type 0} (look : D → View) (now : ℕ) (x y z : ExecutorView D) (end : TurnEnd) → y ≡ with_empty_book x → x.is_open ≡ true
+pub finish_sent : {D : Type 0} (look : D → View) (now : ℕ) (x y z : ExecutorView D) (end : TurnEnd) → y ≡ with_empty_book x → x.is_open ≡ true
     → FinishesTurn look now y z end → StandsBehind look x z (noticed z)
-finish_told look now x y z end cleared is_open takes =
+finish_sent look now x y z end cleared is_open takes =
     both_stand look x y z [] (noticed z) (cleared_stands look x y cleared)
     (finish_stands look now y z end (subst (λ (c : ExecutorView _). c.is_open ≡ true) (sym cleared) is_open) takes)
 
@@ -26,6 +26,6 @@ finish_taken {D} look now x y z end cleared is_open does =
     subst (λ (c : ExecutorView D). FinishesTurn look now c z end) cleared (subst (λ (b : Bool). FinishesWhile b look now y z end) still does)
 
 -- the same while an action runs
-pub winds_one : {D : Type 0} (tells_so : Telling D) (look : D → View) (p q : Spot D) → p.executor.is_open ≡ true
-    → any_running p.executor.state ≡ true → FinishReceived tells_so look p q → WindsOne tells_so look p q
-winds_one tells_so look p q is_open runs client_view = record { is_open = is_open; runs = runs; client_view = client_view }
+pub winds_one : {D : Type 0} (sends_so : Sending D) (look : D → View) (p q : Spot D) → p.executor.is_open ≡ true
+    → any_running p.executor.state ≡ true → FinishReceived sends_so look p q → WindsOne sends_so look p q
+winds_one sends_so look p q is_open runs client_view = record { is_open = is_open; runs = runs; client_view = client_view }

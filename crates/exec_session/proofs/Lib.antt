@@ -5,7 +5,7 @@ pub mod DrainLemmas
 pub mod WaitLemmas
 pub mod RoundLemmas
 pub mod CallLemmas
-pub mod TellLemmas
+pub mod SendLemmas
 pub mod HeldLemmas
 pub mod LeaveLemmas
 pub mod StepLemmas

@@ -5,7 +5,7 @@ use Rattle.ocf_types.specs.declared.refusal.Refusal.TheVariants.{Memory}
 use Rattle.exec_commands.specs.declared.line.Line.{Line}
 use Rattle.exec_commands.specs.declared.notice.NoticeForm.{NoticeForm}
 use Rattle.exec_session.specs.Progress.{IsNotedAs, ReadsInput, ReadsLine}
-use Rattle.exec_session.specs.Reports.{ReadyBreaks, TellsReady}
+use Rattle.exec_session.specs.Reports.{ReadyBreaks, SendsReady}
 use Rattle.exec_session.specs.Spots.{Position, Spot}
 use Rattle.exec_session.specs.Steps.{Steps}
 use Rattle.exec_session.specs.declared.context.Way.{Way}
@@ -48,11 +48,11 @@ noted_reads refuses Serve left now found.End g reads same =
 
 -- in `run` nothing is sent
 pub ready_none : {D T E : Type 0} (way : Way) (form : NoticeForm) (p : Position D) (x : T) → way ≡ Run
-    → Steps {E = E} (TellsReady way form p.at) (ReadyBreaks way form p.at) p p (Ok x)
+    → Steps {E = E} (SendsReady way form p.at) (ReadyBreaks way form p.at) p p (Ok x)
 ready_none Run form p x is = record { keeps = here_keeps p; done = refl; breaks = tt; cause = tt }
 ready_none Serve form p x is = let none : ⊥ = cc in absurd none
 
 -- the executor stays as it was
-pub ready_still : {D : Type 0} (way : Way) (form : NoticeForm) (p q : Spot D) → TellsReady way form p q → q.executor ≡ p.executor
+pub ready_still : {D : Type 0} (way : Way) (form : NoticeForm) (p q : Spot D) → SendsReady way form p q → q.executor ≡ p.executor
 ready_still Run form p q same = ap (λ (s : Spot _). s.executor) same
-ready_still Serve form p q tells = tells.executor
+ready_still Serve form p q sends_all = sends_all.executor

@@ -23,7 +23,7 @@ use Rattle.exec_session.specs.Pending.{IsClear}
 use Rattle.exec_session.specs.Rules.{Rules}
 use Rattle.exec_session.specs.Looks.{HasLooked, Lines, misses_in, reads_in}
 use Rattle.exec_session.specs.Runs.{IsWait, MakesOwnTurn, MakesTurns, MayGoOn, MayRest, MayTurn, OwnTurn, Reaches, ReachesFault, ReachesLeave, answers, of_command, turn, turned}
-use Rattle.exec_session.specs.Spots.{Lasts, MayBreakOff, Position, Spot, TellsPart, behind, noted, paused, position, spot}
+use Rattle.exec_session.specs.Spots.{Lasts, MayBreakOff, Position, Spot, SendsPart, behind, noted, paused, position, spot}
 use Rattle.exec_session.specs.Progress.{Answers, AnswersSo}
 use Rattle.exec_session.specs.Waiting.{Comes, ComesOrEnds, GoesRound, HasCome, HasComeRound, IsReadTo, IsRound, IsSince, LooksOnce, MayBegin, MayTakeBehind, MayWait, Midway, Rounds, Stage, Waits, WaitsForThere, midway, more, still}
 use Rattle.exec_session.specs.declared.context.Way.{Way}
@@ -234,7 +234,7 @@ module _ {D : Type 0} (look : D → View) (source : Source) (rules : Rules) (p :
 
   pub held_breaks : (most : ℕ) (commands : List Command) (held : Option Held) (h : Held) (kept : List ℕ) (place : Position D) (s : Spot D)
       → commands ≡ [] → held ≡ Some h → Come most place commands held kept
-      → AnswersSo (TellsPart rules.form) look source rules (Ok (asks h)) place.at s × MayBreakOff s.events → BreaksOff look source rules p s
+      → AnswersSo (SendsPart rules.form) look source rules (Ok (asks h)) place.at s × MayBreakOff s.events → BreaksOff look source rules p s
   held_breaks most commands held h kept place s none is come (broke, cause) = record {
     own = own;
     count = come.count;

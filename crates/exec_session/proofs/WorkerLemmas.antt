@@ -6,9 +6,9 @@ use Rattle.ocf_types.specs.declared.reply.TurnEnd.TheVariants.{Disk}
 use Rattle.disk_model.specs.View.{View}
 use Rattle.executor.specs.ExecutorView.{ExecutorView}
 use Rattle.executor.specs.TurnCalls.{FinishesTurn, TakesTurn, with_empty_book}
-use Rattle.exec_client.specs.MayTell.{AllStand}
-use Rattle.exec_client.specs.Said.{answered}
-use Rattle.exec_client.specs.Tells.{noticed}
+use Rattle.exec_client.specs.MaySend.{AllStand}
+use Rattle.exec_client.specs.SentItem.{answered}
+use Rattle.exec_client.specs.Sends.{noticed}
 use Rattle.exec_trace.specs.Edges.{EdgeView, noting, rested}
 use Rattle.exec_trace.specs.Events.{last_shown}
 use Rattle.exec_trace.specs.declared.event.IoEvent.{IoEvent}
@@ -17,7 +17,7 @@ use Rattle.exec_session.specs.Drains.{TurnReceived}
 use Rattle.exec_session.specs.Leaving.{FinishReceived}
 use Rattle.exec_session.specs.Pausing.{IsShort}
 use Rattle.exec_session.specs.Rules.{MakesRoom, Rules}
-use Rattle.exec_session.specs.Spots.{Pauses, Position, Spot, Telling, Tells, TellsPart, at_of, moved, noted, spot}
+use Rattle.exec_session.specs.Spots.{Pauses, Position, Spot, Sending, SendsAll, SendsPart, at_of, moved, noted, spot}
 use Rattle.exec_session.specs.Together.{AnswersAll, ServesTogether, TogetherReceived}
 use Rattle.exec_session.specs.Broken.{BatchBreaks}
 
@@ -51,40 +51,40 @@ module _ {D : Type 0} where
     pub stands_part : (x : ExecutorView D) (e : EdgeView D) (p : Position D) → at_of x e ≡ p → AllStand look e.client_view x → AllStand look p.at.client_view p.at.executor
     stands_part x e p is stands = whole (λ (P : Position D). AllStand look P.at.client_view P.at.executor) x e p is stands
 
-  module _ (tells_so : Telling D) (look : D → View) where
+  module _ (sends_so : Sending D) (look : D → View) where
     pub turn_heard : (rules : Rules) (now : ℕ) (x c m y : ExecutorView D) (e : EdgeView D) (p : Position D) (q : Spot D) (end : TurnEnd)
         → at_of x e ≡ p → last_shown p.at.events ≡ Some now → c ≡ with_empty_book x → MakesRoom look rules now c m → m.is_open ≡ true
-        → q.executor ≡ y → TakesTurn look now m y end → tells_so (spot y e.client_view e.events) q (noticed y)
-        → TurnReceived tells_so look rules now p.at q end
-    turn_heard rules now x c m y e p q end is shown cleared room is_open same takes tells =
-        whole (λ (P : Position D). TurnReceived tells_so look rules now P.at q end) x e p is (record {
+        → q.executor ≡ y → TakesTurn look now m y end → sends_so (spot y e.client_view e.events) q (noticed y)
+        → TurnReceived sends_so look rules now p.at q end
+    turn_heard rules now x c m y e p q end is shown cleared room is_open same takes sends_all =
+        whole (λ (P : Position D). TurnReceived sends_so look rules now P.at q end) x e p is (record {
           shown = parts (λ (P : Position D). last_shown P.at.events ≡ Some now) x e p is shown;
           middle = m;
           room = subst (λ (z : ExecutorView D). MakesRoom look rules now z m) cleared room;
           takes = λ _. subst (λ (z : ExecutorView D). TakesTurn look now m z end) (sym same) takes;
-          tells = λ _. subst (λ (z : ExecutorView D). tells_so (spot z e.client_view e.events) q (noticed z)) (sym same) tells;
+          sends_all = λ _. subst (λ (z : ExecutorView D). sends_so (spot z e.client_view e.events) q (noticed z)) (sym same) sends_all;
           fails = λ closed. absurd (true≢false (sym is_open ∙ closed));
         })
 
     -- the executor closed in the tidy
     pub turn_failed : (rules : Rules) (now : ℕ) (x c m : ExecutorView D) (e : EdgeView D) (p : Position D)
         → at_of x e ≡ p → last_shown p.at.events ≡ Some now → c ≡ with_empty_book x → MakesRoom look rules now c m → m.is_open ≡ false
-        → TurnReceived tells_so look rules now p.at (spot m e.client_view e.events) Disk
+        → TurnReceived sends_so look rules now p.at (spot m e.client_view e.events) Disk
     turn_failed rules now x c m e p is shown cleared room closed =
-        whole (λ (P : Position D). TurnReceived tells_so look rules now P.at (spot m e.client_view e.events) Disk) x e p is (record {
+        whole (λ (P : Position D). TurnReceived sends_so look rules now P.at (spot m e.client_view e.events) Disk) x e p is (record {
           shown = parts (λ (P : Position D). last_shown P.at.events ≡ Some now) x e p is shown;
           middle = m;
           room = subst (λ (z : ExecutorView D). MakesRoom look rules now z m) cleared room;
           takes = λ is_open. absurd (true≢false (sym is_open ∙ closed));
-          tells = λ is_open. absurd (true≢false (sym is_open ∙ closed));
+          sends_all = λ is_open. absurd (true≢false (sym is_open ∙ closed));
           fails = λ _. (refl, refl);
         })
 
     -- a turn that begins nothing, at the clock reading
     pub finish_heard : (now : ℕ) (x y : ExecutorView D) (e : EdgeView D) (p m : Position D) (q : Spot D) (end : TurnEnd)
         → m ≡ noted p (Shown now) → at_of x e ≡ m → q.executor ≡ y → FinishesTurn look now (with_empty_book x) y end
-        → tells_so (spot y e.client_view e.events) q (noticed y) → FinishReceived tells_so look p.at q
-    finish_heard now x y e p m q end is_noted is same takes tells =
+        → sends_so (spot y e.client_view e.events) q (noticed y) → FinishReceived sends_so look p.at q
+    finish_heard now x y e p m q end is_noted is same takes sends_all =
         let is_p = is ∙ is_noted in
         let x_is : x ≡ p.at.executor = ap (λ (P : Position D). P.at.executor) is_p in record {
           now = now;
@@ -92,17 +92,17 @@ module _ {D : Type 0} where
           takes =
               subst (λ (z : ExecutorView D). FinishesTurn look now (with_empty_book p.at.executor) z end) (sym same)
               (subst (λ (z : ExecutorView D). FinishesTurn look now (with_empty_book z) y end) x_is takes);
-          tells =
-              subst (λ (s : Spot D). tells_so s q (noticed q.executor)) (ap (λ (P : Position D). moved P.at q.executor) is_p)
-              (subst (λ (z : ExecutorView D). tells_so (spot z e.client_view e.events) q (noticed z)) (sym same) tells);
+          sends_all =
+              subst (λ (s : Spot D). sends_so s q (noticed q.executor)) (ap (λ (P : Position D). moved P.at q.executor) is_p)
+              (subst (λ (z : ExecutorView D). sends_so (spot z e.client_view e.events) q (noticed z)) (sym same) sends_all);
         }
 
     -- a group commit
     pub together_heard : (rules : Rules) (now : ℕ) (commands : List Command) (x y : ExecutorView D) (e : EdgeView D) (p m : Position D) (q : Spot D)
         (given : List Reply) → m ≡ noted p (Shown now) → at_of x e ≡ m → q.executor ≡ y
-        → ServesTogether look rules now commands x y given → tells_so (spot y e.client_view e.events) q (map answered given)
-        → TogetherReceived tells_so look rules commands p.at q
-    together_heard rules now commands x y e p m q given is_noted is same serves tells =
+        → ServesTogether look rules now commands x y given → sends_so (spot y e.client_view e.events) q (map answered given)
+        → TogetherReceived sends_so look rules commands p.at q
+    together_heard rules now commands x y e p m q given is_noted is same serves sends_all =
         let is_p = is ∙ is_noted in
         let x_is : x ≡ p.at.executor = ap (λ (P : Position D). P.at.executor) is_p in record {
           now = now;
@@ -110,20 +110,20 @@ module _ {D : Type 0} where
           serves =
               subst (λ (z : ExecutorView D). ServesTogether look rules now commands p.at.executor z given) (sym same)
               (subst (λ (z : ExecutorView D). ServesTogether look rules now commands z y given) x_is serves);
-          tells =
-              subst (λ (s : Spot D). tells_so s q (map answered given)) (ap (λ (P : Position D). moved P.at q.executor) is_p)
-              (subst (λ (z : ExecutorView D). tells_so (spot z e.client_view e.events) q (map answered given)) (sym same) tells);
+          sends_all =
+              subst (λ (s : Spot D). sends_so s q (map answered given)) (ap (λ (P : Position D). moved P.at q.executor) is_p)
+              (subst (λ (z : ExecutorView D). sends_so (spot z e.client_view e.events) q (map answered given)) (sym same) sends_all);
         }
 
 module _ {D : Type 0} (look : D → View) (rules : Rules) where
   -- there was a command that waited
   pub all_answered : {T E : Type 0} (r : Result T E) (commands : List Command) (p q : Spot D) → (commands ≡ [] → ⊥)
-      → OnOk r (TogetherReceived (Tells rules.form) look rules commands p q) → OnOk r (AnswersAll look rules commands p q)
+      → OnOk r (TogetherReceived (SendsAll rules.form) look rules commands p q) → OnOk r (AnswersAll look rules commands p q)
   all_answered r [] p q some client_view = absurd (some refl)
   all_answered r (first ∷ others) p q some client_view = client_view
 
   pub batch_broken : {T E : Type 0} (r : Result T E) (commands : List Command) (p q : Spot D) → (commands ≡ [] → ⊥)
-      → OnErr r (TogetherReceived (TellsPart rules.form) look rules commands p q) → OnErr r (BatchBreaks look rules commands p q)
+      → OnErr r (TogetherReceived (SendsPart rules.form) look rules commands p q) → OnErr r (BatchBreaks look rules commands p q)
   batch_broken r [] p q some client_view = absurd (some refl)
   batch_broken r (first ∷ others) p q some client_view = client_view
 

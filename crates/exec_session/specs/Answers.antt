@@ -24,11 +24,11 @@ use Rattle.exec_commands.specs.declared.reply.LineReply.{LineReply}
 use Rattle.exec_commands.specs.declared.reply.LineReply.TheVariants as answer
 use Rattle.exec_commands.specs.declared.statuses.Statuses.{Statuses}
 use Rattle.resource_status.specs.Statuses.{statuses_of}
-use Rattle.exec_client.specs.Said.{Answered}
+use Rattle.exec_client.specs.SentItem.{Answered}
 use Rattle.exec_trace.specs.declared.event.IoEvent.TheVariants.{Shown}
 use Rattle.exec_session.specs.Drains.{Drains}
 use Rattle.exec_session.specs.Rules.{Rules, MakesRoom}
-use Rattle.exec_session.specs.Spots.{Spot, Telling, behind, moved}
+use Rattle.exec_session.specs.Spots.{Spot, Sending, behind, moved}
 use Rattle.exec_session.specs.declared.context.Way.{Way}
 use Rattle.exec_session.specs.declared.context.Way.TheVariants.{Run, Serve}
 
@@ -90,12 +90,12 @@ DrainsFor look ends_idle limit rules p q reply =
     × Drains look rules (record { ends_idle = ends_idle; until = now + limit; most = rules.most_turns }) now (behind p (Shown now)) q end
 
 -- A drain, and then a reply that says how it ended, which is sent like this.
-pub record DrainTold {D : Type 0} (tells_so : Telling D) (look : D → View) (ends_idle : Bool) (limit : ℕ) (rules : Rules)
+pub record DrainSent {D : Type 0} (sends_so : Sending D) (look : D → View) (ends_idle : Bool) (limit : ℕ) (rules : Rules)
     (p q : Spot D) : Type 0 where
   pub reply : LineReply
   pub noticed : Spot D
   pub drains : DrainsFor look ends_idle limit rules p noticed reply
-  pub tells : tells_so noticed q (Answered reply ∷ [])
+  pub sends_all : sends_so noticed q (Answered reply ∷ [])
 
 -- An open executor serves a request: the clock is read, a due tidy is made, and then the request is served. If a disk fault closed the
 -- executor in the tidy, the request is refused for that and nothing else is done.
@@ -104,7 +104,7 @@ pub record ServesNow {D : Type 0} (look : D → View) (rules : Rules) (request :
   pub now : ℕ
   pub middle : ExecutorView D
   pub given : Reply
-  pub told : reply ≡ answer.Request given
+  pub reported : reply ≡ answer.Request given
   pub shown : q ≡ behind (moved p q.executor) (Shown now)
   pub room : MakesRoom look rules now p.executor middle
   pub serves : middle.is_open ≡ true → Serves look now request middle q.executor given

@@ -17,24 +17,24 @@ use Rattle.exec_session.specs.Broken.{ReplyBreaks, BatchBreaks}
 use Rattle.exec_session.specs.Drains.{MakesTurn, TurnReceived}
 use Rattle.exec_session.specs.Leaving.{LeaveBreaks}
 use Rattle.exec_session.specs.Progress.{Answers, AnswersSo}
-use Rattle.exec_session.specs.Reports.{ReadyBreaks, ReportBreaks, TellsReady, TellsReport, ended}
+use Rattle.exec_session.specs.Reports.{ReadyBreaks, ReportBreaks, SendsReady, SendsReport, ended}
 use Rattle.exec_session.specs.Rules.{Rules}
 use Rattle.exec_session.specs.Looks.{Lines}
 use Rattle.exec_session.specs.Runs.{Finishes, MakesTurns, MayGoOn, MayTurn, NewsSo, OwnTurn, Reaches, of_command}
-use Rattle.exec_session.specs.Spots.{MayBreakOff, Position, Spot, TellsPart, behind}
+use Rattle.exec_session.specs.Spots.{MayBreakOff, Position, Spot, SendsPart, behind}
 use Rattle.exec_session.specs.Steps.{Steps}
 
 -- A session broke off in an own turn: the client received a prefix of its notices, or of the line that says how it ended.
 pub data OwnTurnBreaks {D : Type 0} (look : D → View) (rules : Rules) (before : TurnEnd) (p q : Spot D) : Type 0 where
-  in_notices : (now : ℕ) (end : TurnEnd) → TurnReceived (TellsPart rules.form) look rules now (behind p (Shown now)) q end
+  in_notices : (now : ℕ) (end : TurnEnd) → TurnReceived (SendsPart rules.form) look rules now (behind p (Shown now)) q end
       → OwnTurnBreaks look rules before p q
   in_end : (now : ℕ) (end : TurnEnd) (noticed : Spot D) → MakesTurn look rules now (behind p (Shown now)) noticed end
-      → NewsSo (TellsPart rules.form) before end noticed q → OwnTurnBreaks look rules before p q
+      → NewsSo (SendsPart rules.form) before end noticed q → OwnTurnBreaks look rules before p q
 
 -- a session broke off in answering a line: in the reply, or, if the executor is open, before it
 abbrev pub AnswerBreaks : {D : Type 0} → (D → View) → Source → Rules → Result Line Refusal → Spot D → Spot D → Type 0
 AnswerBreaks look source rules found p q =
-    AnswersSo (TellsPart rules.form) look source rules found p q
+    AnswersSo (SendsPart rules.form) look source rules found p q
     ⊎ ((p.executor.is_open ≡ true) × ReplyBreaks look rules p q found)
 
 -- a line is answered, or its answer breaks off
@@ -56,7 +56,7 @@ pub data BreaksIn {D : Type 0} (look : D → View) (source : Source) (rules : Ru
       → BatchBreaks look rules commands m.at q → BreaksIn look source rules own lines m q
   in_own_turn : MayTurn rules.way own lines m.at → OwnTurnBreaks look rules own.end m.at q
       → BreaksIn look source rules own lines m q
-  in_fault : MakesTurns rules.way → m.at.executor.is_open ≡ false → TellsPart rules.form m.at q (ended Disk ∷ [])
+  in_fault : MakesTurns rules.way → m.at.executor.is_open ≡ false → SendsPart rules.form m.at q (ended Disk ∷ [])
       → BreaksIn look source rules own lines m q
   in_leave : MakesTurns rules.way → lines ≡ Ok line.Leave ∷ [] → m.at.executor.is_open ≡ true → LeaveBreaks look rules m.at q
       → BreaksIn look source rules own lines m q
@@ -81,8 +81,8 @@ EndsOrBreaks look source rules p q (Err fault) = BreaksOff look source rules p q
 pub data RunBreaks {D N : Type 0} (look : D → View) (source : Source) (rules : Rules) (report : Report N)
     (p : Position D) (q : Spot D) : Type 0 where
   in_report : ReportBreaks rules.form report p.at q → RunBreaks look source rules report p q
-  in_ready : (reported : Spot D) → TellsReport rules.form report p.at reported
-      → ReadyBreaks rules.way rules.form reported q → RunBreaks look source rules report p q
-  behind_ready : (reported begun : Spot D) → TellsReport rules.form report p.at reported
-      → TellsReady rules.way rules.form reported begun
+  in_ready : (opening_report : Spot D) → SendsReport rules.form report p.at opening_report
+      → ReadyBreaks rules.way rules.form opening_report q → RunBreaks look source rules report p q
+  behind_ready : (opening_report begun : Spot D) → SendsReport rules.form report p.at opening_report
+      → SendsReady rules.way rules.form opening_report begun
       → BreaksOff look source rules (record p { at = begun }) q → RunBreaks look source rules report p q

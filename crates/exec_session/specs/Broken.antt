@@ -8,23 +8,23 @@ use Rattle.exec_commands.specs.declared.line.Line.{Line}
 use Rattle.exec_commands.specs.declared.line.Line.TheVariants as line
 use Rattle.exec_trace.specs.declared.event.IoEvent.TheVariants.{Shown}
 use Rattle.exec_session.specs.declared.drain.Terms.{Terms}
-use Rattle.exec_session.specs.Answers.{DrainTold}
+use Rattle.exec_session.specs.Answers.{DrainSent}
 use Rattle.exec_session.specs.Drains.{GoesOn, MakesTurn, TurnReceived}
 use Rattle.exec_session.specs.Rules.{Rules}
-use Rattle.exec_session.specs.Spots.{Pauses, Spot, TellsPart, behind}
+use Rattle.exec_session.specs.Spots.{Pauses, Spot, SendsPart, behind}
 use Rattle.exec_session.specs.Together.{TogetherReceived}
 
 -- a turn at this time broke off in its notices
 abbrev pub TurnBreaks : {D : Type 0} → (D → View) → Rules → ℕ → Spot D → Spot D → Type 0
-TurnBreaks look rules now p q = (end : TurnEnd) × TurnReceived (TellsPart rules.form) look rules now p q end
+TurnBreaks look rules now p q = (end : TurnEnd) × TurnReceived (SendsPart rules.form) look rules now p q end
 
 -- A drain broke off in a turn, of whose notices a prefix was written, or after one, where nobody read the output any more; or its loop
 -- has gone round as often as it can.
 pub data DrainBreaks {D : Type 0} (look : D → View) (rules : Rules) (t : Terms) (start : ℕ) (p q : Spot D) : Type 0 where
   in_turn : (turns now : ℕ) (m : Spot D) (end : TurnEnd) → GoesOn look rules t start p turns now m
-      → TurnReceived (TellsPart rules.form) look rules now m q end → DrainBreaks look rules t start p q
-  unheard : (turns now : ℕ) (m told : Spot D) (end : TurnEnd) → GoesOn look rules t start p turns now m
-      → MakesTurn look rules now m told end → Pauses start now false told q → DrainBreaks look rules t start p q
+      → TurnReceived (SendsPart rules.form) look rules now m q end → DrainBreaks look rules t start p q
+  unheard : (turns now : ℕ) (m reported : Spot D) (end : TurnEnd) → GoesOn look rules t start p turns now m
+      → MakesTurn look rules now m reported end → Pauses start now false reported q → DrainBreaks look rules t start p q
   spent : (turns now : ℕ) → GoesOn look rules t start p turns now q → DrainBreaks look rules t start p q
 
 -- the same of a drain of at most this many milliseconds from the next clock reading on
@@ -35,7 +35,7 @@ DrainBreaksFor look ends_idle limit rules p q =
 -- the same, or its reply broke off
 abbrev pub DrainEndsEarly : {D : Type 0} → (D → View) → Bool → ℕ → Rules → Spot D → Spot D → Type 0
 DrainEndsEarly look ends_idle limit rules p q =
-    DrainTold (TellsPart rules.form) look ends_idle limit rules p q ⊎ DrainBreaksFor look ends_idle limit rules p q
+    DrainSent (SendsPart rules.form) look ends_idle limit rules p q ⊎ DrainBreaksFor look ends_idle limit rules p q
 
 -- An open executor broke off in answering a line before the reply was sent: only a drain or a watch can.
 abbrev pub ReplyBreaks : {D : Type 0} → (D → View) → Rules → Spot D → Spot D → Result Line Refusal → Type 0
@@ -46,4 +46,4 @@ ReplyBreaks look rules p q _ = ⊥
 -- a group commit was answered, and a prefix of its replies was written
 abbrev pub BatchBreaks : {D : Type 0} → (D → View) → Rules → List Command → Spot D → Spot D → Type 0
 BatchBreaks look rules [] p q = ⊥
-BatchBreaks look rules (first ∷ others) p q = TogetherReceived (TellsPart rules.form) look rules (first ∷ others) p q
+BatchBreaks look rules (first ∷ others) p q = TogetherReceived (SendsPart rules.form) look rules (first ∷ others) p q

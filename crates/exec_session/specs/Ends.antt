@@ -5,13 +5,13 @@ use Rattle.child_model.specs.Children.{ChildrenView, given_up}
 use Rattle.executor.specs.ExecutorView.{ExecutorView}
 use Rattle.executor.specs.declared.report.Report.{Report}
 use Rattle.exec_client.specs.ClientView.{ClientView}
-use Rattle.exec_client.specs.MayTell.{StandsBehind}
+use Rattle.exec_client.specs.MaySend.{StandsBehind}
 use Rattle.exec_trace.specs.Edges.{EdgeView}
 use Rattle.exec_faults.specs.declared.fault.Fault.{Fault}
 use Rattle.exec_faults.specs.declared.fault.Fault.TheVariants.{Disk, InputOrOutput, ReplyMemory}
 use Rattle.exec_session.specs.Answers.{Source}
 use Rattle.exec_session.specs.Breaks.{RunBreaks}
-use Rattle.exec_session.specs.Reports.{TellsReady, TellsReport}
+use Rattle.exec_session.specs.Reports.{SendsReady, SendsReport}
 use Rattle.exec_session.specs.Rules.{Rules}
 use Rattle.exec_session.specs.Runs.{Finishes}
 use Rattle.exec_session.specs.Spots.{Position, Spot, position, spot}
@@ -20,10 +20,10 @@ use Rattle.exec_session.specs.Spots.{Position, Spot, position, spot}
 -- ends the session.
 pub record Runs {D N : Type 0} (look : D → View) (source : Source) (rules : Rules) (report : Report N)
     (p q : Position D) : Type 0 where
-  pub reported : Spot D
-  pub report_first : TellsReport rules.form report p.at reported
+  pub opening_report : Spot D
+  pub report_first : SendsReport rules.form report p.at opening_report
   pub begun : Spot D
-  pub ready : TellsReady rules.way rules.form reported begun
+  pub ready : SendsReady rules.way rules.form opening_report begun
   pub lines : Finishes look source rules (record p { at = begun }) q
 
 -- how a session from one position to another ends
@@ -49,7 +49,7 @@ pub record Ended {D C N : Type 0} (look : D → View) (tend : C → ChildrenView
 -- backed by what they recorded. This disk and these agents are those that it gave back.
 pub record ClosesByCalls {D : Type 0} (look : D → View) (opened : ExecutorView D) (client_view : ClientView D) (disk : D) (children : ChildrenView) : Type 0 where
   pub last : ExecutorView D
-  pub stands : StandsBehind look opened last client_view.told
+  pub stands : StandsBehind look opened last client_view.reported
   pub is_closed : last.is_open ≡ false
   pub disk_is : disk ≡ last.disk
   pub children_are : children ≡ last.children

@@ -8,7 +8,7 @@ use Rattle.exec_session.specs.Answers.{Source}
 use Rattle.exec_session.specs.Progress.{Answers, AnswersSo}
 use Rattle.exec_session.specs.Rules.{Rules}
 use Rattle.exec_session.specs.Looks.{Lines}
-use Rattle.exec_session.specs.Spots.{MayBreakOff, Spot, TellsPart}
+use Rattle.exec_session.specs.Spots.{MayBreakOff, Spot, SendsPart}
 use Rattle.exec_session.specs.declared.context.Way.{Way}
 use Rattle.exec_session.specs.declared.context.Way.TheVariants.{Run}
 use Rattle.exec_session.specs.declared.held.Held.{Held}
@@ -43,4 +43,4 @@ abbrev pub AnswersHeld : {D E : Type 0} → (D → View) → Source → Rules �
 AnswersHeld look source rules held p q (Ok true) = Answers look source rules (Ok (asks held)) p q
 AnswersHeld look source rules held p q (Ok false) = q ≡ p
 AnswersHeld look source rules held p q (Err fault) =
-    AnswersSo (TellsPart rules.form) look source rules (Ok (asks held)) p q × MayBreakOff q.events
+    AnswersSo (SendsPart rules.form) look source rules (Ok (asks held)) p q × MayBreakOff q.events

@@ -6,50 +6,50 @@ use Rattle.disk_model.specs.View.{View}
 use Rattle.exec_turn.specs.Actives.{any_running}
 use Rattle.executor.specs.TurnCalls.{FinishesTurn, with_empty_book}
 use Rattle.exec_commands.specs.declared.reply.LineReply.TheVariants.{Left}
-use Rattle.exec_client.specs.Said.{Answered}
-use Rattle.exec_client.specs.Tells.{noticed}
+use Rattle.exec_client.specs.SentItem.{Answered}
+use Rattle.exec_client.specs.Sends.{noticed}
 use Rattle.exec_trace.specs.declared.event.IoEvent.TheVariants.{Shown}
 use Rattle.exec_session.specs.Reports.{ended}
 use Rattle.exec_session.specs.Rules.{Rules}
-use Rattle.exec_session.specs.Spots.{Pauses, Spot, Telling, Tells, TellsPart, behind, moved}
+use Rattle.exec_session.specs.Spots.{Pauses, Spot, Sending, SendsAll, SendsPart, behind, moved}
 
 -- The clock is read, and a turn that begins nothing is made at that time: the book is emptied, the turn is made, and its notices are sent
 -- like this.
-pub record FinishReceived {D : Type 0} (tells_so : Telling D) (look : D → View) (p q : Spot D) : Type 0 where
+pub record FinishReceived {D : Type 0} (sends_so : Sending D) (look : D → View) (p q : Spot D) : Type 0 where
   pub now : ℕ
   pub end : TurnEnd
   pub takes : FinishesTurn look now (with_empty_book p.executor) q.executor end
-  pub tells : tells_so (behind (moved p q.executor) (Shown now)) q (noticed q.executor)
+  pub sends_all : sends_so (behind (moved p q.executor) (Shown now)) q (noticed q.executor)
 
 -- the same while an action runs
-pub record WindsOne {D : Type 0} (tells_so : Telling D) (look : D → View) (p q : Spot D) : Type 0 where
+pub record WindsOne {D : Type 0} (sends_so : Sending D) (look : D → View) (p q : Spot D) : Type 0 where
   pub is_open : p.executor.is_open ≡ true
   pub runs : any_running p.executor.state ≡ true
-  pub client_view : FinishReceived tells_so look p q
+  pub client_view : FinishReceived sends_so look p q
 
 -- Turns that begin nothing, each while an action runs, and each followed by a short pause: from one spot to another.
 pub data WindsDown {D : Type 0} (look : D → View) (rules : Rules) (p : Spot D) : Spot D → Type 0 where
   at_first : WindsDown look rules p p
-  further : (now : ℕ) (m told q : Spot D) → WindsDown look rules p m → WindsOne (Tells rules.form) look m told
-      → told.executor.is_open ≡ true → Pauses 0 now true told q → WindsDown look rules p q
+  further : (now : ℕ) (m reported q : Spot D) → WindsDown look rules p m → WindsOne (SendsAll rules.form) look m reported
+      → reported.executor.is_open ≡ true → Pauses 0 now true reported q → WindsDown look rules p q
 
 -- An orderly end, from the spot at which it was asked for, with the last line sent like this: the reply once nothing runs, or the line of
 -- the disk fault that closed the executor in the last turn.
-pub data LeavesSo {D : Type 0} (tells_so : Telling D) (look : D → View) (rules : Rules) (p q : Spot D) : Type 0 where
+pub data LeavesSo {D : Type 0} (sends_so : Sending D) (look : D → View) (rules : Rules) (p q : Spot D) : Type 0 where
   left : (m : Spot D) → WindsDown look rules p m → m.executor.is_open ≡ true → any_running m.executor.state ≡ false
-      → tells_so m q (Answered Left ∷ []) → LeavesSo tells_so look rules p q
-  fault : (m told : Spot D) → WindsDown look rules p m → WindsOne (Tells rules.form) look m told
-      → told.executor.is_open ≡ false → tells_so told q (ended Disk ∷ []) → LeavesSo tells_so look rules p q
+      → sends_so m q (Answered Left ∷ []) → LeavesSo sends_so look rules p q
+  fault : (m reported : Spot D) → WindsDown look rules p m → WindsOne (SendsAll rules.form) look m reported
+      → reported.executor.is_open ≡ false → sends_so reported q (ended Disk ∷ []) → LeavesSo sends_so look rules p q
 
 -- the client receives all of it
 abbrev pub LeavesFrom : {D : Type 0} → (D → View) → Rules → Spot D → Spot D → Type 0
-LeavesFrom look rules p q = LeavesSo (Tells rules.form) look rules p q
+LeavesFrom look rules p q = LeavesSo (SendsAll rules.form) look rules p q
 
 -- An orderly end that broke off: in the notices of a turn, after one, where nobody read the output any more, or in the last line; or its
 -- loop has gone round as often as it can.
 pub data LeaveBreaks {D : Type 0} (look : D → View) (rules : Rules) (p q : Spot D) : Type 0 where
-  in_turn : (m : Spot D) → WindsDown look rules p m → WindsOne (TellsPart rules.form) look m q → LeaveBreaks look rules p q
-  unheard : (now : ℕ) (m told : Spot D) → WindsDown look rules p m → WindsOne (Tells rules.form) look m told → Pauses 0 now false told q
+  in_turn : (m : Spot D) → WindsDown look rules p m → WindsOne (SendsPart rules.form) look m q → LeaveBreaks look rules p q
+  unheard : (now : ℕ) (m reported : Spot D) → WindsDown look rules p m → WindsOne (SendsAll rules.form) look m reported → Pauses 0 now false reported q
       → LeaveBreaks look rules p q
-  in_line : LeavesSo (TellsPart rules.form) look rules p q → LeaveBreaks look rules p q
+  in_line : LeavesSo (SendsPart rules.form) look rules p q → LeaveBreaks look rules p q
   spent : WindsDown look rules p q → LeaveBreaks look rules p q

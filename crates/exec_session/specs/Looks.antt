@@ -11,17 +11,17 @@ abbrev pub Lines : Type 0
 Lines = List (Result Line Refusal)
 
 -- a poll that found input
-abbrev pub says_there : IoEvent → Bool
-says_there (Looked millis ready) = ready
-says_there (Peeked has_line) = has_line
-says_there _ = false
+abbrev pub states_there : IoEvent → Bool
+states_there (Looked millis ready) = ready
+states_there (Peeked has_line) = has_line
+states_there _ = false
 
 -- the last event is a poll that found input: a read after it need not wait
 pub record IsThere (events : List IoEvent) : Type 0 where
   pub before : List IoEvent
   pub last : IoEvent
   pub is_last : events ≡ before ++ last ∷ []
-  pub there : says_there last ≡ true
+  pub there : states_there last ≡ true
 
 -- With these lines unanswered a read may be made: there are none, or input is there.
 abbrev pub MayRead : Lines → List IoEvent → Type 0

@@ -8,11 +8,11 @@ use Rattle.exec_lines.specs.Lines.{first_line, after_first_line}
 use Rattle.exec_commands.specs.Tags.{IsTaggedAs}
 use Rattle.exec_commands.specs.declared.line.Line.{Line}
 use Rattle.exec_commands.specs.declared.reply.LineReply.{LineReply}
-use Rattle.exec_client.specs.Said.{Answered}
+use Rattle.exec_client.specs.SentItem.{Answered}
 use Rattle.exec_session.specs.declared.lines.Found.{Found}
 use Rattle.exec_session.specs.declared.lines.Found.TheVariants as found
 use Rattle.exec_session.specs.Answers.{Source, IsReadAs, IsReply}
-use Rattle.exec_session.specs.Spots.{Spot, Telling, Tells}
+use Rattle.exec_session.specs.Spots.{Spot, Sending, SendsAll}
 use Rattle.exec_session.specs.Rules.{Rules}
 use Rattle.exec_session.specs.declared.context.Way.{Way}
 use Rattle.exec_session.specs.declared.context.Way.TheVariants.{Serve}
@@ -45,13 +45,13 @@ ReadsInput way old new found.Empty = PassesLine old new
 ReadsInput way old new (found.Line line) = ReadsLine way old new line
 
 -- A line that was read is answered: the client is sent the notices of a drain, and then only the reply, which is sent like this.
-pub record AnswersSo {D : Type 0} (tells_so : Telling D) (look : D → View) (source : Source) (rules : Rules)
+pub record AnswersSo {D : Type 0} (sends_so : Sending D) (look : D → View) (source : Source) (rules : Rules)
     (found : Result Line Refusal) (p q : Spot D) : Type 0 where
   pub reply : LineReply
   pub noticed : Spot D
   pub answered : IsReply look source rules p noticed found reply
-  pub tells : tells_so noticed q (Answered reply ∷ [])
+  pub sends_all : sends_so noticed q (Answered reply ∷ [])
 
 -- the client receives all of it
 abbrev pub Answers : {D : Type 0} → (D → View) → Source → Rules → Result Line Refusal → Spot D → Spot D → Type 0
-Answers look source rules found p q = AnswersSo (Tells rules.form) look source rules found p q
+Answers look source rules found p q = AnswersSo (SendsAll rules.form) look source rules found p q

@@ -8,48 +8,48 @@ use Rattle.exec_commands.specs.declared.ends.DrainEnd.TheVariants.{Turn}
 use Rattle.exec_commands.specs.declared.notice.NoticeForm.{NoticeForm}
 use Rattle.exec_commands.specs.declared.service.Counts.{Counts}
 use Rattle.exec_commands.specs.declared.reply.LineReply.TheVariants.{Drain, Ready}
-use Rattle.exec_client.specs.Said.{Answered, Reported, Said}
-use Rattle.exec_session.specs.Spots.{Spot, Tells, TellsPart}
+use Rattle.exec_client.specs.SentItem.{Answered, Reported, SentItem}
+use Rattle.exec_session.specs.Spots.{Spot, SendsAll, SendsPart}
 use Rattle.exec_session.specs.declared.context.Way.{Way}
 use Rattle.exec_session.specs.declared.context.Way.TheVariants.{Run, Serve}
 
 -- the report is that of the opening that gave this executor
 abbrev pub IsReportOf : {D M : Type 0} → ExecutorView D → Report M → Type 0
-IsReportOf x r = x.reported ≡ report_of r
+IsReportOf x r = x.opening_report ≡ report_of r
 
 -- the report was sent: the interrupted actions, and then the dropped ones
-abbrev pub TellsReport : {D M : Type 0} → NoticeForm → Report M → Spot D → Spot D → Type 0
-TellsReport {D} form r p q =
-    (m : Spot D) × Tells form p m (map Reported r.interrupted.items) × Tells form m q (map Reported r.dropped.items)
+abbrev pub SendsReport : {D M : Type 0} → NoticeForm → Report M → Spot D → Spot D → Type 0
+SendsReport {D} form r p q =
+    (m : Spot D) × SendsAll form p m (map Reported r.interrupted.items) × SendsAll form m q (map Reported r.dropped.items)
 
 -- the report broke off in the first of these messages, or in the second
 abbrev pub ReportBreaks : {D M : Type 0} → NoticeForm → Report M → Spot D → Spot D → Type 0
 ReportBreaks {D} form r p q =
-    TellsPart form p q (map Reported r.interrupted.items)
-    ⊎ ((m : Spot D) × Tells form p m (map Reported r.interrupted.items) × TellsPart form m q (map Reported r.dropped.items))
+    SendsPart form p q (map Reported r.interrupted.items)
+    ⊎ ((m : Spot D) × SendsAll form p m (map Reported r.interrupted.items) × SendsPart form m q (map Reported r.dropped.items))
 
 -- the number of registered resources, and of lines of the opening's report: of interrupted and of dropped actions
 abbrev pub counts_of : {D : Type 0} → ExecutorView D → Counts
 counts_of x = record {
   resources = length x.state.resources;
-  interrupted = length x.reported.interrupted;
-  dropped = length x.reported.dropped;
+  interrupted = length x.opening_report.interrupted;
+  dropped = length x.opening_report.dropped;
 }
 
 -- the line that a session in `serve` is ready
-abbrev pub readied : {D : Type 0} → ExecutorView D → Said
+abbrev pub readied : {D : Type 0} → ExecutorView D → SentItem
 readied x = Answered (Ready (counts_of x))
 
 -- In `serve` the client receives the line that the session is ready; in `run` it is sent nothing.
-abbrev pub TellsReady : {D : Type 0} → Way → NoticeForm → Spot D → Spot D → Type 0
-TellsReady Run form p q = q ≡ p
-TellsReady Serve form p q = Tells form p q (readied p.executor ∷ [])
+abbrev pub SendsReady : {D : Type 0} → Way → NoticeForm → Spot D → Spot D → Type 0
+SendsReady Run form p q = q ≡ p
+SendsReady Serve form p q = SendsAll form p q (readied p.executor ∷ [])
 
 -- that line broke off
 abbrev pub ReadyBreaks : {D : Type 0} → Way → NoticeForm → Spot D → Spot D → Type 0
 ReadyBreaks Run form p q = ⊥
-ReadyBreaks Serve form p q = TellsPart form p q (readied p.executor ∷ [])
+ReadyBreaks Serve form p q = SendsPart form p q (readied p.executor ∷ [])
 
 -- the line that says how a turn ended, as a drain's reply does
-abbrev pub ended : TurnEnd → Said
+abbrev pub ended : TurnEnd → SentItem
 ended end = Answered (Drain (Turn end))

@@ -8,9 +8,9 @@ use Rattle.ocf_types.specs.declared.command.RequestOf.TheVariants as asked
 use Rattle.ocf_types.specs.declared.refusal.Refusal.{Refusal}
 use Rattle.ocf_types.specs.declared.reply.TurnEnd.{TurnEnd}
 use Rattle.ocf_types.specs.declared.reply.TurnEnd.TheVariants.{Disk, Done}
-use Rattle.exec_client.specs.ClientView.{ClientView, IsTold}
-use Rattle.exec_client.specs.MayTell.{StandsBehind}
-use Rattle.exec_client.specs.Said.{Said}
+use Rattle.exec_client.specs.ClientView.{ClientView, IsSent}
+use Rattle.exec_client.specs.MaySend.{StandsBehind}
+use Rattle.exec_client.specs.SentItem.{SentItem}
 use Rattle.exec_session.specs.declared.context.Way.{Way}
 use Rattle.exec_session.specs.declared.context.Way.TheVariants.{Run, Serve}
 use Rattle.exec_commands.specs.declared.line.Line.{Line}
@@ -26,12 +26,12 @@ use Rattle.exec_session.specs.Looks.{FollowsRead, HasLooked, Lines, MayRead, mis
 use Rattle.exec_session.specs.Reports.{ended}
 use Rattle.exec_session.specs.Rules.{Rules}
 use Rattle.exec_session.specs.Progress.{Answers, PassesLine, ReadsLine}
-use Rattle.exec_session.specs.Spots.{Position, Spot, Telling, Tells, behind, position}
+use Rattle.exec_session.specs.Spots.{Position, Spot, Sending, SendsAll, behind, position}
 use Rattle.exec_session.specs.Together.{AnswersTogether}
 
 -- a client of an executor that was just opened, and is open; it was sent nothing yet
 abbrev pub IsNew : {D : Type 0} → ClientView D → ExecutorView D → Type 0
-IsNew client_view x = (client_view.opened ≡ x) × (client_view.told ≡ []) × (x.is_open ≡ true)
+IsNew client_view x = (client_view.opened ≡ x) × (client_view.reported ≡ []) × (x.is_open ≡ true)
 
 -- in this mode a session may take a line after this many since its last turn
 abbrev pub MayTake : Way → ℕ → Type 0
@@ -54,9 +54,9 @@ abbrev pub IsNews : TurnEnd → TurnEnd → Type 0
 IsNews before end = (end ≢ before) × (end ≢ Done) × (end ≢ Disk)
 
 -- if the end of an own turn is news, it is sent like this, and else nothing is sent
-pub data NewsSo {D : Type 0} (tells_so : Telling D) (before end : TurnEnd) (p q : Spot D) : Type 0 where
-  news : IsNews before end → tells_so p q (ended end ∷ []) → NewsSo tells_so before end p q
-  no_news : (IsNews before end → ⊥) → q ≡ p → NewsSo tells_so before end p q
+pub data NewsSo {D : Type 0} (sends_so : Sending D) (before end : TurnEnd) (p q : Spot D) : Type 0 where
+  news : IsNews before end → sends_so p q (ended end ∷ []) → NewsSo sends_so before end p q
+  no_news : (IsNews before end → ⊥) → q ≡ p → NewsSo sends_so before end p q
 
 -- A turn that a session makes by itself after one that ended like this, at this time, the clock reading at its beginning: the client
 -- receives its notices, and its end if that is news.
@@ -64,7 +64,7 @@ pub record MakesOwnTurn {D : Type 0} (look : D → View) (rules : Rules) (before
     : Type 0 where
   pub noticed : Spot D
   pub made : MakesTurn look rules now (behind p (Shown now)) noticed end
-  pub told : NewsSo (Tells rules.form) before end noticed q
+  pub reported : NewsSo (SendsAll rules.form) before end noticed q
 
 -- a command as a line
 abbrev pub of_command : Command → Result Line Refusal
@@ -193,7 +193,7 @@ pub record ReachesLeave {D : Type 0} (look : D → View) (source : Source) (rule
 pub record EndsByFault {D : Type 0} (look : D → View) (source : Source) (rules : Rules) (p : Position D) (q : Spot D) : Type 0 where
   pub last : Spot D
   pub fault : ReachesFault look source rules p last
-  pub tells : Tells rules.form last q (ended Disk ∷ [])
+  pub sends_all : SendsAll rules.form last q (ended Disk ∷ [])
 
 -- The last line that was read asked a session in `serve` to end, and it made an orderly end.
 pub record EndsInOrder {D : Type 0} (look : D → View) (source : Source) (rules : Rules) (p : Position D) (q : Spot D) : Type 0 where
@@ -209,6 +209,6 @@ Finishes look source rules p q =
 
 -- Calls alone lead from one spot to another, with these messages, which are backed by what the calls recorded.
 pub record GoesByCalls {D : Type 0} (look : D → View) (p q : Spot D) : Type 0 where
-  pub said : List Said
-  pub told : IsTold p.client_view q.client_view said
-  pub stands : StandsBehind look p.executor q.executor said
+  pub items : List SentItem
+  pub reported : IsSent p.client_view q.client_view items
+  pub stands : StandsBehind look p.executor q.executor items

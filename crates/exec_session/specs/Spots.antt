@@ -4,7 +4,7 @@ use Rattle.ocf_types.specs.Limits.{num_max}
 use Rattle.executor.specs.ExecutorView.{ExecutorView}
 use Rattle.exec_commands.specs.declared.notice.NoticeForm.{NoticeForm}
 use Rattle.exec_client.specs.ClientView.{ClientView, Receives, ReceivesPart}
-use Rattle.exec_client.specs.Said.{Said}
+use Rattle.exec_client.specs.SentItem.{SentItem}
 use Rattle.exec_trace.specs.Edges.{EdgeView, rest_events}
 use Rattle.exec_trace.specs.Events.{EndsInFailure}
 use Rattle.exec_trace.specs.declared.event.IoEvent.{IoEvent}
@@ -35,19 +35,19 @@ abbrev pub behind : {D : Type 0} → Spot D → IoEvent → Spot D
 behind p event = spot p.executor p.client_view (p.events ++ event ∷ [])
 
 -- how a client is sent messages: from one spot to another
-abbrev pub Telling : Type 0 → Type 1
-Telling D = Spot D → Spot D → List Said → Type 0
+abbrev pub Sending : Type 0 → Type 1
+Sending D = Spot D → Spot D → List SentItem → Type 0
 
 -- The messages were sent, and the client receives all of them.
-pub record Tells {D : Type 0} (form : NoticeForm) (p q : Spot D) (said : List Said) : Type 0 where
+pub record SendsAll {D : Type 0} (form : NoticeForm) (p q : Spot D) (items : List SentItem) : Type 0 where
   pub executor : q.executor ≡ p.executor
-  pub receives : Receives form p.client_view q.client_view said
+  pub receives : Receives form p.client_view q.client_view items
   pub events : q.events ≡ p.events ++ Sent true ∷ []
 
 -- Sending broke off after a prefix of the messages.
-pub record TellsPart {D : Type 0} (form : NoticeForm) (p q : Spot D) (said : List Said) : Type 0 where
+pub record SendsPart {D : Type 0} (form : NoticeForm) (p q : Spot D) (items : List SentItem) : Type 0 where
   pub executor : q.executor ≡ p.executor
-  pub receives : ReceivesPart form p.client_view q.client_view said
+  pub receives : ReceivesPart form p.client_view q.client_view items
   pub events : q.events ≡ p.events ++ Sent false ∷ []
 
 -- Why a session may break off: the last question failed, or its loops have gone round as often as they can.

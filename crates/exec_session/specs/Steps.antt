@@ -1,8 +1,8 @@
 -- A step of a session in which nothing is read.
 use Rattle.std.specs.Prelude.{List, Result, IfOk, OnErr, OnOk}
 use Rattle.exec_commands.specs.declared.notice.NoticeForm.{NoticeForm}
-use Rattle.exec_client.specs.Said.{Said}
-use Rattle.exec_session.specs.Spots.{Keeps, MayBreakOff, Position, Spot, Tells, TellsPart}
+use Rattle.exec_client.specs.SentItem.{SentItem}
+use Rattle.exec_session.specs.Spots.{Keeps, MayBreakOff, Position, Spot, SendsAll, SendsPart}
 
 -- The step succeeds with the first relation, or breaks off with the second, because the last question failed or the loops have gone round
 -- as often as they can.
@@ -21,5 +21,5 @@ pub record StepsTo {D T E : Type 0} (does : T → Spot D → Type 0) (breaks_off
   pub cause : OnErr result (MayBreakOff q.at.events)
 
 -- the client is sent this, or a prefix of it
-abbrev pub Sends : {D T E : Type 0} → NoticeForm → List Said → Position D → Position D → Result T E → Type 0
-Sends form said p q result = Steps (λ s. Tells form p.at s said) (λ s. TellsPart form p.at s said) p q result
+abbrev pub Sends : {D T E : Type 0} → NoticeForm → List SentItem → Position D → Position D → Result T E → Type 0
+Sends form items p q result = Steps (λ s. SendsAll form p.at s items) (λ s. SendsPart form p.at s items) p q result

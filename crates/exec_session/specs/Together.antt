@@ -6,10 +6,10 @@ use Rattle.ocf_types.specs.declared.reply.ReplyOf.TheVariants.{Refused}
 use Rattle.disk_model.specs.View.{View}
 use Rattle.executor.specs.CommandBatches.{TakesCommands}
 use Rattle.executor.specs.ExecutorView.{ExecutorView}
-use Rattle.exec_client.specs.Said.{answered}
+use Rattle.exec_client.specs.SentItem.{answered}
 use Rattle.exec_trace.specs.declared.event.IoEvent.TheVariants.{Shown}
 use Rattle.exec_session.specs.Rules.{Rules, MakesRoom}
-use Rattle.exec_session.specs.Spots.{Spot, Telling, Tells, behind, moved}
+use Rattle.exec_session.specs.Spots.{Spot, Sending, SendsAll, behind, moved}
 
 -- An open executor serves a group commit at this time: a due tidy is made, and then it takes the commands. If a disk fault closed the
 -- executor in the tidy, each is refused for that and nothing else is done.
@@ -21,16 +21,16 @@ pub record ServesTogether {D : Type 0} (look : D → View) (rules : Rules) (now 
   pub fails : middle.is_open ≡ false → (given ≡ replicate (length commands) (Refused Disk)) × (new ≡ middle)
 
 -- The clock is read, and the group commit is served at that time; then only its replies are sent like this, in their order.
-pub record TogetherReceived {D : Type 0} (tells_so : Telling D) (look : D → View) (rules : Rules) (commands : List Command)
+pub record TogetherReceived {D : Type 0} (sends_so : Sending D) (look : D → View) (rules : Rules) (commands : List Command)
     (p q : Spot D) : Type 0 where
   pub now : ℕ
   pub given : List Reply
   pub serves : ServesTogether look rules now commands p.executor q.executor given
-  pub tells : tells_so (behind (moved p q.executor) (Shown now)) q (map answered given)
+  pub sends_all : sends_so (behind (moved p q.executor) (Shown now)) q (map answered given)
 
 -- the client receives all of them
 abbrev pub AnswersTogether : {D : Type 0} → (D → View) → Rules → List Command → Spot D → Spot D → Type 0
-AnswersTogether look rules commands p q = TogetherReceived (Tells rules.form) look rules commands p q
+AnswersTogether look rules commands p q = TogetherReceived (SendsAll rules.form) look rules commands p q
 
 -- the commands that wait, if any, are answered as a group commit
 abbrev pub AnswersAll : {D : Type 0} → (D → View) → Rules → List Command → Spot D

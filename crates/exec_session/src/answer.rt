@@ -7,8 +7,8 @@ ghost use Rattle.executor.specs.Commands.{Serves};
 ghost use Rattle.executor.specs.CommandBatches.{TakesCommands};
 ghost use Rattle.exec_commands.specs.declared.line.Line.TheVariants as line;
 ghost use Rattle.exec_commands.specs.declared.reply.LineReply.TheVariants as answer;
-ghost use Rattle.exec_client.specs.MayTell.{MayAnswer, StandsBehind};
-ghost use Rattle.exec_client.specs.Said.{Answered, answered};
+ghost use Rattle.exec_client.specs.MaySend.{MayAnswer, StandsBehind};
+ghost use Rattle.exec_client.specs.SentItem.{Answered, answered};
 ghost use Rattle.exec_session.specs.Answers.{IsClosedReply, IsMetaReply, IsStatusReply, TidiesNow};
 ghost use Rattle.exec_session.specs.Answers.{closed_drain, closed_tidy, refused};
 ghost use Rattle.exec_session.specs.Breaks.{AnswersLine};
@@ -17,7 +17,7 @@ ghost use Rattle.exec_session.specs.Gathered.{replied, waiting};
 ghost use Rattle.exec_session.specs.Held.{AnswersHeld, MayAnswerAtOnce, MayTakeAtOnce};
 ghost use Rattle.exec_session.specs.Progress.{Answers, AnswersSo};
 ghost use Rattle.exec_session.specs.Rules.{rules_of};
-ghost use Rattle.exec_session.specs.Spots.{Keeps, TellsPart};
+ghost use Rattle.exec_session.specs.Spots.{Keeps, SendsPart};
 ghost use Rattle.exec_session.specs.Steps.{Sends, Steps};
 ghost use Rattle.exec_session.specs.Together.{AnswersAll};
 ghost use Rattle.exec_session.specs.Waiting.{TakesFound};
@@ -31,7 +31,7 @@ use crate::room::{make_room, tidy_timed};
 use crate::worker::Worker;
 use child_model::Children;
 use disk_model::Disk;
-use exec_client::{Client, Told};
+use exec_client::{Client, Message};
 use exec_commands::{Direct, DrainEnd, Line, LineReply};
 use exec_lines::Input;
 use exec_trace::Failed;
@@ -179,7 +179,7 @@ impl<'a, R: Input, D: Disk + Drop, C: Children + Drop, T: Client<D, C>, K: Clock
         ensures answers { Steps
             (Answers D.view (M.gives context.now.metadata.now) (rules_of context.now)
             (Ok (line.Request request)) self.old.at)
-            (AnswersSo (TellsPart context.now.form) D.view (M.gives context.now.metadata.now)
+            (AnswersSo (SendsPart context.now.form) D.view (M.gives context.now.metadata.now)
             (rules_of context.now) (Ok (line.Request request)) self.old.at)
             self.old self.new result }
     {
@@ -187,14 +187,14 @@ impl<'a, R: Input, D: Disk + Drop, C: Children + Drop, T: Client<D, C>, K: Clock
         make_room(context, self.edge.clock(), &mut self.executor, now);
         let reply = LineReply::Request(request_reply(&mut self.executor, request, now));
         self.edge
-            .tell(&self.executor, context.form, &Told::Reply(&reply))
+            .send(&self.executor, context.form, &Message::Reply(&reply))
     }
 
     // Refuses a line.
     fn refuse<M>(&mut self, context: &RunContext<M>, refusal: Refusal) -> Result<(), Failed>
         ensures sends { Sends context.now.form (Answered (refused refusal) ∷ []) self.old self.new result }
     {
-        self.tell_reply(context, &refused(refusal))
+        self.send_reply(context, &refused(refusal))
     }
 
     // Tidies the journal, and sends how that ended.
@@ -204,7 +204,7 @@ impl<'a, R: Input, D: Disk + Drop, C: Children + Drop, T: Client<D, C>, K: Clock
             (Ok line.Tidy) self.old self.new result }
     {
         let end = self.tidy(context);
-        self.tell_reply(context, &LineReply::Tidy(end))
+        self.send_reply(context, &LineReply::Tidy(end))
     }
 
     // Waits for an agent's metadata, as a session in `run` does, and sends them.
@@ -220,21 +220,21 @@ impl<'a, R: Input, D: Disk + Drop, C: Children + Drop, T: Client<D, C>, K: Clock
         ensures answers { AnswersLine D.view (M.gives context.now.metadata.now) (rules_of context.now)
             (Ok (line.Meta provider.now agent.now limit)) self.old self.new result }
     {
-        self.tell_reply(context, &meta_reply(context, provider, agent, limit))
+        self.send_reply(context, &meta_reply(context, provider, agent, limit))
     }
 
     // Sends the reply to a line that needs no executor.
     fn answer_direct<M>(&mut self, context: &RunContext<M>, direct: Direct) -> Result<(), Failed>
         ensures sends { Sends context.now.form (Answered (answer.Direct direct) ∷ []) self.old self.new result }
     {
-        self.tell_reply(context, &LineReply::Direct(direct))
+        self.send_reply(context, &LineReply::Direct(direct))
     }
 
     // Sends the version of the program.
     fn answer_version<M>(&mut self, context: &RunContext<M>) -> Result<(), Failed>
         ensures sends { Sends context.now.form (Answered answer.Version ∷ []) self.old self.new result }
     {
-        self.tell_reply(context, &LineReply::Version)
+        self.send_reply(context, &LineReply::Version)
     }
 
     // Sends the status of each resource, or that there is no memory for it.
@@ -244,7 +244,7 @@ impl<'a, R: Input, D: Disk + Drop, C: Children + Drop, T: Client<D, C>, K: Clock
             (Ok line.Status) self.old self.new result }
     {
         let reply = status_reply(context.alloc, &self.executor);
-        self.tell_reply(context, &reply)
+        self.send_reply(context, &reply)
     }
 
     // Answers a line while the executor is open. Each reply is made in a function of its own: a function clears the space of all replies
@@ -290,7 +290,7 @@ impl<'a, R: Input, D: Disk + Drop, C: Children + Drop, T: Client<D, C>, K: Clock
         ensures answers { AnswersLine D.view (M.gives context.now.metadata.now) (rules_of context.now) line.now
             self.old self.new result }
     {
-        self.tell_reply(context, &closed_reply(context, line))
+        self.send_reply(context, &closed_reply(context, line))
     }
 
     // Answers a line: sends the notices of a drain, and then the reply.
@@ -357,7 +357,7 @@ impl<'a, R: Input, D: Disk + Drop, C: Children + Drop, T: Client<D, C>, K: Clock
         let Some(given) = asked else {
             return Ok(false);
         };
-        self.tell_reply(context, &LineReply::Meta(given))?;
+        self.send_reply(context, &LineReply::Meta(given))?;
         Ok(true)
     }
 
@@ -379,10 +379,10 @@ impl<'a, R: Input, D: Disk + Drop, C: Children + Drop, T: Client<D, C>, K: Clock
         let moment = self.now();
         make_room(context, self.edge.clock(), &mut self.executor, moment);
         serve_gathered(&mut self.executor, gathered, moment);
-        self.edge.tell(
+        self.edge.send(
             &self.executor,
             context.form,
-            &Told::Replies(gathered.replies()),
+            &Message::Replies(gathered.replies()),
         )
     }
 }

@@ -1,11 +1,11 @@
 //! Drains, watches and the orderly end of a session in `serve`: turns one after another.
 ghost use Rattle.std.specs.Prelude.{◌≡◌, true, Some};
-ghost use Rattle.exec_session.specs.Answers.{DrainTold, DrainsFor};
+ghost use Rattle.exec_session.specs.Answers.{DrainSent, DrainsFor};
 ghost use Rattle.exec_session.specs.Broken.{DrainBreaks, DrainBreaksFor, DrainEndsEarly};
 ghost use Rattle.exec_session.specs.Drains.{Drains, end_behind};
 ghost use Rattle.exec_session.specs.Leaving.{FinishReceived, LeaveBreaks, LeavesFrom};
 ghost use Rattle.exec_session.specs.Rules.{rules_of};
-ghost use Rattle.exec_session.specs.Spots.{Tells, TellsPart};
+ghost use Rattle.exec_session.specs.Spots.{SendsAll, SendsPart};
 ghost use Rattle.exec_session.specs.Steps.{Steps, StepsTo};
 ghost use Rattle.exec_trace.specs.Events.{last_shown};
 
@@ -14,7 +14,7 @@ use crate::pause::Pause;
 use crate::worker::Worker;
 use child_model::Children;
 use disk_model::Disk;
-use exec_client::{Client, Told, TurnNotices};
+use exec_client::{Client, Message, TurnNotices};
 use exec_commands::{DrainEnd, LineReply};
 use exec_lines::Input;
 use exec_trace::Failed;
@@ -122,19 +122,19 @@ impl<'a, R: Input, D: Disk + Drop, C: Children + Drop, T: Client<D, C>, K: Clock
     ) -> Result<(), Failed>
         requires open { self.old.at.executor.is_open ≡ true }
         ensures answers { Steps
-            (DrainTold (Tells context.now.form) D.view ends_idle limit (rules_of context.now) self.old.at)
+            (DrainSent (SendsAll context.now.form) D.view ends_idle limit (rules_of context.now) self.old.at)
             (DrainEndsEarly D.view ends_idle limit (rules_of context.now) self.old.at)
             self.old self.new result }
     {
         let reply = self.drain_reply(context, ends_idle, limit)?;
-        self.tell_reply(context, &reply)
+        self.send_reply(context, &reply)
     }
 
     // Makes a turn now that begins nothing, and sends its notices.
     fn finish_turn<M>(&mut self, context: &RunContext<M>, pause: &mut Pause) -> Result<(), Failed>
         requires open { self.old.at.executor.is_open ≡ true }
-        ensures made { Steps (FinishReceived (Tells context.now.form) D.view self.old.at)
-            (FinishReceived (TellsPart context.now.form) D.view self.old.at) self.old self.new result }
+        ensures made { Steps (FinishReceived (SendsAll context.now.form) D.view self.old.at)
+            (FinishReceived (SendsPart context.now.form) D.view self.old.at) self.old self.new result }
     {
         let now = self.now();
         pause.before_turn(self.edge.clock(), now);
@@ -142,7 +142,7 @@ impl<'a, R: Input, D: Disk + Drop, C: Children + Drop, T: Client<D, C>, K: Clock
         self.executor.finish(now);
         let turn = TurnNotices::of_executor(&self.executor);
         self.edge
-            .tell(&self.executor, context.form, &Told::Notices(turn))
+            .send(&self.executor, context.form, &Message::Notices(turn))
     }
 
     /// Makes turns that begin nothing as long as anything runs, and sends their notices, and then the last line of the session. If a disk
@@ -155,11 +155,11 @@ impl<'a, R: Input, D: Disk + Drop, C: Children + Drop, T: Client<D, C>, K: Clock
         let mut pause = Pause::new(0);
         for _turns in 0..NUM_MAX {
             if !self.runs_any() {
-                return self.tell_reply(context, &LineReply::Left);
+                return self.send_reply(context, &LineReply::Left);
             }
             self.finish_turn(context, &mut pause)?;
             if !self.is_open() {
-                return self.tell_end(context, TurnEnd::Disk);
+                return self.send_end(context, TurnEnd::Disk);
             }
             if !self.pauses(&mut pause) {
                 return Err(Failed);

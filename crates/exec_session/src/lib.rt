@@ -17,7 +17,7 @@ mod pending;
 mod room;
 mod serve;
 mod session;
-mod tell;
+mod send;
 mod turn;
 mod wait;
 mod worker;

@@ -2,7 +2,7 @@
 ghost use Rattle.std.specs.Prelude.{◌≡◌, ◌≤◌, ◌+◌, ◌/◌, ◌^◌, [], true};
 ghost use Rattle.exec_journal.specs.Tidying.{tidied_tail};
 ghost use Rattle.executor.specs.TidyCalls.{TidiesWhile};
-ghost use Rattle.exec_client.specs.MayTell.{StandsBehind};
+ghost use Rattle.exec_client.specs.MaySend.{StandsBehind};
 ghost use Rattle.exec_session.specs.Rules.{MakesRoom, is_at_leisure, is_monitor_due, is_tidy_due, rules_of};
 
 use crate::context::RunContext;

@@ -140,7 +140,7 @@ impl<'a, R: Input, D: Disk + Drop, C: Children + Drop, T: Client<D, C>, K: Clock
             match self.round(context)? {
                 Taken::More => {}
                 Taken::End => return Ok(()),
-                Taken::Closed => return self.desk.worker.tell_end(context, TurnEnd::Disk),
+                Taken::Closed => return self.desk.worker.send_end(context, TurnEnd::Disk),
                 Taken::Leaves => return self.desk.worker.leave(context),
             }
         }
@@ -156,15 +156,15 @@ impl<'a, R: Input, D: Disk + Drop, C: Children + Drop, T: Client<D, C>, K: Clock
         requires clear { IsClear self.old.desk.pending }
         requires none { self.old.own ≡ Done }
         requires open { self.old.desk.worker.at.executor.is_open ≡ true }
-        requires reported { IsReportOf self.old.desk.worker.at.executor report.now }
+        requires opening_report { IsReportOf self.old.desk.worker.at.executor report.now }
         ensures lasts { Lasts self.old.desk.worker.at self.new.desk.worker.at }
         ensures runs { OnOk result (Runs D.view (M.gives context.now.metadata.now) (rules_of context.now)
             report.now self.old.desk.worker self.new.desk.worker) }
         ensures breaks { OnErr result (RunBreaks D.view (M.gives context.now.metadata.now)
             (rules_of context.now) report.now self.old.desk.worker self.new.desk.worker.at) }
     {
-        self.desk.worker.tell_report(context, report)?;
-        self.desk.worker.tell_ready(context, report)?;
+        self.desk.worker.send_report(context, report)?;
+        self.desk.worker.send_ready(context, report)?;
         self.answer_all(context)?;
         Ok(())
     }
@@ -178,7 +178,7 @@ impl<'a, R: Input, D: Disk + Drop, C: Children + Drop, T: Client<D, C>, K: Clock
         requires clear { IsClear self.old.desk.pending }
         requires none { self.old.own ≡ Done }
         requires open { self.old.desk.worker.at.executor.is_open ≡ true }
-        requires reported { IsReportOf self.old.desk.worker.at.executor report.now }
+        requires opening_report { IsReportOf self.old.desk.worker.at.executor report.now }
         ensures lasts { Lasts self.old.desk.worker.at self.new.desk.worker.at }
         ensures ends { EndsAs D.view (M.gives context.now.metadata.now) (rules_of context.now) report.now
             self.old.desk.worker self.new.desk.worker result }
@@ -216,11 +216,11 @@ pub fn run_lines<
     room: LineRoom,
 ) -> Run<'a, R, D, C, T, K>
     requires fresh { IsNew edge.client_view opened.0 }
-    requires reported { IsReportOf opened.0 opened.1 }
+    requires opening_report { IsReportOf opened.0 opened.1 }
     ensures ends { Ended D.view C.view (M.gives context.now.metadata.now) (rules_of context.now) opened.1
         (at_of opened.0 edge.entry)
         result.edge result.ended result.disk result.children }
-    ensures told { ClosesByCalls D.view opened.0 result.edge.client_view result.disk
+    ensures reported { ClosesByCalls D.view opened.0 result.edge.client_view result.disk
         (C.view result.children) }
     ensures none_lives { (C.view result.children).live ≡ [] }
     ensures memory { IfErr result.ended (HasCause T.refuses) }

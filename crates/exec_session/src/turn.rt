@@ -5,7 +5,7 @@ ghost use Rattle.exec_session.specs.Broken.{TurnBreaks};
 ghost use Rattle.exec_session.specs.Drains.{MakesTurn};
 ghost use Rattle.exec_session.specs.Rules.{rules_of};
 ghost use Rattle.exec_session.specs.Runs.{IsNews, MakesOwnTurn, NewsSo};
-ghost use Rattle.exec_session.specs.Spots.{Tells, TellsPart};
+ghost use Rattle.exec_session.specs.Spots.{SendsAll, SendsPart};
 ghost use Rattle.exec_session.specs.Steps.{Steps, StepsTo};
 ghost use Rattle.exec_trace.specs.Events.{last_shown};
 
@@ -15,7 +15,7 @@ use crate::room::make_room;
 use crate::worker::Worker;
 use child_model::Children;
 use disk_model::Disk;
-use exec_client::{Client, Told, TurnNotices};
+use exec_client::{Client, Message, TurnNotices};
 use exec_lines::Input;
 use exec_trace::Failed;
 use ocf_types::TurnEnd;
@@ -52,22 +52,22 @@ impl<'a, R: Input, D: Disk + Drop, C: Children + Drop, T: Client<D, C>, K: Clock
         let end = self.executor.turn(now);
         let turn = TurnNotices::of_executor(&self.executor);
         self.edge
-            .tell(&self.executor, context.form, &Told::Notices(turn))?;
+            .send(&self.executor, context.form, &Message::Notices(turn))?;
         Ok(end)
     }
 
     // Sends how an own turn ended, if that is news.
-    fn tell_news<M>(
+    fn send_news<M>(
         &mut self,
         context: &RunContext<M>,
         before: TurnEnd,
         end: TurnEnd,
     ) -> Result<(), Failed>
-        ensures told { Steps (NewsSo (Tells context.now.form) before end self.old.at)
-            (NewsSo (TellsPart context.now.form) before end self.old.at) self.old self.new result }
+        ensures reported { Steps (NewsSo (SendsAll context.now.form) before end self.old.at)
+            (NewsSo (SendsPart context.now.form) before end self.old.at) self.old self.new result }
     {
         if is_news(before, end) {
-            self.tell_end(context, end)
+            self.send_end(context, end)
         } else {
             Ok(())
         }
@@ -90,7 +90,7 @@ impl<'a, R: Input, D: Disk + Drop, C: Children + Drop, T: Client<D, C>, K: Clock
         let now = self.now();
         pause.before_turn(self.clock(), now);
         let end = self.make_turn(context, now)?;
-        self.tell_news(context, before, end)?;
+        self.send_news(context, before, end)?;
         Ok(end)
     }
 }

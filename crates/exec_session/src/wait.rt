@@ -86,5 +86,5 @@ pub fn wait<R: Input, D: Disk + Drop, C: Children + Drop, T: Client<D, C>, K: Cl
         return worker.pauses(pause);
     }
     wait_for_line(worker, pause);
-    worker.is_heard()
+    worker.has_reader()
 }

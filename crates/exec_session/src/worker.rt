@@ -5,7 +5,7 @@ ghost use Rattle.ocf_types.specs.Numbers.{IsMoment};
 ghost use Rattle.recurring.specs.Monitors.{IsFirstMoment};
 ghost use Rattle.exec_state.specs.Store.{all_pairs};
 ghost use Rattle.exec_turn.specs.Actives.{any_running};
-ghost use Rattle.exec_client.specs.MayTell.{AllStand};
+ghost use Rattle.exec_client.specs.MaySend.{AllStand};
 ghost use Rattle.exec_lines.specs.Buffer.{line_bytes};
 ghost use Rattle.exec_lines.specs.Pieces.{IsMidLine, IsNext};
 ghost use Rattle.exec_session.specs.Pausing.{IsQuietSince};
@@ -37,7 +37,7 @@ pub struct Worker<'a, R: Input, D: Disk + Drop, C: Children + Drop, T: Client<D,
 
 impl<'a, R: Input, D: Disk + Drop, C: Children + Drop, T: Client<D, C>, K: Clock> Model
     for Worker<'a, R, D, C, T, K> {
-    ghost use Rattle.exec_client.specs.MayTell.{AllStand};
+    ghost use Rattle.exec_client.specs.MaySend.{AllStand};
     ghost use Rattle.exec_session.specs.Spots.{Position, at_of};
     ghost use Rattle.serde_json.specs.contracts.value.Value as json_value;
     ghost use Rattle.std.specs.Coded.{codes};
@@ -60,7 +60,7 @@ impl<'a, R: Input, D: Disk + Drop, C: Children + Drop, T: Client<D, C>, K: Clock
     K,
 > {
     /// An executor that was just opened, and a client that was sent nothing yet.
-    #[tactic(auto, using(crate::proofs::TellLemmas::new_stands))]
+    #[tactic(auto, using(crate::proofs::SendLemmas::new_stands))]
     pub fn new(edge: Edge<'a, R, D, C, T, K>, executor: Executor<D, C>) -> Worker<'a, R, D, C, T, K>
         requires fresh { IsNew edge.client_view executor }
         ensures { result ≡ at_of executor edge.entry }
@@ -115,7 +115,7 @@ impl<'a, R: Input, D: Disk + Drop, C: Children + Drop, T: Client<D, C>, K: Clock
     {
         let micros = pause.behind_turn(self.edge.clock(), &self.executor);
         self.edge.rest(micros);
-        self.edge.is_heard()
+        self.edge.has_reader()
     }
 
     /// Polls the input for at most this many milliseconds. Whether a read would not block.
@@ -169,10 +169,10 @@ impl<'a, R: Input, D: Disk + Drop, C: Children + Drop, T: Client<D, C>, K: Clock
     }
 
     /// Whether anybody may still read the output.
-    pub fn is_heard(&mut self) -> bool
+    pub fn has_reader(&mut self) -> bool
         ensures noted { self.new ≡ noted self.old (Asked result) }
     {
-        self.edge.is_heard()
+        self.edge.has_reader()
     }
 
     /// When the first monitor is due, in milliseconds since 1970.

@@ -3,9 +3,9 @@ ghost use Rattle.std.specs.Prelude.{◌≡◌, [], ◌∷◌, ◌++◌, ◌≤�
 ghost use Rattle.ocf_types.specs.Numbers.{IsMoment};
 ghost use Rattle.exec_lines.specs.Buffer.{line_bytes};
 ghost use Rattle.exec_lines.specs.Pieces.{IsMidLine, IsNext};
-ghost use Rattle.exec_client.specs.ClientView.{Receives, ReceivesPart, IsTold};
-ghost use Rattle.exec_client.specs.MayTell.{MayTell};
-ghost use Rattle.exec_client.specs.Said.{said_in};
+ghost use Rattle.exec_client.specs.ClientView.{Receives, ReceivesPart, IsSent};
+ghost use Rattle.exec_client.specs.MaySend.{MaySend};
+ghost use Rattle.exec_client.specs.SentItem.{sent_in};
 ghost use Rattle.exec_trace.specs.Edges.{EdgeView, noting, rested};
 ghost use Rattle.exec_trace.specs.declared.event.IoEvent.TheVariants.{Asked, Looked, Peeked, Read, Sent, Shown};
 
@@ -13,7 +13,7 @@ use crate::event::IoEvent;
 use crate::failed::Failed;
 use child_model::Children;
 use disk_model::Disk;
-use exec_client::{Client, Told};
+use exec_client::{Client, Message};
 use exec_commands::{NoticeForm, Tag};
 use exec_lines::{Input, LineBuffer, Next, gather_line, moment_now};
 use exec_messages::IoFault;
@@ -143,22 +143,22 @@ impl<'a, R: Input, D: Disk + Drop, C: Children + Drop, T: Client<D, C>, K: Clock
 
     /// Sends the client a message that is already recorded; notices in this form. On error a prefix of its lines was sent, and maybe part
     /// of the next.
-    pub fn tell(
+    pub fn send(
         &mut self,
         executor: &Executor<D, C>,
         form: NoticeForm,
-        what: &Told,
+        what: &Message,
     ) -> Result<(), Failed>
-        requires may_tell { MayTell D.view self.old.client_view executor.now what.now }
-        ensures told { IsTold self.old.client_view self.new.client_view (said_in what.now) }
-        ensures receives { OnOk result (Receives form.entry self.old.client_view self.new.client_view (said_in what.now)) }
-        ensures breaks { OnErr result (ReceivesPart form.entry self.old.client_view self.new.client_view (said_in what.now)) }
+        requires may_send { MaySend D.view self.old.client_view executor.now what.now }
+        ensures reported { IsSent self.old.client_view self.new.client_view (sent_in what.now) }
+        ensures receives { OnOk result (Receives form.entry self.old.client_view self.new.client_view (sent_in what.now)) }
+        ensures breaks { OnErr result (ReceivesPart form.entry self.old.client_view self.new.client_view (sent_in what.now)) }
         ensures left { self.new.left ≡ self.old.left }
         ensures noted { self.new.events ≡ self.old.events ++ Sent (is_ok result) ∷ [] }
     {
-        let told = self.client.tell(executor, form, what);
-        self.past.note(&IoEvent::Sent { done: told.is_ok() });
-        match told {
+        let reported = self.client.send(executor, form, what);
+        self.past.note(&IoEvent::Sent { done: reported.is_ok() });
+        match reported {
             Ok(()) => Ok(()),
             Err(fault) => {
                 self.fault = fault;
@@ -184,10 +184,10 @@ impl<'a, R: Input, D: Disk + Drop, C: Children + Drop, T: Client<D, C>, K: Clock
     }
 
     /// Whether anybody may still read the output.
-    pub fn is_heard(&mut self) -> bool
+    pub fn has_reader(&mut self) -> bool
         ensures noted { self.new ≡ noting self.old (Asked result) }
     {
-        let client_view = self.client.is_heard();
+        let client_view = self.client.has_reader();
         self.past.note(&IoEvent::Asked { client_view });
         client_view
     }

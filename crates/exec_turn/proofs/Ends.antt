@@ -19,7 +19,7 @@ use Rattle.exec_turn.specs.Picks.{begins}
 use Rattle.exec_ledger.specs.Pieces.{Effects, Leaves, no_effects}
 use Rattle.exec_turn.specs.Polls.{polls, results}
 use Rattle.exec_turn.specs.Starts.{Started, refusal_notices, refusals, starts}
-use Rattle.exec_turn.specs.Turn.{IsFinish, IsTurn, PickedAt, Told, TurnKind, Whole}
+use Rattle.exec_turn.specs.Turn.{IsFinish, IsTurn, PickedAt, TurnReport, TurnKind, Whole}
 use Rattle.exec_ledger.specs.Scenes.{Scene, behind, due_after_all, scene}
 use Rattle.exec_turn.specs.Turns.{BeginsBatch, Finishes, PollsBatch, StartsBatch, Turns, TurnsAs, end_of}
 
@@ -63,11 +63,11 @@ module _ {D : Type 0} {look : D → View} {at : ℕ} {k0 k1 : D} {s0 s1 : State}
 
   pub no_results : {f : DiskFault} → PollsBatch look k0 k1 (scene s0 d0 p0 at a0) (scene s1 d1 p1 at a1) from c1 n1 (Err f)
       → Turns look k0 k1 (scene s0 d0 p0 at a0) s1 d1 from c1 n1 turn_end.Disk
-  no_results p = results_failed IsTurn p (inl (p.answers, p.each, refl, p.told_is))
+  no_results p = results_failed IsTurn p (inl (p.answers, p.each, refl, p.reported_is))
 
   pub finish_failed : {f : DiskFault} → PollsBatch look k0 k1 (scene s0 d0 p0 at a0) (scene s1 d1 p1 at a1) from c1 n1 (Err f)
       → Finishes look k0 k1 (scene s0 d0 p0 at a0) s1 d1 from c1 n1 turn_end.Disk
-  finish_failed p = results_failed IsFinish p (p.answers, p.each, refl, p.told_is)
+  finish_failed p = results_failed IsFinish p (p.answers, p.each, refl, p.reported_is)
 
   -- the batch of results was recorded, and nothing begins
   pub finish_done : {u : Unit} → PollsBatch look k0 k1 (scene s0 d0 p0 at a0) (scene s1 d1 p1 at a1) from c1 n1 (Ok u)
@@ -77,7 +77,7 @@ module _ {D : Type 0} {look : D → View} {at : ℕ} {k0 k1 : D} {s0 s1 : State}
     book = p.book;
     log = p.log;
     site = p.site;
-    does = (p.answers, p.each, refl, p.told_is);
+    does = (p.answers, p.each, refl, p.reported_is);
     crash = p.crash;
     due_is = ap (λ (x : Scene). x.due) p.moves;
     whole = λ _. refl;
@@ -105,7 +105,7 @@ module _ {D : Type 0} {look : D → View} {at : ℕ} {k0 k1 : D} {s0 s1 : State}
           book = p.book;
           log = p.log;
           site = p.site;
-          does = inr (inl (p.answers, b.end, begun, p.each, picks begun b.end b.picked, refl, p.told_is));
+          does = inr (inl (p.answers, b.end, begun, p.each, picks begun b.end b.picked, refl, p.reported_is));
           crash =
               subst (λ (did : Effects). Leaves look k0 k2 s0 s2 did) (λ i. record {
                 entries = append-nil (polls at p.answers) i;
@@ -157,8 +157,8 @@ module _ {D : Type 0} {look : D → View} {at : ℕ} {k0 k1 : D} {s0 s1 : State}
             (joined look k0 k2 k3 s0 s2 s3 (record { entries = entries; events = before; pending = [] })
             (record { entries = []; events = es; pending = pending }) refl begun_leaves last)
 
-        abbrev all_told : Told end (scene s0 d0 p0 at a0)
-        all_told = record {
+        abbrev all_reported : TurnReport end (scene s0 d0 p0 at a0)
+        all_reported = record {
           polled = p.answers;
           begun = begun;
           started = answers;
@@ -177,7 +177,7 @@ module _ {D : Type 0} {look : D → View} {at : ℕ} {k0 k1 : D} {s0 s1 : State}
         book = both_entries from.book (polls at p.answers) (starts (look k2).clock x.answers) p.book x.book;
         log = both_entries from.log (polls at p.answers) (starts (look k2).clock x.answers) p.log x.log;
         site = x.site ∙ p.site;
-        does = inr (inr (end, all_told x.answers x.each, refl, x.told_is ∙ p.told_is));
+        does = inr (inr (end, all_reported x.answers x.each, refl, x.reported_is ∙ p.reported_is));
         crash =
             subst (λ (l : List Event). Leaves look k0 k3 s0 s3
             (record { entries = entries x.answers x.each; events = l; pending = refusals at x.answers })) (append-nil before)
@@ -191,15 +191,15 @@ module _ {D : Type 0} {look : D → View} {at : ℕ} {k0 k1 : D} {s0 s1 : State}
             omega (arith, increased, old, older);
       }
 
-      is_whole : (e : TurnEnd) (x : Scene) (did : Effects) (told : List Notice) → PickedAt e (scene s1 d1 p1 at a1) begun → Whole e x did told
-          → IsTurn e x did told
-      is_whole turn_end.Done x did told h done = done
-      is_whole turn_end.RunsSpent x did told h done = done
-      is_whole turn_end.Full x did told h done = done
-      is_whole turn_end.Memory x did told h done = done
-      is_whole turn_end.Closed x did told h done = absurd h.0.0
-      is_whole turn_end.BookFull x did told h done = absurd h.0.0
-      is_whole turn_end.Disk x did told h done = absurd h.0.0
+      is_whole : (e : TurnEnd) (x : Scene) (did : Effects) (reported : List Notice) → PickedAt e (scene s1 d1 p1 at a1) begun → Whole e x did reported
+          → IsTurn e x did reported
+      is_whole turn_end.Done x did reported h done = done
+      is_whole turn_end.RunsSpent x did reported h done = done
+      is_whole turn_end.Full x did reported h done = done
+      is_whole turn_end.Memory x did reported h done = done
+      is_whole turn_end.Closed x did reported h done = absurd h.0.0
+      is_whole turn_end.BookFull x did reported h done = absurd h.0.0
+      is_whole turn_end.Disk x did reported h done = absurd h.0.0
 
       not_disk : (e : TurnEnd) → PickedAt e (scene s1 d1 p1 at a1) begun → e ≡ turn_end.Disk → ⊥
       not_disk turn_end.Done h is = cc
@@ -229,10 +229,10 @@ module _ {D : Type 0} {look : D → View} {at : ℕ} {k0 k1 : D} {s0 s1 : State}
             log = both_entries from.log (polls at p.answers) (starts (look k2).clock x.answers) p.log x.log;
             site = x.site ∙ p.site;
             does = is_whole end (scene s0 d0 p0 at a0) did n3 picked (
-              all_told x.answers x.each,
+              all_reported x.answers x.each,
               refl,
-              x.told_is
-                  ∙ ap (λ (l : List Notice). l ++ refusal_notices at x.answers) p.told_is,
+              x.reported_is
+                  ∙ ap (λ (l : List Notice). l ++ refusal_notices at x.answers) p.reported_is,
             );
             crash = ended x.answers x.each k3 s3 (refusals at x.answers) [] batch.crash;
             due_is = due3;
@@ -241,14 +241,14 @@ module _ {D : Type 0} {look : D → View} {at : ℕ} {k0 k1 : D} {s0 s1 : State}
           }
 
 -- the same with other notices
-pub polled_told : {D : Type 0} {look : D → View} {k l : D} {x y : Scene} {from to : ChildrenView} {n m : List Notice} {r : Result Unit DiskFault}
+pub polled_reported : {D : Type 0} {look : D → View} {k l : D} {x y : Scene} {from to : ChildrenView} {n m : List Notice} {r : Result Unit DiskFault}
     → m ≡ n → PollsBatch look k l x y from to n r → PollsBatch look k l x y from to m r
-polled_told {look = look} {k = k} {l = l} {x = x} {y = y} {from = from} {to = to} {r = r} same polled =
-    subst (λ (told : List Notice). PollsBatch look k l x y from to told r) (sym same) polled
+polled_reported {look = look} {k = k} {l = l} {x = x} {y = y} {from = from} {to = to} {r = r} same polled =
+    subst (λ (reported : List Notice). PollsBatch look k l x y from to reported r) (sym same) polled
 
 -- a disk fault ends a turn as such
-pub failed_end : {D : Type 0} {look : D → View} {old new : D} {x : Scene} {t : State} {due : Due} {from to : ChildrenView} {told : List Notice}
-    (r : Result TurnEnd DiskFault) → IsErr r → Turns look old new x t due from to told turn_end.Disk → Turns look old new x t due from to told (end_of r)
+pub failed_end : {D : Type 0} {look : D → View} {old new : D} {x : Scene} {t : State} {due : Due} {from to : ChildrenView} {reported : List Notice}
+    (r : Result TurnEnd DiskFault) → IsErr r → Turns look old new x t due from to reported turn_end.Disk → Turns look old new x t due from to reported (end_of r)
 failed_end (Ok end) bad turns = let none : ⊥ = cc in absurd none
 failed_end (Err f) bad turns = turns
 
@@ -257,5 +257,5 @@ pub picks_ended : {D : Type 0} {look : D → View} {k l : D} {x y : Scene} {begu
     → BeginsBatch look k l x y begun (Ok end) → (end ≡ turn_end.BookFull → ⊥) × (end ≡ turn_end.Disk → ⊥)
 picks_ended {x = x} {begun = begun} {end = end} b = (λ is. (so is).0.0, λ is. (so is).0.0)
   where
-    so : {told : TurnEnd} → end ≡ told → PickedAt told x begun
+    so : {reported : TurnEnd} → end ≡ reported → PickedAt reported x begun
     so is = subst (λ (e : TurnEnd). PickedAt e x begun) (sym b.ended ∙ is) b.picked

@@ -147,7 +147,7 @@ polled_one at id x o answer kill old new end is byte children ended =
       bytes = (byte, tt);
       children = children;
       batch_is = ap (λ e. map (result_of at who) (option_to_list e)) ended ∙ sym (append-nil _);
-      told_is = ap (λ e. map (notice_of at who) (option_to_list e)) ended ∙ sym (append-nil _);
+      reported_is = ap (λ e. map (notice_of at who) (option_to_list e)) ended ∙ sym (append-nil _);
     }
 
 pub polled_none : (at : ℕ) (id : List ℕ) (o : Option Running) (v : ChildrenView) → o ≡ None → Polls at (active_of id o) v v [] []
@@ -157,7 +157,7 @@ polled_none at id o v is = record {
   bytes = tt;
   children = refl;
   batch_is = refl;
-  told_is = refl;
+  reported_is = refl;
 }
 
 after_polls-append : (at : ℕ) (v : ChildrenView) (ps qs : List Polled)
@@ -166,9 +166,9 @@ after_polls-append at v [] qs = refl
 after_polls-append at v (p ∷ ps) qs = after_polls-append at (polled_on at p.who.running p.poll p.kill v) ps qs
 
 -- polls of some actions, and then of others
-pub polls_more : (at : ℕ) (xs ys : List Active) (v v1 v2 : ChildrenView) (batch more : List Event) (told later : List Notice)
-    → Polls at xs v v1 batch told → Polls at ys v1 v2 more later → Polls at (xs ++ ys) v v2 (batch ++ more) (told ++ later)
-polls_more at xs ys v v1 v2 batch more told later f g = record {
+pub polls_more : (at : ℕ) (xs ys : List Active) (v v1 v2 : ChildrenView) (batch more : List Event) (reported later : List Notice)
+    → Polls at xs v v1 batch reported → Polls at ys v1 v2 more later → Polls at (xs ++ ys) v v2 (batch ++ more) (reported ++ later)
+polls_more at xs ys v v1 v2 batch more reported later f g = record {
   answers = f.answers ++ g.answers;
   each = map-append _ f.answers g.answers ∙ ap (λ (l : List Active). l ++ whos g.answers) f.each ∙ ap (λ (l : List Active). xs ++ l) g.each;
   bytes = each_append _ f.answers g.answers f.bytes g.bytes;
@@ -177,8 +177,8 @@ polls_more at xs ys v v1 v2 batch more told later f g = record {
   batch_is =
       ap (λ (l : List Event). l ++ more) f.batch_is ∙ ap (λ (l : List Event). results at f.answers ++ l) g.batch_is
       ∙ sym (flat_map-append _ f.answers g.answers);
-  told_is =
-      ap (λ (l : List Notice). l ++ later) f.told_is ∙ ap (λ (l : List Notice). result_notices at f.answers ++ l) g.told_is
+  reported_is =
+      ap (λ (l : List Notice). l ++ later) f.reported_is ∙ ap (λ (l : List Notice). result_notices at f.answers ++ l) g.reported_is
       ∙ sym (flat_map-append _ f.answers g.answers);
 }
 
@@ -209,10 +209,10 @@ live_on at (p ∷ ps) v runs distinct has =
     (subst (λ (live : List ℕ). Live live runs) (sym (polled_as at p.who.running p.poll p.kill v).live)
     (all_live_after end p.who.running.run v.live runs apart has))
 
-pub others_live : (at : ℕ) (all rest : List Active) (old new : ChildrenView) (batch : List Event) (told : List Notice)
-    → Polls at all old new batch told
+pub others_live : (at : ℕ) (all rest : List Active) (old new : ChildrenView) (batch : List Event) (reported : List Notice)
+    → Polls at all old new batch reported
     → IsDistinct nat_eq (runs_of (all ++ rest)) → Live old.live (runs_of (all ++ rest)) → Live new.live (runs_of rest)
-others_live at all rest old new batch told h distinct has =
+others_live at all rest old new batch reported h distinct has =
     let both : runs_of (all ++ rest) ≡ runs_of all ++ runs_of rest = map-append _ all rest in
     let distinct_polled : IsDistinct nat_eq (runs_of (whos h.answers) ++ runs_of rest) =
     subst (λ (l : List Active). IsDistinct nat_eq (runs_of l ++ runs_of rest)) (sym h.each) (subst (IsDistinct nat_eq) both distinct) in
@@ -238,9 +238,9 @@ pub active_rest : (s : State) (place : ℕ) → place < length s.resources
 active_rest s place within = ap (flat_map active_in) (drop_more s.resources place no_entry within)
 
 -- the book's capacity after polls
-pub room_behind : (at : ℕ) (all : List Active) (old new : ChildrenView) (batch : List Event) (told : List Notice)
-    → Polls at all old new batch told → old.room ≤ new.room + 2 * length all
-room_behind at all old new batch told h =
+pub room_behind : (at : ℕ) (all : List Active) (old new : ChildrenView) (batch : List Event) (reported : List Notice)
+    → Polls at all old new batch reported → old.room ≤ new.room + 2 * length all
+room_behind at all old new batch reported h =
     let many : length h.answers ≡ length all = sym (length-map h.answers _) ∙ ap (λ (l : List Active). length l) h.each in
     let room : new.room ≡ (after_polls at old h.answers).room = ap (λ (w : ChildrenView). w.room) h.children in
     omega (arith, many, room, (polls_as at old h.answers).4)

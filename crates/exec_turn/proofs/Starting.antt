@@ -40,12 +40,12 @@ one_more : {X : Type 0} (f : Started → List X) (xs : List Started) (x : Starte
 one_more f xs x = flat_map-append f xs (x ∷ []) ∙ ap (λ l. flat_map f xs ++ l) (append-nil (f x))
 
 -- these starts, and one more
-pub starts_more : (at clock : ℕ) (all : List Active) (a : Active) (v w x : ChildrenView) (batch batch2 : List Event) (told told2 : List Notice)
+pub starts_more : (at clock : ℕ) (all : List Active) (a : Active) (v w x : ChildrenView) (batch batch2 : List Event) (reported sent2 : List Notice)
     (answer : Result Unit StartFault)
-    → Starts at clock all v w batch told → x ≡ after_start w a.running.run clock answer
-    → batch2 ≡ batch ++ map (result_of at a) (refused_end answer) → told2 ≡ told ++ map (notice_of at a) (refused_end answer)
-    → Starts at clock (all ++ a ∷ []) v x batch2 told2
-starts_more at clock all a v w x batch batch2 told told2 answer so_far view batch_is told_is =
+    → Starts at clock all v w batch reported → x ≡ after_start w a.running.run clock answer
+    → batch2 ≡ batch ++ map (result_of at a) (refused_end answer) → sent2 ≡ reported ++ map (notice_of at a) (refused_end answer)
+    → Starts at clock (all ++ a ∷ []) v x batch2 sent2
+starts_more at clock all a v w x batch batch2 reported sent2 answer so_far view batch_is reported_is =
     let xs = so_far.answers in
     let y : Started = record { what = a; answer = answer } in
     record {
@@ -55,7 +55,7 @@ starts_more at clock all a v w x batch batch2 told told2 answer so_far view batc
           ∙ sym (fold-append (λ (u : ChildrenView) (z : Started). after_start u z.what.running.run clock z.answer) v xs (y ∷ []));
       batch_is = batch_is ∙ ap (λ (l : List Event). l ++ map (result_of at a) (refused_end answer)) so_far.batch_is
           ∙ sym (one_more (λ z. map (result_of at z.what) (refused_end z.answer)) xs y);
-      told_is = told_is ∙ ap (λ (l : List Notice). l ++ map (notice_of at a) (refused_end answer)) so_far.told_is
+      reported_is = reported_is ∙ ap (λ (l : List Notice). l ++ map (notice_of at a) (refused_end answer)) so_far.reported_is
           ∙ sym (one_more (λ z. map (notice_of at z.what) (refused_end z.answer)) xs y);
     }
 

@@ -79,10 +79,10 @@ IsPoll poll.Fault = ⊤
 
 -- These actions were polled once each, in this order: from one view of the children to another, with this batch of results and
 -- these notices.
-pub record Polls (at : ℕ) (all : List Active) (old new : ChildrenView) (batch : List Event) (told : List Notice) : Type 0 where
+pub record Polls (at : ℕ) (all : List Active) (old new : ChildrenView) (batch : List Event) (reported : List Notice) : Type 0 where
   pub answers : List Polled
   pub each : map (λ p. p.who) answers ≡ all
   pub bytes : AllByRecursion (λ p. IsPoll p.poll) answers
   pub children : new ≡ after_polls at old answers
   pub batch_is : batch ≡ results at answers
-  pub told_is : told ≡ result_notices at answers
+  pub reported_is : reported ≡ result_notices at answers

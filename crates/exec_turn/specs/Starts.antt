@@ -39,12 +39,12 @@ refusal_notices at xs = flat_map (λ x. map (notice_of at x.what) (refused_end x
 
 -- These were spawned or refused once each, in this order: from one view of the children to another, with this batch of results
 -- and these notices.
-pub record Starts (at clock : ℕ) (all : List Active) (old new : ChildrenView) (batch : List Event) (told : List Notice) : Type 0 where
+pub record Starts (at clock : ℕ) (all : List Active) (old new : ChildrenView) (batch : List Event) (reported : List Notice) : Type 0 where
   pub answers : List Started
   pub each : map (λ x. x.what) answers ≡ all
   pub children : new ≡ after_starts clock old answers
   pub batch_is : batch ≡ refusals at answers
-  pub told_is : told ≡ refusal_notices at answers
+  pub reported_is : reported ≡ refusal_notices at answers
 
 -- the resource of this id runs an action under this call and run
 pub record RunsUnder (s : State) (id : List ℕ) (call run : ℕ) : Type 0 where

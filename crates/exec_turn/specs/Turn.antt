@@ -26,7 +26,7 @@ PickedAt end x bs = Picked end x.state x.due x.place.tail x.at bs × (end ≡ tu
 
 -- The answers in a turn: a poll of each running action, the actions begun after their results, and a start of each of these, all
 -- in order of registration, when the journal's disk had had this many device calls.
-pub record Told (end : TurnEnd) (x : Scene) : Type 0 where
+pub record TurnReport (end : TurnEnd) (x : Scene) : Type 0 where
   pub polled : List Polled
   pub begun : List Active
   pub started : List Started
@@ -37,54 +37,54 @@ pub record Told (end : TurnEnd) (x : Scene) : Type 0 where
 
 -- a turn with these answers that left nothing pending
 abbrev pub Whole : TurnEnd → Scene → Effects → List Notice → Type 0
-Whole end x did told = (t : Told end x)
+Whole end x did reported = (t : TurnReport end x)
     × (did ≡ record {
       entries = polls x.at t.polled ++ starts t.clock t.started;
       events = results x.at t.polled ++ begins x.at t.begun ++ refusals x.at t.started;
       pending = [];
     })
-    × (told ≡ result_notices x.at t.polled ++ refusal_notices x.at t.started)
+    × (reported ≡ result_notices x.at t.polled ++ refusal_notices x.at t.started)
 
 -- one that did nothing
 abbrev pub Nothing : Effects → List Notice → Type 0
-Nothing did told = (did ≡ no_effects) × (told ≡ [])
+Nothing did reported = (did ≡ no_effects) × (reported ≡ [])
 
 -- one whose batch of results was recorded, and which began nothing
 abbrev pub OnlyResults : Scene → Effects → List Notice → Type 0
-OnlyResults x did told = (ps : List Polled) × EachPolled x ps
-    × (did ≡ record { entries = polls x.at ps; events = results x.at ps; pending = [] }) × (told ≡ result_notices x.at ps)
+OnlyResults x did reported = (ps : List Polled) × EachPolled x ps
+    × (did ≡ record { entries = polls x.at ps; events = results x.at ps; pending = [] }) × (reported ≡ result_notices x.at ps)
 
 -- one whose batch of results failed: it polled, and no more
 abbrev pub NoResults : Scene → Effects → List Notice → Type 0
-NoResults x did told = (ps : List Polled) × EachPolled x ps
-    × (did ≡ record { entries = polls x.at ps; events = []; pending = results x.at ps }) × (told ≡ [])
+NoResults x did reported = (ps : List Polled) × EachPolled x ps
+    × (did ≡ record { entries = polls x.at ps; events = []; pending = results x.at ps }) × (reported ≡ [])
 
 -- one whose batch of begins failed: nothing was spawned
 abbrev pub NoBegins : Scene → Effects → List Notice → Type 0
-NoBegins x did told = (ps : List Polled) × (end : TurnEnd) × (bs : List Active) × EachPolled x ps
+NoBegins x did reported = (ps : List Polled) × (end : TurnEnd) × (bs : List Active) × EachPolled x ps
     × PickedAt end (behind x (results x.at ps)) bs
-    × (did ≡ record { entries = polls x.at ps; events = results x.at ps; pending = begins x.at bs }) × (told ≡ result_notices x.at ps)
+    × (did ≡ record { entries = polls x.at ps; events = results x.at ps; pending = begins x.at bs }) × (reported ≡ result_notices x.at ps)
 
 -- one whose batch of refused starts failed
 abbrev pub NoRefusals : Scene → Effects → List Notice → Type 0
-NoRefusals x did told = (end : TurnEnd) × (t : Told end x)
+NoRefusals x did reported = (end : TurnEnd) × (t : TurnReport end x)
     × (did ≡ record {
       entries = polls x.at t.polled ++ starts t.clock t.started;
       events = results x.at t.polled ++ begins x.at t.begun;
       pending = refusals x.at t.started;
     })
-    × (told ≡ result_notices x.at t.polled)
+    × (reported ≡ result_notices x.at t.polled)
 
 -- a turn of an open executor, by its end
 abbrev pub IsTurn : TurnKind
-IsTurn turn_end.Closed x did told = ⊥
-IsTurn turn_end.BookFull x did told = Nothing did told
-IsTurn turn_end.Disk x did told = NoResults x did told ⊎ (NoBegins x did told ⊎ NoRefusals x did told)
-IsTurn end x did told = Whole end x did told
+IsTurn turn_end.Closed x did reported = ⊥
+IsTurn turn_end.BookFull x did reported = Nothing did reported
+IsTurn turn_end.Disk x did reported = NoResults x did reported ⊎ (NoBegins x did reported ⊎ NoRefusals x did reported)
+IsTurn end x did reported = Whole end x did reported
 
 -- one that begins nothing, by its end
 abbrev pub IsFinish : TurnKind
-IsFinish turn_end.Done x did told = OnlyResults x did told
-IsFinish turn_end.BookFull x did told = Nothing did told
-IsFinish turn_end.Disk x did told = NoResults x did told
-IsFinish _ x did told = ⊥
+IsFinish turn_end.Done x did reported = OnlyResults x did reported
+IsFinish turn_end.BookFull x did reported = Nothing did reported
+IsFinish turn_end.Disk x did reported = NoResults x did reported
+IsFinish _ x did reported = ⊥

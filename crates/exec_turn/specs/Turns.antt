@@ -28,7 +28,7 @@ pub record ChildrenMatch (s : State) (v : ChildrenView) : Type 0 where
   pub rising : v.last_run < s.next_run
 
 -- The first step: polls, and the batch of their results.
-pub record PollsBatch {D : Type 0} (look : D → View) (k l : D) (x y : Scene) (from to : ChildrenView) (told : List Notice)
+pub record PollsBatch {D : Type 0} (look : D → View) (k l : D) (x y : Scene) (from to : ChildrenView) (reported : List Notice)
     (result : Result Unit DiskFault) : Type 0 where
   pub answers : List Polled
   pub each : EachPolled x answers
@@ -39,12 +39,12 @@ pub record PollsBatch {D : Type 0} (look : D → View) (k l : D) (x y : Scene) (
   pub moves : Moves x y (results x.at answers) result
   pub crash : Leaves look k l x.state y.state (record (batch_effects (is_ok result) (results x.at answers)) { entries = polls x.at answers })
   pub cause : OnErr result (Increased (look k).failures (look l).failures)
-  pub told_is : told ≡ (if is_ok result then result_notices x.at answers else [])
+  pub reported_is : reported ≡ (if is_ok result then result_notices x.at answers else [])
 
 -- The second: the actions begun, by what ended the picks, and the batch of begins.
 pub record BeginsBatch {D : Type 0} (look : D → View) (k l : D) (x y : Scene) (begun : List Active) (result : Result TurnEnd DiskFault) : Type 0 where
   pub end : TurnEnd
-  pub ended : IfOk result (λ told. told ≡ end)
+  pub ended : IfOk result (λ reported. reported ≡ end)
   pub picked : PickedAt end x begun
   pub recorded : RecordsBatch look k l x y (begins x.at begun) result
 
@@ -60,14 +60,14 @@ pub record Startable (s : State) (v : ChildrenView) (begun : List (StartOf Call)
 
 -- The third: starts, and the batch of results of those that were refused.
 pub record StartsBatch {D : Type 0} (look : D → View) (k l : D) (x y : Scene) (begun : List Active) (from to : ChildrenView)
-    (was told : List Notice) (result : Result Unit DiskFault) : Type 0 where
+    (was reported : List Notice) (result : Result Unit DiskFault) : Type 0 where
   pub answers : List Started
   pub each : map (λ a. a.what) answers ≡ begun
   pub book : to.book ≡ from.book ++ starts (look k).clock answers
   pub log : to.log ≡ from.log ++ starts (look k).clock answers
   pub site : to.site ≡ from.site
   pub recorded : RecordsBatch look k l x y (refusals x.at answers) result
-  pub told_is : told ≡ (if is_ok result then was ++ refusal_notices x.at answers else was)
+  pub reported_is : reported ≡ (if is_ok result then was ++ refusal_notices x.at answers else was)
 
 -- the end of a turn whose batches were recorded, or one of which met a disk fault
 abbrev pub end_of : Result TurnEnd DiskFault → TurnEnd
@@ -76,14 +76,14 @@ end_of (Err fault) = turn_end.Disk
 
 -- A turn of a kind, of an open executor: from the view before it to a state, due moments and children, with its notices.
 pub record TurnsAs {D : Type 0} (kind : TurnKind) (look : D → View) (old new : D) (x : Scene) (t : State) (due : Due) (from to : ChildrenView)
-    (told : List Notice) (end : TurnEnd) : Type 0 where
+    (reported : List Notice) (end : TurnEnd) : Type 0 where
   pub effects : Effects
   pub book : to.book ≡ from.book ++ effects.entries
   -- the log of all answers ever got the same entries, whether or not the book was emptied in between
   pub log : to.log ≡ from.log ++ effects.entries
   -- the site that its children insist on stays
   pub site : to.site ≡ from.site
-  pub does : kind end x effects told
+  pub does : kind end x effects reported
   -- the events that it recorded, what a crash at any moment of it leaves, and that no agent was spawned without its synced begin
   pub crash : Leaves look old new x.state t effects
   pub due_is : due ≡ due_after_all x.state x.due effects.events
@@ -93,11 +93,11 @@ pub record TurnsAs {D : Type 0} (kind : TurnKind) (look : D → View) (old new :
 
 -- a turn that begins what has to begin, and one that begins nothing
 abbrev pub Turns : {D : Type 0} → (D → View) → D → D → Scene → State → Due → ChildrenView → ChildrenView → List Notice → TurnEnd → Type 0
-Turns look old new x t due from to told end = TurnsAs IsTurn look old new x t due from to told end
+Turns look old new x t due from to reported end = TurnsAs IsTurn look old new x t due from to reported end
 
 abbrev pub Finishes : {D : Type 0} → (D → View) → D → D → Scene → State → Due → ChildrenView → ChildrenView → List Notice → TurnEnd → Type 0
-Finishes look old new x t due from to told end = TurnsAs IsFinish look old new x t due from to told end
+Finishes look old new x t due from to reported end = TurnsAs IsFinish look old new x t due from to reported end
 
 -- the notices of the last turn
-abbrev pub told_of : {M : Type 0} → TurnBuffers M → List Notice
-told_of batches = batches.notices.items
+abbrev pub reports_of : {M : Type 0} → TurnBuffers M → List Notice
+reports_of batches = batches.notices.items

@@ -4,7 +4,7 @@ ghost use Rattle.ocf_types.specs.Answer.{moment};
 ghost use Rattle.exec_ledger.specs.LedgerView.{due_in};
 ghost use Rattle.exec_ledger.specs.Scenes.{scene_of};
 ghost use Rattle.exec_turn.specs.Actives.{any_running};
-ghost use Rattle.exec_turn.specs.Turns.{ChildrenMatch, Finishes, told_of};
+ghost use Rattle.exec_turn.specs.Turns.{ChildrenMatch, Finishes, reports_of};
 
 use crate::buffers::TurnBuffers;
 use crate::turn::record_polls;
@@ -45,7 +45,7 @@ pub fn finish_turn<D: Disk + Drop, C: Children, A: Grows>(
     ensures finishes { Finishes D.view ledger.old.disk ledger.new.disk
         (scene_of ledger.old (moment ledger.old.state now)) ledger.new.state
         (due_in ledger.new)
-        (C.view children.old) (C.view children.new) (told_of batches.new) result }
+        (C.view children.old) (C.view children.new) (reports_of batches.new) result }
     ensures full { result ≡ TurnEnd.BookFull
         ↔ (C.view children.old).room < 2 * length ledger.old.state.resources }
     ensures unchanged { result ≡ TurnEnd.BookFull

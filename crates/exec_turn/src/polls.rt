@@ -66,11 +66,11 @@ fn poll_at<C: Children, A: Grows>(
         ≤ (C.view children.old).room }
     requires batch_room { vec_len batch.old < vec_capacity batch.old }
     requires notice_room { vec_len notices.old < vec_capacity notices.old }
-    ensures polled { (more : List Event) × (told : List Notice)
+    ensures polled { (more : List Event) × (reported : List Notice)
         × Polls at (active_in (entry_at state.now.state place)) (C.view children.old)
-        (C.view children.new) more told
+        (C.view children.new) more reported
         × (batch.new.items ≡ batch.old.items ++ more)
-        × (notices.new.items ≡ notices.old.items ++ told) }
+        × (notices.new.items ≡ notices.old.items ++ reported) }
     ensures batch { GrowsInRoom 1 batch.old batch.new }
     ensures notices { GrowsInRoom 1 notices.old notices.new }
 {

@@ -80,11 +80,11 @@ pub(crate) fn start_all<D: Disk + Drop, C: Children, A: Grows>(
     requires room { length starts.now ≤ (C.view children.old).room }
     requires batch_room { length starts.now ≤ vec_capacity batch.old }
     requires notice_room { vec_len notices.old + length starts.now ≤ vec_capacity notices.old }
-    ensures started { (told : List Notice)
+    ensures started { (reported : List Notice)
         × Starts at (D.view (journal_disk journal.now)).clock (all_starting starts.now)
         (C.view children.old)
-        (C.view children.new) batch.new.items told
-        × (notices.new.items ≡ notices.old.items ++ told) }
+        (C.view children.new) batch.new.items reported
+        × (notices.new.items ≡ notices.old.items ++ reported) }
     ensures batch_room { vec_capacity batch.new ≡ vec_capacity batch.old }
     ensures notice_room { vec_capacity notices.new ≡ vec_capacity notices.old }
 {

@@ -49,7 +49,7 @@ module _ {D : Type 0} (look : D → View) where
   asked_refused : (v : Result Event Refusal) (now : ℕ) (c : Command) (x y : ExecutorView D) (r : Reply) → event_of x.state now c ≡ v
       → Obeys look v (ledger_of x) (ledger_of y) r → r ≡ reply.Refused Memory → IsTrue x.refuses
   asked_refused (Err refusal) now c x y r is obeys lacks =
-      let told : reply.Refused refusal ≡ reply.Refused Memory = sym obeys.0 ∙ lacks in
+      let reported : reply.Refused refusal ≡ reply.Refused Memory = sym obeys.0 ∙ lacks in
       let same : refusal ≡ Memory = cc in
       absurd (no_memory x.state now c (is ∙ ap (λ (w : Refusal). Err w) same))
   asked_refused (Ok e) now c x y r is obeys lacks = (obeys.memory lacks).1
@@ -62,10 +62,10 @@ module _ {D : Type 0} (look : D → View) where
   -- turns
   ended : (now : ℕ) (x y : ExecutorView D) (r : Reply) (d : Effects) → TakesATurn look now x y r d → r ≡ reply.Turn turn_end.Memory → IsTrue x.refuses
   ended now x y r d takes lacks =
-      let told : reply.Turn takes.end ≡ reply.Turn turn_end.Memory = sym takes.replies ∙ lacks in
+      let reported : reply.Turn takes.end ≡ reply.Turn turn_end.Memory = sym takes.replies ∙ lacks in
       let same : takes.end ≡ turn_end.Memory = cc in
       let t = takes.takes.turns in
-      (subst (λ (e : TurnEnd). IsTurn e (scene x.state (due_in x) x.place (moment x.state now) x.refuses) t.effects y.told) same
+      (subst (λ (e : TurnEnd). IsTurn e (scene x.state (due_in x) x.place (moment x.state now) x.refuses) t.effects y.reported) same
       t.does).0.picked.1 refl
 
   taken : (b : Bool) (i : Input) (x y : ExecutorView D) (r : Reply) (d : Effects) → TakesWhile b look i x y r d → LacksMemory (Took i r)
@@ -73,28 +73,28 @@ module _ {D : Type 0} (look : D → View) where
   taken true (input.Request now request) x y r d takes lacks = served now request x y r takes.serves lacks
   taken true (input.Turn now) x y r d takes lacks = ended now x y r d takes lacks
   taken false (input.Request now request) x y r d takes lacks =
-      let told : reply.Refused Closed ≡ reply.Refused Memory = sym takes.0 ∙ lacks in
+      let reported : reply.Refused Closed ≡ reply.Refused Memory = sym takes.0 ∙ lacks in
       let no : ⊥ = cc in absurd no
   taken false (input.Turn now) x y r d takes lacks =
-      let told : reply.Turn turn_end.Closed ≡ reply.Turn turn_end.Memory = sym takes.0 ∙ lacks in
+      let reported : reply.Turn turn_end.Closed ≡ reply.Turn turn_end.Memory = sym takes.0 ∙ lacks in
       let no : ⊥ = cc in absurd no
 
-  pub memory_told : (e : Exchange) (x y : ExecutorView D) (d : Effects) → Does look e x y d → LacksMemory e → IsTrue x.refuses
-  memory_told (Took i r) x y d does lacks = taken x.is_open i x y r d does lacks
-  memory_told (Batch now cs rs) x y d does lacks =
-      let told = does.takes.told in
+  pub memory_reported : (e : Exchange) (x y : ExecutorView D) (d : Effects) → Does look e x y d → LacksMemory e → IsTrue x.refuses
+  memory_reported (Took i r) x y d does lacks = taken x.is_open i x y r d does lacks
+  memory_reported (Batch now cs rs) x y d does lacks =
+      let reported = does.takes.reported in
       among x.refuses rs
-      (subst (AllByRecursion (MemoryOnlyIf x.refuses)) (sym told) (batch_keeps x.refuses y.is_open does.takes.meant does.takes.memory)) lacks
-  memory_told (Finished now end) x y d does lacks = absurd lacks
-  memory_told (Tidied end) x y d does lacks = absurd lacks
-  memory_told Cleared x y d does lacks = absurd lacks
-  memory_told Abandoned x y d does lacks = absurd lacks
+      (subst (AllByRecursion (MemoryOnlyIf x.refuses)) (sym reported) (batch_keeps x.refuses y.is_open does.takes.meant does.takes.memory)) lacks
+  memory_reported (Finished now end) x y d does lacks = absurd lacks
+  memory_reported (Tidied end) x y d does lacks = absurd lacks
+  memory_reported Cleared x y d does lacks = absurd lacks
+  memory_reported Abandoned x y d does lacks = absurd lacks
 
   -- so where no growth is refused no call reports want of memory
   pub memory_there : (x y : ExecutorView D) (es : List Exchange) (d : Effects) → Calls look x es y d → x.refuses ≡ false
       → AllByRecursion (λ e. LacksMemory e → ⊥) es
   memory_there x y [] d calls none = tt
   memory_there x y (e ∷ es) d (mid, first, later, does, calls, is) none = (
-    (λ lacks. let bad : true ≡ false = sym (memory_told e x mid first does lacks) ∙ none in let no : ⊥ = cc in absurd no),
+    (λ lacks. let bad : true ≡ false = sym (memory_reported e x mid first does lacks) ∙ none in let no : ⊥ = cc in absurd no),
     memory_there mid y es later calls ((call_lasts look e x mid first does).refuses ∙ none),
   )

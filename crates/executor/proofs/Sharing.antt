@@ -50,18 +50,18 @@ given_kept (Refused refusal) r kept given disk = kept (sym given ∙ disk)
 given_kept a r kept (inl is) disk = kept (sym is ∙ disk)
 given_kept a r kept (inr memory) disk = let bad : Refused Memory ≡ Refused Disk = sym memory ∙ disk in cc
 
-said_kept : (o : Option Resource) (say : Resource → Reply) → ((r : Resource) → say r ≡ Refused Disk → ⊥)
+sent_kept : (o : Option Resource) (say : Resource → Reply) → ((r : Resource) → say r ≡ Refused Disk → ⊥)
     → option_map_or say o (Refused UnknownResource) ≡ Refused Disk → ⊥
-said_kept None say kept is = cc
-said_kept (Some r) say kept is = kept r is
+sent_kept None say kept is = cc
+sent_kept (Some r) say kept is = kept r is
 
 pub question_kept : (s : State) (q : Question) (r : Reply) → IsReplyOrMemory (reply_to s q) r → r ≡ Refused Disk → ⊥
 question_kept s q r answers = given_kept (reply_to s q) r (by q) answers
   where
     by : (asked : Question) → reply_to s asked ≡ Refused Disk → ⊥
     by question.List is = cc
-    by (question.Info id) is = said_kept (resource_at s id) _ (λ x bad. cc) is
-    by (question.History id) is = said_kept (resource_at s id) _ (λ x bad. cc) is
+    by (question.Info id) is = sent_kept (resource_at s id) _ (λ x bad. cc) is
+    by (question.History id) is = sent_kept (resource_at s id) _ (λ x bad. cc) is
 
 -- a tidy of a ledger is one of its executor, and leaves what is beside it
 pub tidy_taken : {D : Type 0} (look : D → View) (b : Bool) (x : ExecutorView D) (h : LedgerView D) (end : TidyEnd)
@@ -72,6 +72,6 @@ tidy_taken look false x h end tidies = (tidies.0, same_view x (with_ledger x h) 
 pub tidied_tends : {D : Type 0} (look : D → View) (b : Bool) (x : ExecutorView D) (h : LedgerView D) (end : TidyEnd) → x.is_open ≡ b
     → While b (LedgerTidies look (ledger_of x) h end) ((end ≡ Closed) × (h ≡ ledger_of x)) → ChildrenInvariant x → ChildrenInvariant (with_ledger x h)
 tidied_tends look true x h end was tidies tended is =
-    kept_tends (ledger_of x) h x.children x.site x.told x.told x.reported (same_runs x.state h.state (ap (λ (y : LedgerView _). y.state) tidies.same)) (tended was)
+    kept_tends (ledger_of x) h x.children x.site x.reported x.reported x.opening_report (same_runs x.state h.state (ap (λ (y : LedgerView _). y.state) tidies.same)) (tended was)
 tidied_tends look false x h end was tidies tended is =
     absurd (true≢false (sym is ∙ ap (λ (y : LedgerView _). y.is_open) tidies.1 ∙ was))

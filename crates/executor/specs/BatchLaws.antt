@@ -21,10 +21,10 @@ use Rattle.executor.specs.declared.session.InputOf.TheVariants as input
 
 -- an executor with another ledger, all beside it as it was
 abbrev pub with_ledger : {D : Type 0} → ExecutorView D → LedgerView D → ExecutorView D
-with_ledger x h = executor_view h x.children x.site x.told x.reported
+with_ledger x h = executor_view h x.children x.site x.reported x.opening_report
 
 pub still_beside : {D : Type 0} (x : ExecutorView D) (h : LedgerView D) → OnlyLedgerChanges x (with_ledger x h)
-still_beside x h = record { children = refl; site = refl; told = refl; reported = refl }
+still_beside x h = record { children = refl; site = refl; reported = refl; opening_report = refl }
 
 -- a single command or a batch as a call
 abbrev exchange_of : ℕ → CommitGroup → Exchange
@@ -86,7 +86,7 @@ module _ {D : Type 0} (look : D → View) (now : ℕ) where
       let h = ledger_of y in
       let all = groups_taken takes.groups x h takes.takes in
       let same : y ≡ with_ledger x h = same_view (with_ledger x h) y refl
-      (record { children = beside.children; site = beside.site; told = beside.told; reported = beside.reported }) in
+      (record { children = beside.children; site = beside.site; reported = beside.reported; opening_report = beside.opening_report }) in
       subst (λ (z : ExecutorView D). CallsCommands look now cs x z rs) (sym same) (record {
         exchanges = map (exchange_of now) takes.groups;
         effects = all.0;

@@ -19,7 +19,7 @@ use Rattle.executor.specs.declared.session.InputOf.TheVariants as input
 -- executors are the same whose ledgers are, and all that is beside them
 pub same_view : {D : Type 0} (x y : ExecutorView D) → ledger_of y ≡ ledger_of x → OnlyLedgerChanges x y → y ≡ x
 same_view x y same beside =
-    λ i. executor_view (same i) (beside.children i) (beside.site i) (beside.told i) (beside.reported i)
+    λ i. executor_view (same i) (beside.children i) (beside.site i) (beside.reported i) (beside.opening_report i)
 
 -- a request that was served was taken
 pub request_taken : {D : Type 0} (b : Bool) (look : D → View) (now : ℕ) (request : Request) (x y : ExecutorView D) (reply : Reply)

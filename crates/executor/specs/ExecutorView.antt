@@ -25,13 +25,13 @@ pub record ExecutorView (D : Type 0) : Type 0 where
   pub place : Place
   pub children : ChildrenView
   pub site : SiteView
-  pub told : List Notice
-  pub reported : ReportView
+  pub reported : List Notice
+  pub opening_report : ReportView
   pub refuses : Bool
 
 -- the view of a ledger and of what is beside it
 abbrev pub executor_view : {D : Type 0} → LedgerView D → ChildrenView → SiteView → List Notice → ReportView → ExecutorView D
-executor_view h children site told reported = record {
+executor_view h children site reported opening_report = record {
   is_open = h.is_open;
   state = h.state;
   monitors = h.monitors;
@@ -39,8 +39,8 @@ executor_view h children site told reported = record {
   place = h.place;
   children = children;
   site = site;
-  told = told;
   reported = reported;
+  opening_report = opening_report;
   refuses = h.refuses;
 }
 
@@ -59,8 +59,8 @@ ledger_of x = record {
 pub record OnlyLedgerChanges {D : Type 0} (old new : ExecutorView D) : Type 0 where
   pub children : new.children ≡ old.children
   pub site : new.site ≡ old.site
-  pub told : new.told ≡ old.told
   pub reported : new.reported ≡ old.reported
+  pub opening_report : new.opening_report ≡ old.opening_report
 
 -- the due moments of its recurring monitors
 abbrev pub due_in : {D : Type 0} → ExecutorView D → Due

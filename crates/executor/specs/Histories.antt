@@ -46,13 +46,13 @@ EndsBetween es = (before between later : List Event) (first second : Event) (id 
     → second.change ≡ change.Step id (step.Begin next_call next_run) → has_end id run between ≡ true
 
 -- the interruptions that boots report, each of the state before it
-abbrev pub told_by : State → ℕ → Change → List Notice
-told_by s at change.Boot = interrupted s at
-told_by s at _ = []
+abbrev pub written_by : State → ℕ → Change → List Notice
+written_by s at change.Boot = interrupted s at
+written_by s at _ = []
 
 abbrev pub interruptions : State → List Event → List Notice
 interruptions s [] = []
-interruptions s (e ∷ es) = told_by s e.at e.change ++ interruptions (after s e) es
+interruptions s (e ∷ es) = written_by s e.at e.change ++ interruptions (after s e) es
 
 -- a notice of this run of a resource
 abbrev pub is_of : List ℕ → ℕ → Notice → Bool
@@ -107,5 +107,5 @@ BeginInOrder s id es =
 pub record IsInOrder (s : State) (es : List Event) : Type 0 where
   pub runs : RunsAscend s es
   pub ends : EndsBetween es
-  pub told : InterruptedOnce s es
+  pub reported : InterruptedOnce s es
   pub calls : (id : List ℕ) → BeginInOrder s id es

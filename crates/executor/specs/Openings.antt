@@ -62,7 +62,7 @@ pub record OpensDisk (old new : View) (now : ℕ) : Type 0 where
 pub record IsOver {D : Type 0} (from : ChildrenView) (x : ExecutorView D) : Type 0 where
   pub is_open : x.is_open ≡ true
   pub children : x.children ≡ given_up from
-  pub told : x.told ≡ []
+  pub reported : x.reported ≡ []
   pub rising : from.last_run < x.state.next_run
 
 -- an opened journal at this state got no executor: its children are another journal's, or there is no memory for the buffers of a
@@ -78,7 +78,7 @@ pub record Opened {D : Type 0} (look : D → View) (old : View) (from : Children
   pub over : IsOver from x
   pub sound : ExecutorInvariant look x
   pub starts : (look x.disk).honest → Starts old.reads now x.state (due_in x) was_running was_queued
-  pub reported : x.reported ≡ record { interrupted = was_running; dropped = was_queued }
+  pub opening_report : x.opening_report ≡ record { interrupted = was_running; dropped = was_queued }
   pub did : OpensDisk old (look x.disk) now
   -- the boot fitted
   pub fits : (look x.disk).honest → LacksReserve old.reads → ⊥
@@ -123,12 +123,12 @@ pub record NotOpened (old new : View) (from to : ChildrenView) (now : ℕ) (faul
   pub unwritten : (fault ≡ why.Disk → ⊥) → (old.honest → IsToWrite old.reads → ⊥) → Unwritten old new
 
 -- why the journal was not opened, as the executor reports it
-abbrev pub told_fault : JournalFault → OpenError
-told_fault journal.Disk = why.Disk
-told_fault (journal.Damaged damage) = why.Damaged damage
-told_fault journal.Memory = why.Memory
+abbrev pub reported_fault : JournalFault → OpenError
+reported_fault journal.Disk = why.Disk
+reported_fault (journal.Damaged damage) = why.Damaged damage
+reported_fault journal.Memory = why.Memory
 
 -- why the boot was not recorded, as the executor reports it
-abbrev pub told_slot : SlotFault → OpenError
-told_slot slot.Disk = why.Disk
-told_slot slot.Full = why.Full
+abbrev pub reported_slot : SlotFault → OpenError
+reported_slot slot.Disk = why.Disk
+reported_slot slot.Full = why.Full

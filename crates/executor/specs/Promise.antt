@@ -75,6 +75,6 @@ pub record IsKept (start : State) (xs : List Seen) (zs : List Event) : Type 0 wh
   -- each start of an agent has its begin
   pub begun : AllBegun xs zs
   -- openings report as interrupted what boots interrupt, each at most once and in their order
-  pub reported : IsWithin (reports xs) (interruptions start zs)
+  pub opening_report : IsWithin (reports xs) (interruptions start zs)
   -- the events are in order
   pub order : IsInOrder start zs

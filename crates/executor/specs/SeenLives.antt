@@ -12,16 +12,16 @@ use Rattle.executor.specs.declared.session.InputOf.TheVariants as input
 
 -- the notices of a call, of those that an executor holds after it: of a turn, of an executor that was open
 abbrev pub notices_of : Bool → Exchange → List Notice → List Notice
-notices_of true (Took (input.Turn now) reply) told = told
-notices_of true (Finished now end) told = told
-notices_of _ _ told = []
+notices_of true (Took (input.Turn now) reply) reported = reported
+notices_of true (Finished now end) reported = reported
+notices_of _ _ reported = []
 
 -- the label of a call of an executor that was open or not
 abbrev pub label_in : {D : Type 0} → (D → View) → Bool → Exchange → ExecutorView D → ExecutorView D → Effects → Label
 label_in look was_open e old new effects = record {
   exchange = e;
   answers = effects.entries;
-  notices = notices_of was_open e new.told;
+  notices = notices_of was_open e new.reported;
   room = old.children.room;
   place = old.place;
   faults = ((look old.disk).failures, (look new.disk).failures);

@@ -82,7 +82,7 @@ pub record Leads {D : Type 0} (look : D → View) (old new : ExecutorView D) (ef
   pub log : new.children.log ≡ old.children.log ++ effects.entries
   -- the site and the report of the opening stay
   pub site : new.site ≡ old.site
-  pub reported : new.reported ≡ old.reported
+  pub opening_report : new.opening_report ≡ old.opening_report
   pub due : due_in new ≡ due_after_all old.state (due_in old) effects.events
   -- nothing is pending but after a disk fault, which closed the executor
   pub whole : new.is_open ≡ true → effects.pending ≡ []

@@ -15,14 +15,14 @@ use Rattle.executor.specs.ExecutorView.{ExecutorView, due_in}
 -- of it to another.
 pub record MakesTurn {D : Type 0} (kind : TurnKind) (entries : ℕ) (look : D → View) (now : ℕ) (old new : ExecutorView D) (end : TurnEnd) : Type 0 where
   pub turns : TurnsAs kind look old.disk new.disk
-      (scene old.state (due_in old) old.place (moment old.state now) old.refuses) new.state (due_in new) old.children new.children new.told end
+      (scene old.state (due_in old) old.place (moment old.state now) old.refuses) new.state (due_in new) old.children new.children new.reported end
   -- its site, its allocator and the report of its opening stay
   pub site : new.site ≡ old.site
   pub allocator : new.refuses ≡ old.refuses
-  pub reported : new.reported ≡ old.reported
+  pub opening_report : new.opening_report ≡ old.opening_report
   -- nothing is done exactly when the book takes less than that
   pub full : (end ≡ BookFull) ↔ (old.children.room < entries * length old.state.resources)
-  pub unchanged : end ≡ BookFull → new ≡ record old { told = [] }
+  pub unchanged : end ≡ BookFull → new ≡ record old { reported = [] }
   -- a disk fault alone closes it
   pub closes : (new.is_open ≡ false) ↔ (end ≡ Disk)
 

@@ -20,18 +20,18 @@ pub struct Executor<D: Disk + Drop, C: Children + Drop, A: Grows = Global> {
     pub(crate) children: C,
     pub(crate) site: Site<A>,
     pub(crate) batches: TurnBuffers<A>,
-    pub(crate) reported: Reported,
+    pub(crate) opening_report: Reported,
     pub(crate) alloc: A,
 }
 
 impl<D: Disk + Drop, C: Children + Drop, A: Grows> Model for Executor<D, C, A> {
-    ghost use Rattle.exec_turn.specs.Turns.{told_of};
+    ghost use Rattle.exec_turn.specs.Turns.{reports_of};
     ghost use Rattle.executor.specs.Reports.{reported_of};
     ghost use Rattle.executor.specs.ExecutorView.{ChildrenInvariant, ExecutorView, executor_view};
 
     ghost Value = { ExecutorView D };
 
-    ghost view = { λ e. executor_view e.ledger (C.view e.children) e.site (told_of e.batches) (reported_of e.reported) };
+    ghost view = { λ e. executor_view e.ledger (C.view e.children) e.site (reports_of e.batches) (reported_of e.opening_report) };
 
-    ghost invariant = { λ e. ChildrenInvariant (executor_view e.ledger (C.view e.children) e.site (told_of e.batches) (reported_of e.reported)) };
+    ghost invariant = { λ e. ChildrenInvariant (executor_view e.ledger (C.view e.children) e.site (reports_of e.batches) (reported_of e.opening_report)) };
 }

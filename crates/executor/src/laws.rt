@@ -97,13 +97,13 @@ pub fn commands_are_calls<D: Disk>()
 /// An executor remembers the report of its opening, whatever is called.
 pub fn report_stays<D: Disk>()
     ensures { (x y : ExecutorView D) (calls : List Exchange) (d : Effects) → Calls D.view x calls y d
-        → y.reported ≡ x.reported }
+        → y.opening_report ≡ x.opening_report }
 {}
 
 /// Want of memory is reported only where the executor's allocator refuses memory: with an allocator that never refuses, no call
 /// reports it.
 pub fn memory_is_there<D: Disk>()
-    ensures told { (x y : ExecutorView D) (call : Exchange) (d : Effects) → Does D.view call x y d
+    ensures reported { (x y : ExecutorView D) (call : Exchange) (d : Effects) → Does D.view call x y d
         → LacksMemory call → IsTrue x.refuses }
     ensures none { (x y : ExecutorView D) (calls : List Exchange) (d : Effects) → Calls D.view x calls y d
         → x.refuses ≡ false → AllByRecursion (λ call. LacksMemory call → ⊥) calls }

@@ -77,7 +77,7 @@ fn push_dropped<A: Grows>(
 
 impl<A: Grows> Report<A> {
     /// The report of an opening at this moment that found this state. The only error is want of memory.
-    #[tactic(auto, using(crate::proofs::Openings::Reporting::told_more))]
+    #[tactic(auto, using(crate::proofs::Openings::Reporting::reported_more))]
     pub(crate) fn of(alloc: A, state: &State<A>, at: Moment) -> Result<Report<A>, AllocError>
         ensures interrupted { IfOk result
             (λ r. r.interrupted.items ≡ interrupted state.now.state at) }

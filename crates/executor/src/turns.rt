@@ -59,7 +59,7 @@ impl<D: Disk + Drop, C: Children + Drop, A: Grows> Executor<D, C, A> {
 
     /// The results that the last turn recorded, in their order.
     pub fn notices(&self) -> &[Notice]
-        ensures value { result.now ≡ self.now.told }
+        ensures value { result.now ≡ self.now.reported }
     {
         self.batches.notices()
     }

@@ -20,6 +20,6 @@ abbrev pub holds_journal : List ℕ → Bool
 holds_journal text = bytes_eq (bytes_at 1 4 text) magic
 
 -- the fault to report, by the bytes of the remaining file: `NoJournal` for a `Gone` if that file holds no journal
-abbrev pub told_loss : List ℕ → OpenFault → OpenFault
-told_loss text (Gone part) = if holds_journal text then Gone part else NoJournal (other part)
-told_loss text fault = fault
+abbrev pub reported_loss : List ℕ → OpenFault → OpenFault
+reported_loss text (Gone part) = if holds_journal text then Gone part else NoJournal (other part)
+reported_loss text fault = fault

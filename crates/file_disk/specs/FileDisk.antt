@@ -43,7 +43,7 @@ module _ {R M D : Type 0} where
   first_part d = option_map (λ e. e.part) d.first_error
 
   -- the effect of a call on the first error: one that failed sets it, so that P holds of its part, and no other changes it
-  pub record Tells {T : Type 0} (P : Option Part → Type 0) (old new : FileDisk R M D) (result : Result T DiskFault) : Type 0 where
+  pub record ReportsFault {T : Type 0} (P : Option Part → Type 0) (old new : FileDisk R M D) (result : Result T DiskFault) : Type 0 where
     pub done : OnOk result (first_part new ≡ first_part old)
     pub failed : (IsStopped old → ⊥) → OnErr result (P (first_part new))
     pub stopped : IsStopped old → first_part new ≡ first_part old

@@ -5,7 +5,7 @@ ghost use Rattle.disk_model.specs.View.{Called, Unwritten, Synced, Tears};
 
 use crate::call::Call;
 use crate::entry::{entry_of, refuse_loss};
-use crate::error::{FileError, TellsError};
+use crate::error::{FileError, ReportsError};
 use crate::fault::{OpenFault, of_part};
 use crate::folder::open_folder;
 use crate::log::Log;
@@ -138,7 +138,7 @@ impl<R: Files<File = File> + Copy, A: Allocator + Copy> FileDisk<R, A> {
     }
 }
 
-impl<R: Files<File = File> + Copy, A: Allocator + Copy> TellsError for FileDisk<R, A> {
+impl<R: Files<File = File> + Copy, A: Allocator + Copy> ReportsError for FileDisk<R, A> {
     ghost use Rattle.file_disk.specs.FileDisk.{first_error};
 
     fn first_error(&self) -> Option<FileError>
@@ -149,7 +149,7 @@ impl<R: Files<File = File> + Copy, A: Allocator + Copy> TellsError for FileDisk<
 }
 
 impl<R: Files<File = File> + Copy, A: Allocator + Copy> Disk for FileDisk<R, A> {
-    ghost use Rattle.file_disk.specs.FileDisk.{IsStopped, Notes, Tells, view_of};
+    ghost use Rattle.file_disk.specs.FileDisk.{IsStopped, Notes, ReportsFault, view_of};
     ghost use Rattle.file_disk.specs.PastLaws.{past_lawful};
 
     ghost view = { view_of };
@@ -168,7 +168,7 @@ impl<R: Files<File = File> + Copy, A: Allocator + Copy> Disk for FileDisk<R, A> 
             → OnErr result (Notes Call.Failed [] self.old self.new) }
         ensures stopped { IsStopped self.old → IsErr result
             × Notes Call.Refused [] self.old self.new }
-        ensures tells { Tells (λ p. is_some p ≡ true) self.old self.new result }
+        ensures reports_fault { ReportsFault (λ p. is_some p ≡ true) self.old self.new result }
         ensures stays { (view_of self.old).honest
             → IfOk result (λ n. n ≡ length (bytes_of part (view_of self.old).reads))
             → (view_of self.new).honest }
@@ -198,7 +198,7 @@ impl<R: Files<File = File> + Copy, A: Allocator + Copy> Disk for FileDisk<R, A> 
             → OnErr result (Notes Call.Failed [] self.old self.new) }
         ensures stopped { IsStopped self.old → IsErr result
             × Notes Call.Refused [] self.old self.new }
-        ensures tells { Tells (λ p. p ≡ Some part) self.old self.new result }
+        ensures reports_fault { ReportsFault (λ p. p ≡ Some part) self.old self.new result }
         ensures stays { (view_of self.old).honest
             → OnOk result (buf.new
             ≡ take (length buf.old) (drop at (bytes_of part (view_of self.old).reads)))
@@ -229,7 +229,7 @@ impl<R: Files<File = File> + Copy, A: Allocator + Copy> Disk for FileDisk<R, A> 
             → OnErr result (Notes (Call.Tried part at) bytes.now self.old self.new) }
         ensures stopped { IsStopped self.old → IsErr result
             × Notes Call.Refused [] self.old self.new }
-        ensures tells { Tells (λ p. p ≡ Some part) self.old self.new result }
+        ensures reports_fault { ReportsFault (λ p. p ≡ Some part) self.old self.new result }
         ensures stays { (view_of self.old).honest → (view_of self.new).honest }
     {
         if !self.log.goes_on() {
@@ -254,7 +254,7 @@ impl<R: Files<File = File> + Copy, A: Allocator + Copy> Disk for FileDisk<R, A> 
             → OnErr result (Notes Call.Failed [] self.old self.new) }
         ensures stopped { IsStopped self.old → IsErr result
             × Notes Call.Refused [] self.old self.new }
-        ensures tells { Tells (λ p. p ≡ Some part) self.old self.new result }
+        ensures reports_fault { ReportsFault (λ p. p ≡ Some part) self.old self.new result }
         ensures stays { (view_of self.old).honest → (view_of self.new).honest }
     {
         if !self.log.goes_on() {

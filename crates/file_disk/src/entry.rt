@@ -1,6 +1,6 @@
 //! The entries of a directory under the names of both parts.
 ghost use Rattle.std.specs.Prelude.{◌≡◌, IfErr};
-ghost use Rattle.file_disk.specs.Entries.{holds_journal, loss_of, told_loss};
+ghost use Rattle.file_disk.specs.Entries.{holds_journal, loss_of, reported_loss};
 ghost use Rattle.file_disk.specs.Faults.{IsOfPart};
 
 use crate::fault::{OpenFault, file_name};
@@ -69,8 +69,8 @@ fn holds_journal(bytes: &[u8]) -> bool
 }
 
 /// The fault to report, if the remaining file has these bytes: `NoJournal` for a `Gone` if that file holds no journal.
-pub fn told_loss(loss: OpenFault, bytes: &[u8]) -> OpenFault
-    ensures { result ≡ told_loss bytes.now loss }
+pub fn reported_loss(loss: OpenFault, bytes: &[u8]) -> OpenFault
+    ensures { result ≡ reported_loss bytes.now loss }
 {
     match loss {
         OpenFault::Gone(part) if !holds_journal(bytes) => OpenFault::NoJournal(other_part(part)),

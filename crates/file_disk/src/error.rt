@@ -18,7 +18,7 @@ impl FileError {
 }
 
 /// A disk that may report the error of its first failed call.
-pub trait TellsError {
+pub trait ReportsError {
     /// The first error of a system call: `None` if none failed, or if the disk makes none.
     fn first_error(&self) -> Option<FileError>;
 }

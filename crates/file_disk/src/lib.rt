@@ -23,7 +23,7 @@ mod record;
 mod trust;
 
 pub use disk::FileDisk;
-pub use error::{FileError, TellsError};
+pub use error::{FileError, ReportsError};
 pub use fault::{Located, OpenFault};
 pub use journal_paths::JournalPaths;
 pub use look::read_parts;

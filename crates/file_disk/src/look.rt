@@ -3,7 +3,7 @@ ghost use Rattle.std.specs.Prelude.{◌≡◌, ◌≤◌, [], IfErr, IfOk, IfSom
 ghost use Rattle.file_disk.specs.Faults.{IsOfPart};
 ghost use Rattle.file_disk.specs.RamDisk.{IsFresh, view_of};
 
-use crate::entry::{Entry, entry_of, refuse_loss, told_loss};
+use crate::entry::{Entry, entry_of, refuse_loss, reported_loss};
 use crate::fault::{OpenFault, file_name, of_part};
 use crate::folder::find_folder;
 use crate::ram::RamDisk;
@@ -117,7 +117,7 @@ pub(crate) fn examined<R: Files<File = File>, A: Allocator + Copy>(
         return loss;
     };
     match ExecutorView::of(rt, alloc, dir, other_part(part)) {
-        Ok(executor_view) => told_loss(loss, executor_view.bytes.as_slice()),
+        Ok(executor_view) => reported_loss(loss, executor_view.bytes.as_slice()),
         Err(fault) => fault,
     }
 }
@@ -127,7 +127,7 @@ fn refuse_lost<A: Allocator + Copy>(a: &ExecutorView<A>, b: &ExecutorView<A>) ->
     let there = if a.bytes.is_empty() { b } else { a };
     match refuse_loss(a.entry(), b.entry()) {
         Ok(()) => Ok(()),
-        Err(loss) => Err(told_loss(loss, there.bytes.as_slice())),
+        Err(loss) => Err(reported_loss(loss, there.bytes.as_slice())),
     }
 }
 

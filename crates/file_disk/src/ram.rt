@@ -7,7 +7,7 @@ ghost use Rattle.file_disk.specs.Past.{honest_of, reads_of};
 ghost use Rattle.file_disk.specs.PastLaws.{honest_prop};
 
 use crate::call::Call;
-use crate::error::{FileError, TellsError};
+use crate::error::{FileError, ReportsError};
 use crate::log::Log;
 use disk_model::{Disk, DiskFault, Parts};
 use ocf_types::{PART_LIMIT, Part};
@@ -56,7 +56,7 @@ impl<A: Allocator + Copy> RamDisk<A> {
     }
 }
 
-impl<A: Allocator + Copy> TellsError for RamDisk<A> {
+impl<A: Allocator + Copy> ReportsError for RamDisk<A> {
     fn first_error(&self) -> Option<FileError>
         ensures { result ≡ None }
     {

@@ -5,7 +5,7 @@ ghost use Rattle.journal_folder.specs.Ends.{IsNotOpened};
 use diagnostics::{explain, report, report_cause};
 use exec_faults::Fault;
 use exec_options::{JournalPlace, Options};
-use file_disk::{FileDisk, FileError, OpenFault, Owners, TellsError};
+use file_disk::{FileDisk, FileError, OpenFault, Owners, ReportsError};
 use process_ends::System;
 use std::io::ErrorKind;
 use std::thread::sleep;
@@ -92,7 +92,7 @@ pub fn found<D: Drop>(
 }
 
 /// Reports that the journal's device failed, and its error.
-pub fn tell_device(system: &System<'_>, options: Options, error: Option<FileError>) {
+pub fn report_device(system: &System<'_>, options: Options, error: Option<FileError>) {
     match (options.journal, error) {
         (JournalPlace::Folder(folder), Some(met)) => {
             report_cause(system, Fault::Disk, met.located(folder));
@@ -102,7 +102,7 @@ pub fn tell_device(system: &System<'_>, options: Options, error: Option<FileErro
 }
 
 /// Returns `ended` unchanged. A fault of the device is reported here, since the disk knows the error behind it.
-pub fn told<D: TellsError>(
+pub fn told<D: ReportsError>(
     system: &System<'_>,
     options: Options,
     disk: &D,
@@ -111,7 +111,7 @@ pub fn told<D: TellsError>(
     ensures { result ≡ ended }
 {
     if let Err(Fault::Disk) = ended {
-        tell_device(system, options, disk.first_error());
+        report_device(system, options, disk.first_error());
     }
     ended
 }

@@ -11,5 +11,5 @@ mod show;
 mod status;
 
 pub use emptied::not_emptied;
-pub use files::{found, open_files, tell_device, told};
+pub use files::{found, open_files, report_device, told};
 pub use show::{show_files, show_on};

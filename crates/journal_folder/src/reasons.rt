@@ -75,7 +75,7 @@ fn reason_of(rt: &HostRuntime, directory: &str, id: &RscId) -> io::Result<Option
 }
 
 // Reports that the log of a resource cannot be read.
-fn tell(system: &System<'_>, directory: &str, id: &RscId, error: &io::Error) {
+fn report(system: &System<'_>, directory: &str, id: &RscId, error: &io::Error) {
     let name = from_utf8(id.as_bytes()).unwrap_or_default();
     let _ = system.eprintln(format_args!(
         "ocfexec: log {directory}/{name}.log cannot be read: {error}"
@@ -91,16 +91,16 @@ pub fn reasons_in(
 ) -> Result<Vec<FoundReason>, AllocError> {
     let rt = system.host();
     let mut found = Vec::new(rt.alloc());
-    let mut is_told = false;
+    let mut is_reported = false;
     for id in ids {
         match reason_of(rt, directory, id) {
             Ok(Some(reason)) => found.push(reason)?,
             Ok(None) => {}
             Err(error) => {
-                if !is_told {
-                    tell(system, directory, id, &error);
+                if !is_reported {
+                    report(system, directory, id, &error);
                 }
-                is_told = true;
+                is_reported = true;
             }
         }
     }

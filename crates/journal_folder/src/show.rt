@@ -8,11 +8,11 @@ use crate::files::{found, told};
 use crate::log::log_to;
 use crate::metrics::metrics_to;
 use crate::status::status_to;
-use diagnostics::{FirstError, tell_shown};
+use diagnostics::{FirstError, report_shown};
 use disk_model::Disk;
 use exec_faults::Fault;
 use exec_options::{Options, Subcommand};
-use file_disk::{RamDisk, TellsError, read_parts};
+use file_disk::{RamDisk, ReportsError, read_parts};
 use ocf_types::Part;
 use process_ends::System;
 use status_report::show;
@@ -55,7 +55,7 @@ fn enough(options: Options, unwritten: &FirstError, ended: Result<(), Fault>) ->
 }
 
 /// Prints the journal on this disk.
-pub fn show_on<D: Disk + TellsError + Drop>(
+pub fn show_on<D: Disk + ReportsError + Drop>(
     system: &System<'_>,
     options: Options,
     disk: D,
@@ -67,7 +67,7 @@ pub fn show_on<D: Disk + TellsError + Drop>(
     let mut output = unwritten.output(io::writer(rt));
     let (disk, ended) = show_to(system, options, disk, &mut output);
     let ended = enough(options, &unwritten, ended);
-    tell_shown(system, &unwritten, ended);
+    report_shown(system, &unwritten, ended);
     told(system, options, &disk, ended)
 }
 

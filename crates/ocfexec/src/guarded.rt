@@ -30,11 +30,11 @@ impl<W: Write> Write for Guarded<W> {
 }
 
 impl<W: Output> Output for Guarded<W> {
-    fn is_heard(&self) -> bool {
+    fn has_reader(&self) -> bool {
         let is_there = match &self.paths {
             Some(paths) => paths.check(&self.rt).is_ok(),
             None => true,
         };
-        is_there && self.output.is_heard()
+        is_there && self.output.has_reader()
     }
 }

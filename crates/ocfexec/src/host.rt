@@ -10,7 +10,7 @@ use crate::once::once;
 use child_keeper::{Log, Processes, System};
 use clap::Error;
 use diagnostics::{
-    FirstError, Noted, children_ignored, is_journal, tell_ignored, tell_run, tell_shown,
+    FirstError, Noted, children_ignored, is_journal, report_ignored, report_run, report_shown,
 };
 use exec_commands::Left;
 use exec_faults::Fault;
@@ -21,7 +21,7 @@ use exec_program::{Host, Wait};
 use exec_state::State;
 use file_disk::{FileDisk, FileError, JournalPaths, RamDisk};
 use growth::Grows;
-use journal_folder::{found, not_emptied, open_files, show_files, show_on, tell_device};
+use journal_folder::{found, not_emptied, open_files, show_files, show_on, report_device};
 use ocf_env::Site;
 use std::alloc::{AllocError, Global};
 use std::io::{self, BufReader, Eprint, StdinLock};
@@ -178,8 +178,8 @@ impl<'a> Host for SystemHost<'a> {
         children_ignored(self.system.host())
     }
 
-    fn tell_ignored(&self) {
-        tell_ignored(self.system);
+    fn report_ignored(&self) {
+        report_ignored(self.system);
     }
 
     // TRUSTED: what is left is waited for so, and ended or left.
@@ -240,23 +240,23 @@ impl<'a> Host for SystemHost<'a> {
         let _ = self.system.eprintln(line);
     }
 
-    fn tell_unwritten(&self, error: io::Error) {
-        tell_shown(
+    fn report_unwritten(&self, error: io::Error) {
+        report_shown(
             self.system,
             &FirstError::of(error),
             Err(Fault::InputOrOutput),
         );
     }
 
-    fn tell_unheard(&self) {
-        tell_shown(self.system, &FirstError::none(), Err(Fault::InputOrOutput));
+    fn report_unheard(&self) {
+        report_shown(self.system, &FirstError::none(), Err(Fault::InputOrOutput));
     }
 
-    fn tell_device(&self, options: Options, met: Option<FileError>) {
-        tell_device(self.system, options, met);
+    fn report_device(&self, options: Options, met: Option<FileError>) {
+        report_device(self.system, options, met);
     }
 
-    fn tell_run(&self, ended: Result<(), Fault>) {
-        tell_run(self.system, self.unread, self.unwritten, ended);
+    fn report_run(&self, ended: Result<(), Fault>) {
+        report_run(self.system, self.unread, self.unwritten, ended);
     }
 }

@@ -1,6 +1,6 @@
 //! An action that is run once.
 use child_keeper::System;
-use diagnostics::{children_ignored, tell_ignored};
+use diagnostics::{children_ignored, report_ignored};
 use exec_once::{OnceCall, OnceEnd, OnceFault, read_agent, read_parameters, read_what, run_once};
 use exec_options::OnceOptions;
 use exec_program::site_of_once;
@@ -51,7 +51,7 @@ pub fn once(system: &System<'_>, options: &OnceOptions<'_>) -> u8 {
             "SIGCHLD is ignored: no end of the agent would be seen",
         );
     }
-    tell_ignored(system);
+    report_ignored(system);
     let call = match call_of(alloc, options) {
         Ok(call) => call,
         Err(why) => return not_run(system, why),

@@ -3,7 +3,7 @@ use crate::descent::ChildSought;
 use crate::patience::{Pauses, outlives};
 use crate::search::{Sought, found_now};
 use crate::signal::{Signal, send_signal};
-use crate::tell::{tell_all, tell_unstopped};
+use crate::report::{report_all, report_unstopped};
 use proc_files::{ProcFiles, Process, has};
 use std::alloc::{AllocError, Allocator};
 use std::io::{self, Eprint};
@@ -67,7 +67,7 @@ pub fn stopped<R: Processes + Clock + Eprint + ProcFiles, S: Sought, A: Allocato
 ) -> Vec<Process, A> {
     let mut stopped = Vec::new(alloc);
     if let Err(error) = stop_all(rt, alloc, sought, &mut stopped) {
-        tell_unstopped(rt, &error);
+        report_unstopped(rt, &error);
     }
     // a process number may have been reused
     stopped.retain(|process| still_lives(rt, process));
@@ -97,7 +97,7 @@ pub fn end_child<R: Processes + Clock + Eprint + ProcFiles, P: OpenProcess, A: A
     let outlives = outlives(rt, child, Pauses::after_kill());
     found.retain(|process| process.pid != pid);
     await_gone(rt, &mut found);
-    tell_all(rt, found.as_slice());
+    report_all(rt, found.as_slice());
     outlives
 }
 
@@ -111,5 +111,5 @@ pub fn end_processes<R: Processes + Clock + Eprint + ProcFiles, S: Sought, A: Al
     let mut left = stopped(rt, alloc, sought);
     let _ = send_signal(rt, alloc, Signal::Kill, left.as_slice());
     await_gone(rt, &mut left);
-    tell_all(rt, left.as_slice());
+    report_all(rt, left.as_slice());
 }

@@ -10,7 +10,7 @@ mod patience;
 mod search;
 mod signal;
 mod system;
-mod tell;
+mod report;
 
 pub use descent::ChildSought;
 pub use ending::{end_child, end_processes, still_lives, stopped};
@@ -19,4 +19,4 @@ pub use patience::{Deadline, Pauses, outlives, still_runs};
 pub use search::{Environments, Sought, with_ancestors};
 pub use signal::{Signal, send_signal};
 pub use system::System;
-pub use tell::{tell_alive, tell_all, tell_unstopped};
+pub use report::{report_alive, report_all, report_unstopped};

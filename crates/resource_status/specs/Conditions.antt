@@ -64,21 +64,21 @@ left_by action.ReloadAgent = None
 left_by action.ValidateAll = None
 
 -- the condition that an action shows by its exit code
-abbrev pub told_by_code : Action → Code → Option Condition
-told_by_code action.Monitor c = Some (found_by c)
-told_by_code a code.Success = left_by a
-told_by_code a _ = Some Failed
+abbrev pub written_by_code : Action → Code → Option Condition
+written_by_code action.Monitor c = Some (found_by c)
+written_by_code a code.Success = left_by a
+written_by_code a _ = Some Failed
 
 -- the condition that a result shows: an action that was cut off may be done or not, and one that never began shows none
-abbrev pub told_by : Action → Outcome → Option Condition
-told_by a (Run (Done n)) = told_by_code a (code_read n)
-told_by a (Run TimedOut) = Some Unknown
-told_by a (Run Signaled) = Some Failed
-told_by a (Run Lost) = Some Unknown
-told_by a (Run (NotStarted fault)) = Some Failed
-told_by a Interrupted = Some Unknown
-told_by a Dropped = None
-told_by a Cancelled = None
+abbrev pub written_by : Action → Outcome → Option Condition
+written_by a (Run (Done n)) = written_by_code a (code_read n)
+written_by a (Run TimedOut) = Some Unknown
+written_by a (Run Signaled) = Some Failed
+written_by a (Run Lost) = Some Unknown
+written_by a (Run (NotStarted fault)) = Some Failed
+written_by a Interrupted = Some Unknown
+written_by a Dropped = None
+written_by a Cancelled = None
 
 -- since when a condition holds that a result of this moment shows: since earlier results, where these show the same
 abbrev pub since_in : Option Known → Condition → ℕ → ℕ
@@ -87,7 +87,7 @@ since_in (Some k) c at = if bytes_eq (condition_word k.condition) (condition_wor
 
 -- what is known after one more result
 abbrev pub after : Option Known → Ended → Option Known
-after k e = option_map_or (λ c. Some (record { condition = c; since = since_in k c e.at; run = e.run })) (told_by e.action e.outcome) k
+after k e = option_map_or (λ c. Some (record { condition = c; since = since_in k c e.at; run = e.run })) (written_by e.action e.outcome) k
 
 -- what is known after all results, oldest first
 abbrev pub known_of : List Ended → Option Known

@@ -2,7 +2,7 @@
 ghost use Rattle.std.specs.Prelude.{◌≡◌, ◌<◌, length};
 ghost use Rattle.ocf_types.specs.Places.{at_place};
 ghost use Rattle.resource_status.specs.Conditions.{after, condition_from, condition_of, condition_tone, condition_untold, condition_word, failed_by};
-ghost use Rattle.resource_status.specs.Conditions.{found_by, is_bad, judged, known_of, left_by, since_in, told_by, told_by_code, worsened};
+ghost use Rattle.resource_status.specs.Conditions.{found_by, is_bad, judged, known_of, left_by, since_in, written_by, written_by_code, worsened};
 
 use crate::meanings::Tone;
 use exec_state::State;
@@ -106,8 +106,8 @@ fn left_by(action: Action) -> Option<Condition>
 }
 
 // The condition that an action shows by its exit code.
-fn told_by_code(action: Action, code: Code) -> Option<Condition>
-    ensures { result ≡ told_by_code action code }
+fn written_by_code(action: Action, code: Code) -> Option<Condition>
+    ensures { result ≡ written_by_code action code }
 {
     match (action, code) {
         (Action::Monitor, code) => Some(found_by(code)),
@@ -117,11 +117,11 @@ fn told_by_code(action: Action, code: Code) -> Option<Condition>
 }
 
 // The condition that a result shows.
-fn told_by(action: Action, outcome: Outcome) -> Option<Condition>
-    ensures { result ≡ told_by action outcome }
+fn written_by(action: Action, outcome: Outcome) -> Option<Condition>
+    ensures { result ≡ written_by action outcome }
 {
     match outcome {
-        Outcome::Run(RunEnd::Done(code)) => told_by_code(action, read_code(code)),
+        Outcome::Run(RunEnd::Done(code)) => written_by_code(action, read_code(code)),
         Outcome::Run(RunEnd::Signaled | RunEnd::NotStarted(_)) => Some(Condition::Failed),
         Outcome::Run(RunEnd::TimedOut | RunEnd::Lost) | Outcome::Interrupted => {
             Some(Condition::Unknown)
@@ -148,7 +148,7 @@ fn since_in(known: Option<Known>, condition: Condition, at: Moment) -> Moment
 fn after(known: Option<Known>, ended: &Ended) -> Option<Known>
     ensures { result ≡ after known ended.now }
 {
-    match told_by(ended.action, ended.outcome) {
+    match written_by(ended.action, ended.outcome) {
         Some(condition) => Some(Known {
             condition,
             since: since_in(known, condition, ended.at),

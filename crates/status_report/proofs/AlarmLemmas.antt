@@ -6,7 +6,7 @@ use Rattle.ocf_types.specs.Places.{entry_at, no_entry}
 use Rattle.ocf_types.specs.Resource.{Resource}
 use Rattle.ocf_types.specs.State.{State}
 use Rattle.resource_status.specs.Conditions.{condition_of, is_bad}
-use Rattle.status_report.specs.Tables.{IsTableTold, IsToldAs, is_any_bad, is_asked_for}
+use Rattle.status_report.specs.Tables.{IsTableWritten, IsWrittenAs, is_any_bad, is_asked_for}
 use Rattle.status_report.specs.declared.look.Look.{Look}
 use Rattle.exec_faults.specs.declared.fault.Fault.{Fault}
 use Rattle.exec_faults.specs.declared.fault.Fault.TheVariants as fault
@@ -26,22 +26,22 @@ none_more look s i lt none is = list_any_more (asks look) s.resources i no_entry
 
 -- if no table is written, the status ends with the same fault
 pub untold : (T : Type 0) (look : Look) (s : State) (old new : Option (List ℕ)) (f : Fault)
-    → IsTableTold {T = T} look s old new (Err f) → IsToldAs {T = T} look s old new (Err f)
-untold T look s old new fault.NoResource told = told
-untold T look s old new fault.InputOrOutput told = told
-untold T look s old new fault.ReplyMemory told = told
-untold T look s old new fault.Usage told = told
-untold T look s old new fault.Choice told = told
-untold T look s old new fault.TidyAt told = told
-untold T look s old new fault.Root told = told
-untold T look s old new fault.Orphans told = told
-untold T look s old new fault.NotText told = told
-untold T look s old new fault.Log told = told
-untold T look s old new (fault.Damaged damage) told = told
-untold T look s old new fault.Memory told = told
-untold T look s old new fault.NotOpened told = told
-untold T look s old new fault.NoJournal told = told
-untold T look s old new fault.NotWell told = absurd told
-untold T look s old new fault.Disk told = told
-untold T look s old new fault.Full told = told
-untold T look s old new fault.ChildrenIgnored told = told
+    → IsTableWritten {T = T} look s old new (Err f) → IsWrittenAs {T = T} look s old new (Err f)
+untold T look s old new fault.NoResource written = written
+untold T look s old new fault.InputOrOutput written = written
+untold T look s old new fault.ReplyMemory written = written
+untold T look s old new fault.Usage written = written
+untold T look s old new fault.Choice written = written
+untold T look s old new fault.TidyAt written = written
+untold T look s old new fault.Root written = written
+untold T look s old new fault.Orphans written = written
+untold T look s old new fault.NotText written = written
+untold T look s old new fault.Log written = written
+untold T look s old new (fault.Damaged damage) written = written
+untold T look s old new fault.Memory written = written
+untold T look s old new fault.NotOpened written = written
+untold T look s old new fault.NoJournal written = written
+untold T look s old new fault.NotWell written = absurd written
+untold T look s old new fault.Disk written = written
+untold T look s old new fault.Full written = written
+untold T look s old new fault.ChildrenIgnored written = written

@@ -4,4 +4,4 @@ pub mod FailedLemmas
 pub mod RowLemmas
 pub mod StatusLineLemmas
 pub mod TextLemmas
-pub mod ToldLemmas
+pub mod WrittenLemmas

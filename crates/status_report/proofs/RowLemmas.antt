@@ -13,8 +13,8 @@ use Rattle.exec_journal.specs.Found.{FoundAs}
 use Rattle.exec_faults.specs.declared.fault.Fault.{Fault}
 use Rattle.exec_faults.specs.declared.fault.Fault.TheVariants as fault
 use Rattle.status_report.specs.Reasons.{reason_of}
-use Rattle.status_report.specs.Told.{told}
-use Rattle.status_report.specs.Tables.{agent_text, AreRows, gap, IsRow, IsToldAs, TellsAs, asked_entries, is_asked_for, state_text}
+use Rattle.status_report.specs.Written.{written}
+use Rattle.status_report.specs.Tables.{agent_text, AreRows, gap, IsRow, IsWrittenAs, WritesAs, asked_entries, is_asked_for, state_text}
 
 abbrev Entry : Type 0
 Entry = List ℕ × Resource
@@ -95,8 +95,8 @@ no_row : (look : Look) (e : Entry) (row more : List ℕ) → [] ≡ row ++ more 
 no_row look e row more empty is =
     let prefix = (e.0 ++ gap is.0) ++ agent_text e.1 in
     let state = (prefix ++ gap is.1) ++ state_text look e.1 in
-    let whole : [] ≡ (state ++ gap is.2) ++ told look (reason_of look e.0) e.1 = left_none row more empty ∙ is.3 in
-    let no_state : [] ≡ state = left_none state (gap is.2) (left_none (state ++ gap is.2) (told look (reason_of look e.0) e.1) whole) in
+    let whole : [] ≡ (state ++ gap is.2) ++ written look (reason_of look e.0) e.1 = left_none row more empty ∙ is.3 in
+    let no_state : [] ≡ state = left_none state (gap is.2) (left_none (state ++ gap is.2) (written look (reason_of look e.0) e.1) whole) in
     let no_prefix : [] ≡ prefix ++ gap is.1 = left_none (prefix ++ gap is.1) (state_text look e.1) no_state in
     let agent = right_none (e.0 ++ gap is.0) (agent_text e.1) (left_none prefix (gap is.1) no_prefix) in
     no_first 58 e.1.agent (right_none e.1.provider (58 ∷ e.1.agent) agent)
@@ -108,24 +108,24 @@ no_rows look (e ∷ es) [] empty rows = absurd (no_row look e rows.0 rows.1 rows
 no_rows look (e ∷ es) (b ∷ bs) empty rows = absurd (let bad : length (b ∷ bs) ≡ 0 = empty in cc)
 
 -- what is shown of a state that is found on these parts
-pub tells : {T : Type 0} (reads : Image) (look : Look) (old new : Option (List ℕ)) (s : State) (ended : Result T Fault)
-    → FoundAs s reads → IsToldAs look s old new ended → TellsAs reads look old new ended
-tells reads look old new s (Ok done) found told = (s, found, told)
-tells reads look old new s (Err fault.NoResource) found told = (s, found, told)
-tells reads look old new s (Err fault.InputOrOutput) found told = (s, found, told)
-tells reads look old new s (Err fault.ReplyMemory) found told = (s, found, told)
-tells reads look old new s (Err fault.Usage) found told = absurd told
-tells reads look old new s (Err fault.Choice) found told = absurd told
-tells reads look old new s (Err fault.TidyAt) found told = absurd told
-tells reads look old new s (Err fault.Root) found told = absurd told
-tells reads look old new s (Err fault.Orphans) found told = absurd told
-tells reads look old new s (Err fault.NotText) found told = absurd told
-tells reads look old new s (Err fault.Log) found told = absurd told
-tells reads look old new s (Err (fault.Damaged damage)) found told = absurd told
-tells reads look old new s (Err fault.Memory) found told = absurd told
-tells reads look old new s (Err fault.NotOpened) found told = absurd told
-tells reads look old new s (Err fault.NoJournal) found told = absurd told
-tells reads look old new s (Err fault.NotWell) found told = (s, found, told)
-tells reads look old new s (Err fault.Disk) found told = absurd told
-tells reads look old new s (Err fault.Full) found told = absurd told
-tells reads look old new s (Err fault.ChildrenIgnored) found told = absurd told
+pub sends : {T : Type 0} (reads : Image) (look : Look) (old new : Option (List ℕ)) (s : State) (ended : Result T Fault)
+    → FoundAs s reads → IsWrittenAs look s old new ended → WritesAs reads look old new ended
+sends reads look old new s (Ok done) found written = (s, found, written)
+sends reads look old new s (Err fault.NoResource) found written = (s, found, written)
+sends reads look old new s (Err fault.InputOrOutput) found written = (s, found, written)
+sends reads look old new s (Err fault.ReplyMemory) found written = (s, found, written)
+sends reads look old new s (Err fault.Usage) found written = absurd written
+sends reads look old new s (Err fault.Choice) found written = absurd written
+sends reads look old new s (Err fault.TidyAt) found written = absurd written
+sends reads look old new s (Err fault.Root) found written = absurd written
+sends reads look old new s (Err fault.Orphans) found written = absurd written
+sends reads look old new s (Err fault.NotText) found written = absurd written
+sends reads look old new s (Err fault.Log) found written = absurd written
+sends reads look old new s (Err (fault.Damaged damage)) found written = absurd written
+sends reads look old new s (Err fault.Memory) found written = absurd written
+sends reads look old new s (Err fault.NotOpened) found written = absurd written
+sends reads look old new s (Err fault.NoJournal) found written = absurd written
+sends reads look old new s (Err fault.NotWell) found written = (s, found, written)
+sends reads look old new s (Err fault.Disk) found written = absurd written
+sends reads look old new s (Err fault.Full) found written = absurd written
+sends reads look old new s (Err fault.ChildrenIgnored) found written = absurd written

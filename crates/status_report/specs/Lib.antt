@@ -5,4 +5,4 @@ pub mod Reasons
 pub mod Shown
 pub mod StatusLines
 pub mod Tables
-pub mod Told
+pub mod Written

@@ -35,8 +35,8 @@ prefix_lines s None = shown s
 prefix_lines s (Some id) = resource_lines s id.now
 
 -- all that a status prints of a state for a program
-abbrev pub told_lines : Look → State → List ℕ
-told_lines look s = prefix_lines s look.only ++ status_lines look s
+abbrev pub written_lines : Look → State → List ℕ
+written_lines look s = prefix_lines s look.only ++ status_lines look s
 
 -- the single resource that is asked for is registered
 abbrev pub IsThere : State → Option (Bor (List ℕ)) → Type 0
@@ -49,26 +49,26 @@ IsMissed s None = ⊥
 IsMissed s (Some id) = ¬ IsRegistered s id.now
 
 -- what is written of a state before the lines of status, by the result
-abbrev pub IsPrefixTold : {T : Type 0} → State → Option (Bor (List ℕ)) → Option (List ℕ) → Option (List ℕ) → Result T Fault → Type 0
-IsPrefixTold s only old new (Ok done) = IsThere s only × Appends old new (prefix_lines s only)
-IsPrefixTold s only old new (Err fault.NoResource) = IsMissed s only × (new ≡ old)
-IsPrefixTold s only old new (Err fault.ReplyMemory) = ⊤
-IsPrefixTold s only old new (Err fault.InputOrOutput) = ⊤
-IsPrefixTold s only old new (Err _) = ⊥
+abbrev pub IsPrefixWritten : {T : Type 0} → State → Option (Bor (List ℕ)) → Option (List ℕ) → Option (List ℕ) → Result T Fault → Type 0
+IsPrefixWritten s only old new (Ok done) = IsThere s only × Appends old new (prefix_lines s only)
+IsPrefixWritten s only old new (Err fault.NoResource) = IsMissed s only × (new ≡ old)
+IsPrefixWritten s only old new (Err fault.ReplyMemory) = ⊤
+IsPrefixWritten s only old new (Err fault.InputOrOutput) = ⊤
+IsPrefixWritten s only old new (Err _) = ⊥
 
 -- what is written of a state, by the result
-abbrev pub IsLinesTold : {T : Type 0} → Look → State → Option (List ℕ) → Option (List ℕ) → Result T Fault → Type 0
-IsLinesTold look s old new (Ok done) = IsThere s look.only × Appends old new (told_lines look s) × (is_alarm look s ≡ false)
-IsLinesTold look s old new (Err fault.NotWell) = IsThere s look.only × Appends old new (told_lines look s) × (is_alarm look s ≡ true)
-IsLinesTold look s old new (Err fault.NoResource) = IsMissed s look.only × (new ≡ old)
-IsLinesTold look s old new (Err fault.ReplyMemory) = ⊤
-IsLinesTold look s old new (Err fault.InputOrOutput) = ⊤
-IsLinesTold look s old new (Err _) = ⊥
+abbrev pub AreLinesWritten : {T : Type 0} → Look → State → Option (List ℕ) → Option (List ℕ) → Result T Fault → Type 0
+AreLinesWritten look s old new (Ok done) = IsThere s look.only × Appends old new (written_lines look s) × (is_alarm look s ≡ false)
+AreLinesWritten look s old new (Err fault.NotWell) = IsThere s look.only × Appends old new (written_lines look s) × (is_alarm look s ≡ true)
+AreLinesWritten look s old new (Err fault.NoResource) = IsMissed s look.only × (new ≡ old)
+AreLinesWritten look s old new (Err fault.ReplyMemory) = ⊤
+AreLinesWritten look s old new (Err fault.InputOrOutput) = ⊤
+AreLinesWritten look s old new (Err _) = ⊥
 
 -- what is written, by the result: what a status prints of the state that is found on these parts, or nothing if the parts are not read;
 -- damage that is reported is the damage that is found
-abbrev pub TellsLinesAs : {T : Type 0} → Image → Look → Option (List ℕ) → Option (List ℕ) → Result T Fault → Type 0
-TellsLinesAs reads look old new (Err (fault.Damaged damage)) = HasDamage reads damage × (new ≡ old)
-TellsLinesAs reads look old new (Err fault.Disk) = new ≡ old
-TellsLinesAs reads look old new (Err fault.Memory) = new ≡ old
-TellsLinesAs reads look old new ended = (s : State) × FoundAs s reads × IsLinesTold look s old new ended
+abbrev pub WritesLinesAs : {T : Type 0} → Image → Look → Option (List ℕ) → Option (List ℕ) → Result T Fault → Type 0
+WritesLinesAs reads look old new (Err (fault.Damaged damage)) = HasDamage reads damage × (new ≡ old)
+WritesLinesAs reads look old new (Err fault.Disk) = new ≡ old
+WritesLinesAs reads look old new (Err fault.Memory) = new ≡ old
+WritesLinesAs reads look old new ended = (s : State) × FoundAs s reads × AreLinesWritten look s old new ended

@@ -11,7 +11,7 @@ use Rattle.exec_journal.specs.Found.{FoundAs, HasDamage}
 use Rattle.status_report.specs.ConditionTexts.{condition_text}
 use Rattle.resource_status.specs.Conditions.{condition_of, is_bad}
 use Rattle.status_report.specs.Reasons.{reason_of}
-use Rattle.status_report.specs.Told.{told}
+use Rattle.status_report.specs.Written.{written}
 use Rattle.status_report.specs.declared.look.Look.{Look}
 use Rattle.exec_faults.specs.declared.fault.Fault.{Fault}
 use Rattle.exec_faults.specs.declared.fault.Fault.TheVariants as fault
@@ -39,7 +39,7 @@ gap n = replicate n 32 ++ codes "  "
 -- a resource's row: its id, its agent and its condition, a gap after each, and then what else is shown of it
 abbrev pub IsRow : Look → List ℕ × Resource → List ℕ → Type 0
 IsRow look e row = (n : ℕ) × (m : ℕ) × (k : ℕ)
-    × (row ≡ (((((e.0 ++ gap n) ++ agent_text e.1) ++ gap m) ++ state_text look e.1) ++ gap k) ++ told look (reason_of look e.0) e.1)
+    × (row ≡ (((((e.0 ++ gap n) ++ agent_text e.1) ++ gap m) ++ state_text look e.1) ++ gap k) ++ written look (reason_of look e.0) e.1)
 
 -- a row of each of these resources, exactly once, in their order
 abbrev pub AreRows : Look → List (List ℕ × Resource) → List ℕ → Type 0
@@ -75,23 +75,23 @@ abbrev pub is_alarm : Look → State → Bool
 is_alarm look s = look.alarms && is_any_bad look s
 
 -- what is written of a state, by the result: its table, or nothing if no such resource is registered or memory is refused
-abbrev pub IsTableTold : {T : Type 0} → Look → State → Option (List ℕ) → Option (List ℕ) → Result T Fault → Type 0
-IsTableTold look s old new (Ok done) = (text : List ℕ) × IsTable look s text × Appends old new text
-IsTableTold look s old new (Err fault.NoResource) = (asked_entries look s.resources ≡ []) × (new ≡ old)
-IsTableTold look s old new (Err fault.ReplyMemory) = new ≡ old
-IsTableTold look s old new (Err fault.InputOrOutput) = ⊤
-IsTableTold look s old new (Err _) = ⊥
+abbrev pub IsTableWritten : {T : Type 0} → Look → State → Option (List ℕ) → Option (List ℕ) → Result T Fault → Type 0
+IsTableWritten look s old new (Ok done) = (text : List ℕ) × IsTable look s text × Appends old new text
+IsTableWritten look s old new (Err fault.NoResource) = (asked_entries look s.resources ≡ []) × (new ≡ old)
+IsTableWritten look s old new (Err fault.ReplyMemory) = new ≡ old
+IsTableWritten look s old new (Err fault.InputOrOutput) = ⊤
+IsTableWritten look s old new (Err _) = ⊥
 
 -- the result for a state: if its table is written, the result says whether a resource needs attention
-abbrev pub IsToldAs : {T : Type 0} → Look → State → Option (List ℕ) → Option (List ℕ) → Result T Fault → Type 0
-IsToldAs look s old new (Ok done) = IsTableTold look s old new (Ok done) × (is_alarm look s ≡ false)
-IsToldAs look s old new (Err fault.NotWell) = IsTableTold {T = Unit {0}} look s old new (Ok tt) × (is_alarm look s ≡ true)
-IsToldAs {T} look s old new (Err f) = IsTableTold {T = T} look s old new (Err f)
+abbrev pub IsWrittenAs : {T : Type 0} → Look → State → Option (List ℕ) → Option (List ℕ) → Result T Fault → Type 0
+IsWrittenAs look s old new (Ok done) = IsTableWritten look s old new (Ok done) × (is_alarm look s ≡ false)
+IsWrittenAs look s old new (Err fault.NotWell) = IsTableWritten {T = Unit {0}} look s old new (Ok tt) × (is_alarm look s ≡ true)
+IsWrittenAs {T} look s old new (Err f) = IsTableWritten {T = T} look s old new (Err f)
 
 -- what is written, by the result: what is shown of the state that is found on these parts, or nothing if the parts are not read; damage
 -- that is reported is the damage that is found
-abbrev pub TellsAs : {T : Type 0} → Image → Look → Option (List ℕ) → Option (List ℕ) → Result T Fault → Type 0
-TellsAs reads look old new (Err (fault.Damaged damage)) = HasDamage reads damage × (new ≡ old)
-TellsAs reads look old new (Err fault.Disk) = new ≡ old
-TellsAs reads look old new (Err fault.Memory) = new ≡ old
-TellsAs reads look old new ended = (s : State) × FoundAs s reads × IsToldAs look s old new ended
+abbrev pub WritesAs : {T : Type 0} → Image → Look → Option (List ℕ) → Option (List ℕ) → Result T Fault → Type 0
+WritesAs reads look old new (Err (fault.Damaged damage)) = HasDamage reads damage × (new ≡ old)
+WritesAs reads look old new (Err fault.Disk) = new ≡ old
+WritesAs reads look old new (Err fault.Memory) = new ≡ old
+WritesAs reads look old new ended = (s : State) × FoundAs s reads × IsWrittenAs look s old new ended

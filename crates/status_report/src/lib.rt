@@ -12,10 +12,10 @@ mod shown;
 mod state_lines;
 mod statuses;
 mod table;
-mod told_lines;
+mod written_lines;
 
 pub use failures::failed;
 pub use look::{Look, Reason};
 pub use shown::show;
 pub use statuses::status;
-pub use told_lines::status_json;
+pub use written_lines::status_json;

@@ -5,8 +5,8 @@ ghost use Rattle.ocf_types.specs.Places.{at_place, id_at};
 ghost use Rattle.resource_status.specs.Results.{last_of};
 ghost use Rattle.status_report.specs.Colours.{colour_of, painted};
 ghost use Rattle.status_report.specs.Reasons.{reason_of};
-ghost use Rattle.status_report.specs.Told.{action_line, failure_line, history_text, is_asked, lines_text, monitor_line, monitor_text};
-ghost use Rattle.status_report.specs.Told.{known_reason_line, past_line, reason_line, result_text, set_in, told_actions};
+ghost use Rattle.status_report.specs.Written.{action_line, failure_line, history_text, is_asked, lines_text, monitor_line, monitor_text};
+ghost use Rattle.status_report.specs.Written.{known_reason_line, past_line, reason_line, result_text, set_in, written_actions};
 
 use crate::add::{add, add_number};
 use crate::condition_text::add_failed;
@@ -137,7 +137,7 @@ fn add_actions(
     requires { place < length state.now.state.resources }
     ensures text { OnOk result (text.new.items
         ≡ text.old.items ++ flat_map
-        (action_line look.now (at_place state.now.state place).history.ended) told_actions) }
+        (action_line look.now (at_place state.now.state place).history.ended) written_actions) }
     ensures memory { OnErr result (IsTrue ⟦<Global as Grows>⟧.refuses) }
 {
     add_action(text, look, state, place, Action::Monitor)?;

@@ -3,7 +3,7 @@ ghost use Rattle.std.specs.Prelude.{IsErrOf, IfOk, IfErr, IfSome, IfNone, ◌≡
 ghost use Rattle.disk_model.specs.View.{Increased};
 ghost use Rattle.exec_journal.specs.Opening.{Opens};
 ghost use Rattle.exec_faults.specs.Faults.{HasCause, IsRunEnd};
-ghost use Rattle.status_report.specs.Tables.{IsTableTold, IsToldAs, IsWritten, NotWritten, TellsAs};
+ghost use Rattle.status_report.specs.Tables.{IsTableWritten, IsWrittenAs, IsWritten, NotWritten, WritesAs};
 
 use crate::alarm::is_alarm;
 use crate::look::Look;
@@ -48,7 +48,7 @@ fn write_table<W: Write>(
     look: &Look,
     state: &State,
 ) -> Result<(), Fault>
-    ensures told { IsTableTold look.now state.now.state (W.contents writer.old)
+    ensures written { IsTableWritten look.now state.now.state (W.contents writer.old)
         (W.contents writer.new) result }
     ensures memory { IfErr result (HasCause ⟦<Global as Grows>⟧.refuses) }
 {
@@ -57,8 +57,8 @@ fn write_table<W: Write>(
 
 // Writes the table of a state, and then fails if a resource needs attention and this is to be a fault.
 #[tactic(auto, using(crate::proofs::AlarmLemmas::untold))]
-fn tell<W: Write>(alloc: Global, writer: &mut W, look: &Look, state: &State) -> Result<(), Fault>
-    ensures told { IsToldAs look.now state.now.state (W.contents writer.old)
+fn report<W: Write>(alloc: Global, writer: &mut W, look: &Look, state: &State) -> Result<(), Fault>
+    ensures written { IsWrittenAs look.now state.now.state (W.contents writer.old)
         (W.contents writer.new) result }
     ensures memory { IfErr result (HasCause ⟦<Global as Grows>⟧.refuses) }
 {
@@ -75,15 +75,15 @@ fn tell<W: Write>(alloc: Global, writer: &mut W, look: &Look, state: &State) -> 
 /// Opens a journal without a boot, writes what it holds as a table for a person, and returns its disk. The table is a line of headings, and
 /// a row of each resource that is asked for, in order of registration, with its last results, its monitors and, of a single resource, its
 /// history. All of it is written, or the fault is one of the opening, of output, of memory, or that there is no such resource.
-#[tactic(auto, using(crate::proofs::RowLemmas::tells, exec_faults::proofs::FaultLemmas::opening_cause))]
+#[tactic(auto, using(crate::proofs::RowLemmas::sends, exec_faults::proofs::FaultLemmas::opening_cause))]
 pub fn status<D: Disk + Drop, W: Write>(
     alloc: Global,
     disk: D,
     writer: &mut W,
     look: &Look,
 ) -> (D, Result<(), Fault>)
-    ensures told { (D.view result.0).honest
-        → TellsAs (D.view disk).reads look.now (W.contents writer.old)
+    ensures written { (D.view result.0).honest
+        → WritesAs (D.view disk).reads look.now (W.contents writer.old)
         (W.contents writer.new) result.1 }
     ensures opens { Opens (D.view disk) (D.view result.0) }
     ensures cause { IsErrOf result.1 Fault.Disk
@@ -93,7 +93,7 @@ pub fn status<D: Disk + Drop, W: Write>(
 {
     match Journal::open(alloc, disk) {
         Ok((journal, state)) => {
-            let ended = tell(alloc, writer, look, &state);
+            let ended = report(alloc, writer, look, &state);
             (journal.into_disk(), ended)
         }
         Err((fault, disk)) => (disk, Err(opening_fault(fault))),

@@ -3,7 +3,7 @@ ghost use Rattle.std.specs.Prelude.{◌≡◌, ◌<◌, ◌-◌, ◌++◌, [], l
 ghost use Rattle.ocf_types.specs.Places.{entry_at, at_place, id_at};
 ghost use Rattle.status_report.specs.Reasons.{reason_of};
 ghost use Rattle.status_report.specs.Tables.{agent_text, AreRows, gap, IsHead, IsRow, IsTable, asked_entries};
-ghost use Rattle.status_report.specs.Told.{now_text, queued_text, running_text, told};
+ghost use Rattle.status_report.specs.Written.{now_text, queued_text, running_text, written};
 
 use crate::add::{add, add_number};
 use crate::condition_text::condition_text;
@@ -118,7 +118,7 @@ fn add_queued(text: &mut Vec<u8>, queued: usize) -> Result<(), AllocError>
 }
 
 // Adds the last column of a row, and the lines below the row.
-fn add_told(
+fn add_written(
     alloc: Global,
     text: &mut Vec<u8>,
     look: &Look,
@@ -127,7 +127,7 @@ fn add_told(
 ) -> Result<(), AllocError>
     requires { place < length state.now.state.resources }
     ensures text { OnOk result (text.new.items
-        ≡ text.old.items ++ told look.now
+        ≡ text.old.items ++ written look.now
         (reason_of look.now (id_at state.now.state place)) (at_place state.now.state place)) }
     ensures memory { OnErr result (IsTrue ⟦<Global as Grows>⟧.refuses) }
 {
@@ -159,7 +159,7 @@ fn row_of(
     add_gap(&mut row, width(agent.as_slice()), columns.agent)?;
     append(&mut row, condition.as_slice())?;
     add_gap(&mut row, taken, columns.condition)?;
-    add_told(alloc, &mut row, look, state, place)?;
+    add_written(alloc, &mut row, look, state, place)?;
     Ok(row)
 }
 

@@ -43,5 +43,5 @@ overtaken (inr (inl h)) = h.1
 overtaken (inr (inr h)) = h
 
 -- a crash while the first runs: the boot reports it, and no boot reports an action that is begun after it
-told : length (filter (is_of r1 1) (interruptions empty (registered ∷ asked 1 ∷ begins 1 1 ∷ boot ∷ asked 2 ∷ begins 2 2 ∷ []))) ≡ 1
-told = refl
+reported : length (filter (is_of r1 1) (interruptions empty (registered ∷ asked 1 ∷ begins 1 1 ∷ boot ∷ asked 2 ∷ begins 2 2 ∷ []))) ≡ 1
+reported = refl

@@ -85,28 +85,28 @@ keep_own mine id es keep = each_weaken (λ e. KeepsRunning e.change) (λ e. Begi
     by _ kept = tt
 
 -- each reply is the one that was meant, or a refusal for the disk
-abbrev pub AreToldOf : List Reply → List Reply → Type 0
-AreToldOf [] [] = ⊤
-AreToldOf (r ∷ rs) (m ∷ ms) = ((r ≡ m) ⊎ (r ≡ Refused Disk)) × AreToldOf rs ms
-AreToldOf [] (m ∷ ms) = ⊥
-AreToldOf (r ∷ rs) [] = ⊥
+abbrev pub AreReportedOf : List Reply → List Reply → Type 0
+AreReportedOf [] [] = ⊤
+AreReportedOf (r ∷ rs) (m ∷ ms) = ((r ≡ m) ⊎ (r ≡ Refused Disk)) × AreReportedOf rs ms
+AreReportedOf [] (m ∷ ms) = ⊥
+AreReportedOf (r ∷ rs) [] = ⊥
 
-pub told_so : (ms : List Reply) → AreToldOf ms ms
-told_so [] = tt
-told_so (m ∷ ms) = (inl refl, told_so ms)
+pub sent_so : (ms : List Reply) → AreReportedOf ms ms
+sent_so [] = tt
+sent_so (m ∷ ms) = (inl refl, sent_so ms)
 
 abbrev pub AllRefused : List Reply → Type 0
 AllRefused rs = AllByRecursion (λ r. is_kept r ≡ false) rs
 
 -- each reply to a batch whose record failed is a refusal
-disk_told : (ms : List Reply) → AreToldOf (disk_each ms) ms × AllRefused (disk_each ms)
-disk_told [] = (tt, tt)
-disk_told (m ∷ ms) = let rest = disk_told ms in ((inr refl, rest.0), (refl, rest.1))
+disk_reported : (ms : List Reply) → AreReportedOf (disk_each ms) ms × AllRefused (disk_each ms)
+disk_reported [] = (tt, tt)
+disk_reported (m ∷ ms) = let rest = disk_reported ms in ((inr refl, rest.0), (refl, rest.1))
 
-pub failed_told : (ms : List Reply) → AreToldOf (failed ms) ms × AllRefused (failed ms)
-failed_told [] = (tt, tt)
-failed_told (Refused refusal ∷ ms) = let rest = failed_told ms in ((inl refl, rest.0), (refl, rest.1))
-failed_told (m ∷ ms) = let rest = disk_told ms in ((inr refl, rest.0), (refl, rest.1))
+pub failed_reported : (ms : List Reply) → AreReportedOf (failed ms) ms × AllRefused (failed ms)
+failed_reported [] = (tt, tt)
+failed_reported (Refused refusal ∷ ms) = let rest = failed_reported ms in ((inl refl, rest.0), (refl, rest.1))
+failed_reported (m ∷ ms) = let rest = disk_reported ms in ((inr refl, rest.0), (refl, rest.1))
 
 -- an acknowledgement is not a refusal
 kept_ack : (c : Change) → is_kept (acknowledged c) ≡ true
@@ -115,10 +115,10 @@ kept_ack (change.Step id (step.Recur m)) = refl
 kept_ack _ = refl
 
 -- the effects of a command, by its reply
-told_commands : (now : ℕ) (c : Command) (old new : Seen) (r m : Reply) (effects : Effects) → (r ≡ m) ⊎ (r ≡ Refused Disk)
+reported_commands : (now : ℕ) (c : Command) (old new : Seen) (r m : Reply) (effects : Effects) → (r ≡ m) ⊎ (r ≡ Refused Disk)
     → Commands now c old new m effects → Commands now c old new r effects
-told_commands now c old new r m effects (inl same) did = subst (λ (q : Reply). Commands now c old new q effects) (sym same) did
-told_commands now c old new r m effects (inr disk) did = record {
+reported_commands now c old new r m effects (inl same) did = subst (λ (q : Reply). Commands now c old new q effects) (sym same) did
+reported_commands now c old new r m effects (inr disk) did = record {
   no_entries = did.no_entries;
   names = did.names;
   does = did.does;
@@ -162,23 +162,23 @@ module _ (now : ℕ) (id : List ℕ) where
 
   -- the machine takes its commands of a batch; where each reply is a refusal none of them had an event
   pub batch_alone : (y : Isolated) (x : Seen) (cs : List Command) (rs ms : List Reply) (es : List Event) → x.state.clock ≤ cut now
-      → AllByRecursion IsAnswered (part_of id (Batch now cs rs)) → Stands y x.state x.due id → Answered now x.state cs ms es → AreToldOf rs ms
+      → AllByRecursion IsAnswered (part_of id (Batch now cs rs)) → Stands y x.state x.due id → Answered now x.state cs ms es → AreReportedOf rs ms
       → Alone id y (part_of id (Batch now cs rs)) [] (events_of id es) × (AllRefused rs → events_of id es ≡ [])
-  batch_alone y x [] [] [] es clock plain stands is told = ((refl, ap (events_of id) is), λ refused. ap (events_of id) is)
-  batch_alone y x [] [] (m ∷ ms) es clock plain stands bad told = absurd bad
+  batch_alone y x [] [] [] es clock plain stands is reported = ((refl, ap (events_of id) is), λ refused. ap (events_of id) is)
+  batch_alone y x [] [] (m ∷ ms) es clock plain stands bad reported = absurd bad
   batch_alone y x [] (r ∷ rs) [] es clock plain stands is bad = absurd bad
-  batch_alone y x [] (r ∷ rs) (m ∷ ms) es clock plain stands bad told = absurd bad
-  batch_alone y x (c ∷ cs) [] [] es clock plain stands bad told = absurd bad
+  batch_alone y x [] (r ∷ rs) (m ∷ ms) es clock plain stands bad reported = absurd bad
+  batch_alone y x (c ∷ cs) [] [] es clock plain stands bad reported = absurd bad
   batch_alone y x (c ∷ cs) [] (m ∷ ms) es clock plain stands is bad = absurd bad
-  batch_alone y x (c ∷ cs) (r ∷ rs) [] es clock plain stands bad told = absurd bad
-  batch_alone y x (c ∷ cs) (r ∷ rs) (m ∷ ms) es clock plain stands (first, later, adds, rest, all) told =
+  batch_alone y x (c ∷ cs) (r ∷ rs) [] es clock plain stands bad reported = absurd bad
+  batch_alone y x (c ∷ cs) (r ∷ rs) (m ∷ ms) es clock plain stands (first, later, adds, rest, all) reported =
       let b = bytes_eq id (commanded c) in
       let e = Took (input.Request now (asked.Command c)) r in
       let parts = part_of id (Batch now cs rs) in
       let plain2 = plain_first b e parts plain in
-      let did = told_commands now c x (seen_behind x first) r m (batch_effects true first) told.0 (added now c x m first clock adds) in
+      let did = reported_commands now c x (seen_behind x first) r m (batch_effects true first) reported.0 (added now c x m first clock adds) in
       let behind = batch_alone (isolated_after_all y (events_of id first)) (seen_behind x first) cs rs ms later did.does.clock plain2.1
-      (stands_all y x.state x.due id first stands did.does.next) rest told.1 in
+      (stands_all y x.state x.due id first stands did.does.next) rest reported.1 in
       let step = own_command b id y now c x (seen_behind x first) r (batch_effects true first) refl clock plain2.0 stands did in
       let split = ap (events_of id) all ∙ filter-append (names_it id) first later in (
         subst (λ (l : List Event). Alone id y (cond b (e ∷ parts) parts) [] l) (sym split)

@@ -24,7 +24,7 @@ use Rattle.executor.specs.Sessions.{Input, Session, TakesWhile}
 use Rattle.executor.specs.ExecutorView.{ExecutorView, due_in}
 use Rattle.executor.specs.Isolated.{Alone, Isolated, IsolatedPoll, cut, isolated_after_all, isolated_of, running_in}
 use Rattle.executor.specs.declared.session.InputOf.TheVariants as input
-use Rattle.executor.proofs.Isolation.Batches.{AllRefused, AreToldOf, IsStep, failed_told, own_command, plain_first, batch_alone, told_so}
+use Rattle.executor.proofs.Isolation.Batches.{AllRefused, AreReportedOf, IsStep, failed_reported, own_command, plain_first, batch_alone, sent_so}
 use Rattle.executor.proofs.Isolation.Changes.{AreFresh, Stands, single-append, stands_all}
 use Rattle.executor.proofs.Isolation.Finishes.{finish_done, finish_isolated}
 use Rattle.executor.proofs.Isolation.Joins.{parts_join, stands_self}
@@ -120,21 +120,21 @@ module _ {D : Type 0} (look : D → View) (mine : ℕ → Bool) (id : List ℕ) 
   call_alone at y (Batch now cs rs) old new d clock plain stands apart own begins batch =
       let entries : own_entries d.entries ≡ [] = ap own_entries (same_entries batch.does) in
       subst (λ (l : List Entry). Alone id y (part_of id (Batch now cs rs)) l (events_of id d.events)) (sym entries)
-      (by new.is_open refl batch.takes.told (same_events batch.does))
+      (by new.is_open refl batch.takes.reported (same_events batch.does))
     where
-      takes : AreToldOf rs batch.takes.meant → Alone id y (part_of id (Batch now cs rs)) [] (events_of id batch.takes.events)
+      takes : AreReportedOf rs batch.takes.meant → Alone id y (part_of id (Batch now cs rs)) [] (events_of id batch.takes.events)
           × (AllRefused rs → events_of id batch.takes.events ≡ [])
-      takes told = batch_alone now id y (seen old) cs rs batch.takes.meant batch.takes.events clock plain stands batch.takes.answered told
+      takes reported = batch_alone now id y (seen old) cs rs batch.takes.meant batch.takes.events clock plain stands batch.takes.answered reported
 
       by : (b : Bool) → new.is_open ≡ b → rs ≡ batch_replies b batch.takes.meant → d.events ≡ (batch_effects b batch.takes.events).events
           → Alone id y (part_of id (Batch now cs rs)) [] (events_of id d.events)
-      by true is told events = subst (λ (l : List Event). Alone id y (part_of id (Batch now cs rs)) [] (events_of id l)) (sym events)
-          (takes (subst (λ (l : List Reply). AreToldOf l batch.takes.meant) (sym told) (told_so batch.takes.meant))).0
-      by false is told events =
-          let bad = failed_told batch.takes.meant in
-          let both = takes (subst (λ (l : List Reply). AreToldOf l batch.takes.meant) (sym told) bad.0) in
+      by true is reported events = subst (λ (l : List Event). Alone id y (part_of id (Batch now cs rs)) [] (events_of id l)) (sym events)
+          (takes (subst (λ (l : List Reply). AreReportedOf l batch.takes.meant) (sym reported) (sent_so batch.takes.meant))).0
+      by false is reported events =
+          let bad = failed_reported batch.takes.meant in
+          let both = takes (subst (λ (l : List Reply). AreReportedOf l batch.takes.meant) (sym reported) bad.0) in
           subst (λ (l : List Event). Alone id y (part_of id (Batch now cs rs)) [] l)
-          (both.1 (subst AllRefused (sym told) bad.1) ∙ sym (ap (events_of id) events)) both.0
+          (both.1 (subst AllRefused (sym reported) bad.1) ∙ sym (ap (events_of id) events)) both.0
   call_alone at y (Finished now end) old new d clock plain stands apart own begins does =
       one_alone true y (Finished now end) (own_entries d.entries) (events_of id d.events)
       (finish_alone old.is_open y now end old new d clock plain.0 stands apart own does)
@@ -244,4 +244,4 @@ pub commands_alone : {D : Type 0} (now : ℕ) (x : ExecutorView D) (commands : L
     → Answered now x.state commands replies es → AllByRecursion IsAnswered (part_of id (Batch now commands replies)) → x.state.clock ≤ cut now
     → Alone id (isolated_of x id) (part_of id (Batch now commands replies)) [] (events_of id es)
 commands_alone now x commands replies es id answered plain clock =
-    (batch_alone now id (isolated_of x id) (seen x) commands replies replies es clock plain (here x id) answered (told_so replies)).0
+    (batch_alone now id (isolated_of x id) (seen x) commands replies replies es clock plain (here x id) answered (sent_so replies)).0

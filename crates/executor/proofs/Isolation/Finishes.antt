@@ -37,10 +37,10 @@ pub finish_done : {D : Type 0} (look : D → View) (now : ℕ) (old new : Execut
 finish_done look now old new end takes clock is_done =
     let turns = takes.turns in
     let found = λ (at : ℕ). scene old.state (due_in old) old.place at old.refuses in
-    let raw : OnlyResults (found (moment old.state now)) turns.effects new.told =
-    subst (λ (e : TurnEnd). IsFinish e (found (moment old.state now)) turns.effects new.told) is_done turns.does in
-    let only : OnlyResults (found (cut now)) turns.effects new.told =
-    subst (λ (at : ℕ). OnlyResults (found at) turns.effects new.told) (moment_is old.state now clock) raw in record {
+    let raw : OnlyResults (found (moment old.state now)) turns.effects new.reported =
+    subst (λ (e : TurnEnd). IsFinish e (found (moment old.state now)) turns.effects new.reported) is_done turns.does in
+    let only : OnlyResults (found (cut now)) turns.effects new.reported =
+    subst (λ (at : ℕ). OnlyResults (found at) turns.effects new.reported) (moment_is old.state now clock) raw in record {
       polled = only.0;
       each_polled = only.1;
       entries = same_entries only.2;

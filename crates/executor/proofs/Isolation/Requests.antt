@@ -64,17 +64,17 @@ rested at old new clock same = record {
 abbrev IsRefused : Reply → Type 0
 IsRefused reply = (why : Refusal) × (reply ≡ Refused why) × (IsPlain (Refused why) → ⊥)
 
-told_or_refused : (e : Event) (reply : Reply) → IsReplyTo e reply → (reply ≡ acknowledged e.change) ⊎ IsRefused reply
-told_or_refused e reply (inl told) = inl told
-told_or_refused e reply (inr (inl full)) = inr (refusal.JournalFull, full, λ h. h)
-told_or_refused e reply (inr (inr (inl memory))) = inr (refusal.Memory, memory, λ h. h)
-told_or_refused e reply (inr (inr (inr disk))) = inr (refusal.Disk, disk, λ h. h)
+reported_or_refused : (e : Event) (reply : Reply) → IsReplyTo e reply → (reply ≡ acknowledged e.change) ⊎ IsRefused reply
+reported_or_refused e reply (inl reported) = inl reported
+reported_or_refused e reply (inr (inl full)) = inr (refusal.JournalFull, full, λ h. h)
+reported_or_refused e reply (inr (inr (inl memory))) = inr (refusal.Memory, memory, λ h. h)
+reported_or_refused e reply (inr (inr (inr disk))) = inr (refusal.Disk, disk, λ h. h)
 
 -- the event that is acknowledged is recorded
-told_done : (e : Event) (c : Change) → recorded e (acknowledged c) ≡ e ∷ []
-told_done e (change.Step i (step.Exec o)) = refl
-told_done e (change.Step i (step.Recur m)) = refl
-told_done e _ = refl
+reported_done : (e : Event) (c : Change) → recorded e (acknowledged c) ≡ e ∷ []
+reported_done e (change.Step i (step.Exec o)) = refl
+reported_done e (change.Step i (step.Recur m)) = refl
+reported_done e _ = refl
 
 -- the event that a command asks for is new where no test held, and names the resource that the command is about
 asked_fresh : (s : State) (c : Command) (size : ℕ) → AllByRecursion (λ t. t.1 ≡ false) (tests s c size)
@@ -138,8 +138,8 @@ commands {D} look now c old new reply effects clock takes =
   where
     by_reply : (e : Event) → event_of old.state now c ≡ Ok e → Records look e (ledger_of old) (ledger_of new) reply
         → (reply ≡ acknowledged e.change) ⊎ IsRefused reply → Commands now c (seen old) (seen new) reply (command_effects (Ok e) reply)
-    by_reply e is serves (inl told) =
-        let batch : recorded e reply ≡ e ∷ [] = ap (recorded e) told ∙ told_done e e.change in
+    by_reply e is serves (inl reported) =
+        let batch : recorded e reply ≡ e ∷ [] = ap (recorded e) reported ∙ reported_done e e.change in
         let after_one : new.state ≡ after old.state e = serves.crash.state ∙ ap (after_all old.state) batch in record {
           no_entries = refl;
           names = subst (AllName (commanded c)) (sym batch) (one_names old.state now c e is);
@@ -150,7 +150,7 @@ commands {D} look now c old new reply effects clock takes =
             clock = subst (λ (x : State). x.clock ≤ cut now) (sym after_one) (one_clock old.state now c e is clock);
           };
           keep = subst AllKeep (sym batch) (one_keeps old.state now c e is);
-          follows = λ plain. subst (λ (w : Result Event Refusal). Follows w reply (recorded e reply)) (sym is) (told, batch);
+          follows = λ plain. subst (λ (w : Result Event Refusal). Follows w reply (recorded e reply)) (sym is) (reported, batch);
         }
     by_reply e is serves (inr (why, refused, shared)) =
         let batch : recorded e reply ≡ [] = ap (recorded e) refused in
@@ -176,7 +176,7 @@ commands {D} look now c old new reply effects clock takes =
       keep = tt;
       follows = λ plain. subst (λ (w : Result Event Refusal). Follows w reply []) (sym is) (serves.0, refl);
     }
-    by (Ok e) is serves = by_reply e is serves (told_or_refused e reply serves.told)
+    by (Ok e) is serves = by_reply e is serves (reported_or_refused e reply serves.reported)
 
 -- the same of a command of a batch
 pub added : (now : ℕ) (c : Command) (old : Seen) (reply : Reply) (first : List Event) → old.state.clock ≤ cut now
@@ -202,16 +202,16 @@ added now c old reply first clock adds = by (event_of old.state now c) refl adds
         → Commands now c old (seen_behind old first) reply (batch_effects true first)
     by (Err why) is refused = none_added (Err why) is refused.1 (λ plain. refused)
     by (Ok e) is (inr memory) = none_added (Ok e) is memory.2 (λ plain. absurd (subst IsPlain memory.0 plain))
-    by (Ok e) is (inl told) = record {
+    by (Ok e) is (inl reported) = record {
       no_entries = refl;
-      names = subst (AllName (commanded c)) (sym told.1) (one_names old.state now c e is);
+      names = subst (AllName (commanded c)) (sym reported.1) (one_names old.state now c e is);
       does = record {
         state = refl;
         due = refl;
-        next = subst (AreFresh old.state) (sym told.1) (one_fresh old.state now c e is);
+        next = subst (AreFresh old.state) (sym reported.1) (one_fresh old.state now c e is);
         clock =
-            subst (λ (es : List Event). (after_all old.state es).clock ≤ cut now) (sym told.1) (one_clock old.state now c e is clock);
+            subst (λ (es : List Event). (after_all old.state es).clock ≤ cut now) (sym reported.1) (one_clock old.state now c e is clock);
       };
-      keep = subst AllKeep (sym told.1) (one_keeps old.state now c e is);
-      follows = λ plain. subst (λ (w : Result Event Refusal). Follows w reply first) (sym is) told;
+      keep = subst AllKeep (sym reported.1) (one_keeps old.state now c e is);
+      follows = λ plain. subst (λ (w : Result Event Refusal). Follows w reply first) (sym is) reported;
     }

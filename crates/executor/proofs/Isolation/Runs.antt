@@ -119,18 +119,18 @@ runs_its id s es =
 abbrev pub is_mine : List ℕ → State → List Event → ℕ → Bool
 is_mine id s es run = list_any (nat_eq run) (own_runs id s es)
 
-abbrev IsTold : (ℕ → Bool) → List ℕ → Mark → Type 0
-IsTold mine id m = mine m.1 ≡ bytes_eq id m.0
+abbrev IsSent : (ℕ → Bool) → List ℕ → Mark → Type 0
+IsSent mine id m = mine m.1 ≡ bytes_eq id m.0
 
-begin_told : (mine : ℕ → Bool) (id : List ℕ) (c : Change) → AllByRecursion (IsTold mine id) (marks_begun c) → BeginsOwn mine id c
-begin_told mine id (change.Step own (step.Begin call run)) h = h.0
-begin_told mine id _ h = tt
+begin_reported : (mine : ℕ → Bool) (id : List ℕ) (c : Change) → AllByRecursion (IsSent mine id) (marks_begun c) → BeginsOwn mine id c
+begin_reported mine id (change.Step own (step.Begin call run)) h = h.0
+begin_reported mine id _ h = tt
 
-begins_told : (mine : ℕ → Bool) (id : List ℕ) (es : List Event) → AllByRecursion (IsTold mine id) (all_begun es) → AllBeginOwn mine id es
-begins_told mine id [] h = tt
-begins_told mine id (e ∷ es) h = (
-  begin_told mine id e.change (each_first (IsTold mine id) (marks_begun e.change) (all_begun es) h),
-  begins_told mine id es (each_last (IsTold mine id) (marks_begun e.change) (all_begun es) h),
+begins_reported : (mine : ℕ → Bool) (id : List ℕ) (es : List Event) → AllByRecursion (IsSent mine id) (all_begun es) → AllBeginOwn mine id es
+begins_reported mine id [] h = tt
+begins_reported mine id (e ∷ es) h = (
+  begin_reported mine id e.change (each_first (IsSent mine id) (marks_begun e.change) (all_begun es) h),
+  begins_reported mine id es (each_last (IsSent mine id) (marks_begun e.change) (all_begun es) h),
 )
 
 -- of all runs, its runs are those of its running actions and of its begins
@@ -138,13 +138,13 @@ pub runs_own : (id : List ℕ) (s : State) (es : List Event) → DistinctKeys s 
     → AreOwn (is_mine id s es) id (active s) × AllBeginOwn (is_mine id s es) id es
 runs_own id s es apart fresh =
     let mine : ℕ → Bool = is_mine id s es in
-    let all : AllByRecursion (IsTold mine id) (marks s es) =
-    subst (λ (l : List ℕ). AllByRecursion (IsTold (λ run. list_any (nat_eq run) l) id) (marks s es)) (runs_its id s es)
+    let all : AllByRecursion (IsSent mine id) (marks s es) =
+    subst (λ (l : List ℕ). AllByRecursion (IsSent (λ run. list_any (nat_eq run) l) id) (marks s es)) (runs_its id s es)
     (owned (λ (m : Mark). m.1) (is_its id) (marks s es) (marks_distinct s es apart fresh)) in
-    let running : AllByRecursion (IsTold mine id) (map mark_of (active s)) = each_first (IsTold mine id) (map mark_of (active s))
+    let running : AllByRecursion (IsSent mine id) (map mark_of (active s)) = each_first (IsSent mine id) (map mark_of (active s))
     (all_begun es) all in
-    let begun : AllByRecursion (IsTold mine id) (all_begun es) = each_last (IsTold mine id) (map mark_of (active s)) (all_begun es) all in
-    (each_unmap (IsTold mine id) mark_of (active s) running, begins_told mine id es begun)
+    let begun : AllByRecursion (IsSent mine id) (all_begun es) = each_last (IsSent mine id) (map mark_of (active s)) (all_begun es) all in
+    (each_unmap (IsSent mine id) mark_of (active s) running, begins_reported mine id es begun)
 
 -- the running action of an entry
 abbrev EntryOwn : (ℕ → Bool) → List ℕ → List ℕ × Resource → Type 0

@@ -24,7 +24,7 @@ use Rattle.executor.specs.ExecutorView.{ExecutorView, due_in}
 use Rattle.executor.specs.TidyCalls.{TidiesWhile}
 use Rattle.executor.specs.Isolated.{cut, isolated_of}
 use Rattle.executor.specs.declared.session.InputOf.TheVariants as input
-use Rattle.executor.proofs.Isolation.Batches.{AllRefused, AreToldOf, failed_told, keep_own, batch_alone, batch_does}
+use Rattle.executor.proofs.Isolation.Batches.{AllRefused, AreReportedOf, failed_reported, keep_own, batch_alone, batch_does}
 use Rattle.executor.proofs.Isolation.Changes.{AreFresh, Stands}
 use Rattle.executor.proofs.Isolation.Finishes.{finish_does, finish_done}
 use Rattle.executor.proofs.Isolation.Requests.{AllKeep, Does, Seen, commands, rested, seen, seen_behind}
@@ -106,7 +106,7 @@ module _ {D : Type 0} (look : D → View) (mine : ℕ → Bool) (id : List ℕ) 
   -- a batch of commands
   batch_went : (now : ℕ) (cs : List Command) (rs : List Reply) (old new : ExecutorView D) (d : Effects) → old.state.clock ≤ cut now
       → AllByRecursion IsAnswered (part_of id (Batch now cs rs)) → TakesBatch look now cs old new rs d → Went mine id (cut now) old new d.events
-  batch_went now cs rs old new d clock plain batch = by new.is_open refl batch.takes.told (same_events batch.does)
+  batch_went now cs rs old new d clock plain batch = by new.is_open refl batch.takes.reported (same_events batch.does)
     where
       es : List Event
       es = batch.takes.events
@@ -127,13 +127,13 @@ module _ {D : Type 0} (look : D → View) (mine : ℕ → Bool) (id : List ℕ) 
 
       by : (b : Bool) → new.is_open ≡ b → rs ≡ batch_replies b batch.takes.meant → d.events ≡ (batch_effects b es).events
           → Went mine id (cut now) old new d.events
-      by true is told events = subst (λ (l : List Event). Went mine id (cut now) old new l) (sym events) (went_so (cut now) old new es done)
-      by false is told events =
-          let bad = failed_told batch.takes.meant in record {
+      by true is reported events = subst (λ (l : List Event). Went mine id (cut now) old new l) (sym events) (went_so (cut now) old new es done)
+      by false is reported events =
+          let bad = failed_reported batch.takes.meant in record {
             more = es;
             does = subst (λ (l : List Event). Does (cut now) (seen old) (seen new) (l ++ es)) (sym events) done;
             others = (batch_alone now id (isolated_of old id) (seen old) cs rs batch.takes.meant es clock plain (here old id) batch.takes.answered
-                (subst (λ (l : List Reply). AreToldOf l batch.takes.meant) (sym told) bad.0)).1 (subst AllRefused (sym told) bad.1);
+                (subst (λ (l : List Reply). AreReportedOf l batch.takes.meant) (sym reported) bad.0)).1 (subst AllRefused (sym reported) bad.1);
             begins = keep_own mine id es did.1;
             whole = λ open_now. absurd (true≢false (sym open_now ∙ is));
           }

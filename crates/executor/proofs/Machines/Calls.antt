@@ -36,7 +36,7 @@ use Rattle.exec_ledger.specs.Tidying.{Tidies}
 use Rattle.executor.specs.TurnCalls.{MakesTurn}
 use Rattle.executor.specs.declared.session.InputOf.TheVariants as input
 use Rattle.executor.proofs.Lives.Calls.{does_nothing}
-use Rattle.executor.proofs.Memory.{memory_told}
+use Rattle.executor.proofs.Memory.{memory_reported}
 
 -- an executor as the machine
 abbrev pub machine_of : {D : Type 0} → ExecutorView D → Machine
@@ -91,26 +91,26 @@ module _ {D : Type 0} (look : D → View) where
   records : (now : ℕ) (c : Command) (x y : ExecutorView D) (reply : Reply) (e : Event) → event_of x.state now c ≡ Ok e
       → Records look e (ledger_of x) (ledger_of y) reply → OnlyLedgerChanges x y → x.is_open ≡ true → (y.is_open ≡ false → reply ≡ Refused Disk) → (reply ≡ Refused Disk → y.is_open ≡ false)
       → TakesOne (step_of x y) now c reply (machine_of x) (machine_of y) (command_effects (Ok e) reply)
-  records now c x y reply e is r beside was closes closed = by r.told
+  records now c x y reply e is r beside was closes closed = by r.reported
     where
       so : Acknowledged e e.change
       so = is_acknowledged e e.change
 
       by : (reply ≡ acknowledged e.change) ⊎ ((reply ≡ Refused JournalFull) ⊎ ((reply ≡ Refused Memory) ⊎ (reply ≡ Refused Disk)))
           → TakesOne (step_of x y) now c reply (machine_of x) (machine_of y) (command_effects (Ok e) reply)
-      by (inl told) =
-          let batch : recorded e reply ≡ e ∷ [] = ap (recorded e) told ∙ so.0 in
-          let open_still : y.is_open ≡ true = is_true y.is_open (λ bad. not_refused e.change Disk (sym told ∙ closes bad)) in
+      by (inl reported) =
+          let batch : recorded e reply ≡ e ∷ [] = ap (recorded e) reported ∙ so.0 in
+          let open_still : y.is_open ≡ true = is_true y.is_open (λ bad. not_refused e.change Disk (sym reported ∙ closes bad)) in
           inl (
             reply ∷ [],
             e ∷ [],
-            answers x.state now c reply (e ∷ []) (Ok e) is (inl (told, refl)),
+            answers x.state now c reply (e ∷ []) (Ok e) is (inl (reported, refl)),
             inl (
               refl,
               (
                 same_machine (machine_of y) _ (open_still ∙ sym was) (r.crash.state ∙ ap (after_all x.state) batch)
                     (r.due ∙ ap (due_after_all x.state (due_in x)) batch) r.allocator,
-                same_effects e reply (e ∷ []) [] batch (ap (pending e) told ∙ so.1),
+                same_effects e reply (e ∷ []) [] batch (ap (pending e) reported ∙ so.1),
               ),
             ),
           )
@@ -180,14 +180,14 @@ module _ {D : Type 0} (look : D → View) where
   one_batch : (now : ℕ) (cs : List Command) (rs : List Reply) (x y : ExecutorView D) (d : Effects) → TakesBatch look now cs x y rs d
       → TakesAll (step_of x y) now cs rs (machine_of x) (machine_of y) d
   one_batch now cs rs x y d t =
-      subst (λ (l : List Reply). TakesAll (step_of x y) now cs l (machine_of x) (machine_of y) d) (sym t.takes.told)
+      subst (λ (l : List Reply). TakesAll (step_of x y) now cs l (machine_of x) (machine_of y) d) (sym t.takes.reported)
       (subst (λ (k : Effects). TakesAll (step_of x y) now cs (batch_replies y.is_open t.takes.meant) (machine_of x) (machine_of y) k) (sym t.does)
       (batch_so y.is_open now cs rs x y d t refl))
 
   -- a turn of a kind, by its label
   turn_so : (kind : TurnKind) (each now : ℕ) (x y : ExecutorView D) (end : TurnEnd) (e : Exchange) (t : MakesTurn kind each look now x y end)
       → MovesTurn kind each end (moment x.state now)
-      (record { exchange = e; answers = t.turns.effects.entries; notices = y.told; room = x.children.room; place = x.place; faults = ((look x.disk).failures, (look y.disk).failures) })
+      (record { exchange = e; answers = t.turns.effects.entries; notices = y.reported; room = x.children.room; place = x.place; faults = ((look x.disk).failures, (look y.disk).failures) })
       (machine_of x) (machine_of y) t.turns.effects
   turn_so kind each now x y end e t = record {
     turns = t.turns.does;
@@ -255,7 +255,7 @@ module _ {D : Type 0} (look : D → View) where
 
   moves : (o : Bool) (e : Exchange) (x y : ExecutorView D) (d : Effects) → x.is_open ≡ o → Does look e x y d
       → MovesWhile o (label_in look o e x y d) (machine_of x) (machine_of y) d
-  moves true e x y d was does = (moves_open e x y d was does, memory_told look e x y d does)
+  moves true e x y d was does = (moves_open e x y d was does, memory_reported look e x y d does)
   moves false e x y d was does =
       let none = does_nothing look e x y d was does in
       ((same_entries none.1.nothing, refl), none.0, (none.1.is_closed, none.1.nothing))

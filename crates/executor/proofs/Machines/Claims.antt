@@ -34,7 +34,7 @@ use Rattle.executor.specs.Promise.{Acknowledged, AllBegun, AllRecorded, Claim, E
 use Rattle.executor.specs.Runs.{HasBegins, Opening, Remains, Runs, Seen, SeenService, Serving, opened_on}
 use Rattle.executor.specs.declared.session.InputOf.TheVariants as input
 use Rattle.executor.proofs.Lives.Whole.{boots_is}
-use Rattle.executor.proofs.Machines.Reports.{reports_told}
+use Rattle.executor.proofs.Machines.Reports.{reports_reported}
 use Rattle.executor.proofs.Machines.Runs.{in_order, moves_so}
 
 -- claims of some events, and then of others
@@ -57,16 +57,16 @@ recorded_later s cs es fs h = both_recorded s [] es cs fs tt h
 -- commands: each that is acknowledged is its event
 kept_recorded : (s : State) (now : ℕ) (c : Command) (r : Reply) (e : Event) (b : Bool) → event_of s now c ≡ Ok e → r ≡ acknowledged e.change
     → AllRecorded s (if b then Acknowledged now c r ∷ [] else []) (e ∷ [])
-kept_recorded s now c r e true is told = inl ((is, told), tt)
-kept_recorded s now c r e false is told = tt
+kept_recorded s now c r e true is reported = inl ((is, reported), tt)
+kept_recorded s now c r e false is reported = tt
 
 one_recorded : (s : State) (now : ℕ) (c : Command) (r : Reply) (es : List Event) (v : Result Event Refusal) → event_of s now c ≡ v → Adds v r es
     → AllRecorded s (if is_kept r then Acknowledged now c r ∷ [] else []) es
 one_recorded s now c r es (Err why) is (refused, none) =
     subst (λ (t : Reply). AllRecorded s (if is_kept t then Acknowledged now c t ∷ [] else []) es) (sym refused) tt
-one_recorded s now c r es (Ok e) is (inl (told, one)) =
+one_recorded s now c r es (Ok e) is (inl (reported, one)) =
     subst (λ (fs : List Event). AllRecorded s (if is_kept r then Acknowledged now c r ∷ [] else []) fs) (sym one)
-    (kept_recorded s now c r e (is_kept r) is told)
+    (kept_recorded s now c r e (is_kept r) is reported)
 one_recorded s now c r es (Ok e) is (inr (refused, registers, none)) =
     subst (λ (t : Reply). AllRecorded s (if is_kept t then Acknowledged now c t ∷ [] else []) es) (sym refused) tt
 
@@ -97,11 +97,11 @@ none_claimed s cs es none = subst (λ (ds : List Claim). AllRecorded s ds es) (s
 
 takes_recorded : (l : Label) (now : ℕ) (cs : List Command) (rs : List Reply) (m n : Machine) (did : Effects) → TakesAll l now cs rs m n did
     → AllRecorded m.state (acknowledgements now cs rs) did.events
-takes_recorded l now cs rs m n did (meant, es, answered, inl (told, goes)) =
+takes_recorded l now cs rs m n did (meant, es, answered, inl (reported, goes)) =
     subst (λ (k : Effects). AllRecorded m.state (acknowledgements now cs rs) k.events) (sym goes.1)
-    (subst (λ (ts : List Reply). AllRecorded m.state (acknowledgements now cs ts) es) (sym told) (answered_recorded m.state now cs meant es answered))
-takes_recorded l now cs rs m n did (meant, es, answered, inr (some, told, fails)) =
-    none_claimed m.state (acknowledgements now cs rs) did.events (ap (acknowledgements now cs) told ∙ none_failed now cs meant)
+    (subst (λ (ts : List Reply). AllRecorded m.state (acknowledgements now cs ts) es) (sym reported) (answered_recorded m.state now cs meant es answered))
+takes_recorded l now cs rs m n did (meant, es, answered, inr (some, reported, fails)) =
+    none_claimed m.state (acknowledgements now cs rs) did.events (ap (acknowledgements now cs) reported ∙ none_failed now cs meant)
 
 one_taken : (l : Label) (now : ℕ) (c : Command) (r : Reply) (m n : Machine) (did : Effects) → TakesOne l now c r m n did
     → AllRecorded m.state (acknowledgements now (c ∷ []) (r ∷ [])) did.events
@@ -136,40 +136,40 @@ moved : (s : State) (ns ms : List Notice) (es fs : List Event) → ns ≡ ms →
 moved s ns ms es fs same same2 h =
     subst (λ (l : List Notice). AllRecorded s (map Ended l) es) (sym same) (subst (AllRecorded s (map Ended ms)) (sym same2) h)
 
-whole_recorded : (end : TurnEnd) (x : Scene) (did : Effects) (told : List Notice) → Whole end x did told
-    → AllRecorded x.state (map Ended told) did.events
-whole_recorded end x did told (t, is, ns) =
+whole_recorded : (end : TurnEnd) (x : Scene) (did : Effects) (reported : List Notice) → Whole end x did reported
+    → AllRecorded x.state (map Ended reported) did.events
+whole_recorded end x did reported (t, is, ns) =
     let s = x.state in
     let early : List Event = results x.at t.polled ++ begins x.at t.begun in
-    moved s told (result_notices x.at t.polled ++ refusal_notices x.at t.started) did.events (early ++ refusals x.at t.started) ns (same_events is)
+    moved s reported (result_notices x.at t.polled ++ refusal_notices x.at t.started) did.events (early ++ refusals x.at t.started) ns (same_events is)
     (subst (λ (cs : List Claim). AllRecorded s cs (early ++ refusals x.at t.started))
     (sym (map-append Ended (result_notices x.at t.polled) (refusal_notices x.at t.started)))
     (both_recorded s (map Ended (result_notices x.at t.polled)) early (map Ended (refusal_notices x.at t.started)) (refusals x.at t.started)
     (begun_recorded s x.at t.polled t.begun)
     (each_recorded (after_all s early) x.at (λ a. a.what) (λ a. refused_end a.answer) t.started)))
 
-turn_recorded : (end : TurnEnd) (x : Scene) (did : Effects) (told : List Notice) → IsTurn end x did told
-    → AllRecorded x.state (map Ended told) did.events
-turn_recorded turn_end.Closed x did told none = absurd none
-turn_recorded turn_end.BookFull x did told (is, ns) = moved x.state told [] did.events [] ns (same_events is) tt
-turn_recorded turn_end.Done x did told whole = whole_recorded turn_end.Done x did told whole
-turn_recorded turn_end.RunsSpent x did told whole = whole_recorded turn_end.RunsSpent x did told whole
-turn_recorded turn_end.Full x did told whole = whole_recorded turn_end.Full x did told whole
-turn_recorded turn_end.Memory x did told whole = whole_recorded turn_end.Memory x did told whole
-turn_recorded turn_end.Disk x did told (inl (ps, _, is, ns)) = moved x.state told [] did.events [] ns (same_events is) tt
-turn_recorded turn_end.Disk x did told (inr (inl (ps, end, bs, _, _, is, ns))) =
-    moved x.state told (result_notices x.at ps) did.events (results x.at ps) ns (same_events is) (results_recorded x.state x.at ps)
-turn_recorded turn_end.Disk x did told (inr (inr (end, t, is, ns))) =
-    moved x.state told (result_notices x.at t.polled) did.events (results x.at t.polled ++ begins x.at t.begun) ns (same_events is)
+turn_recorded : (end : TurnEnd) (x : Scene) (did : Effects) (reported : List Notice) → IsTurn end x did reported
+    → AllRecorded x.state (map Ended reported) did.events
+turn_recorded turn_end.Closed x did reported none = absurd none
+turn_recorded turn_end.BookFull x did reported (is, ns) = moved x.state reported [] did.events [] ns (same_events is) tt
+turn_recorded turn_end.Done x did reported whole = whole_recorded turn_end.Done x did reported whole
+turn_recorded turn_end.RunsSpent x did reported whole = whole_recorded turn_end.RunsSpent x did reported whole
+turn_recorded turn_end.Full x did reported whole = whole_recorded turn_end.Full x did reported whole
+turn_recorded turn_end.Memory x did reported whole = whole_recorded turn_end.Memory x did reported whole
+turn_recorded turn_end.Disk x did reported (inl (ps, _, is, ns)) = moved x.state reported [] did.events [] ns (same_events is) tt
+turn_recorded turn_end.Disk x did reported (inr (inl (ps, end, bs, _, _, is, ns))) =
+    moved x.state reported (result_notices x.at ps) did.events (results x.at ps) ns (same_events is) (results_recorded x.state x.at ps)
+turn_recorded turn_end.Disk x did reported (inr (inr (end, t, is, ns))) =
+    moved x.state reported (result_notices x.at t.polled) did.events (results x.at t.polled ++ begins x.at t.begun) ns (same_events is)
     (begun_recorded x.state x.at t.polled t.begun)
 
-finish_recorded : (end : TurnEnd) (x : Scene) (did : Effects) (told : List Notice) → IsFinish end x did told
-    → AllRecorded x.state (map Ended told) did.events
-finish_recorded turn_end.Done x did told (ps, _, is, ns) =
-    moved x.state told (result_notices x.at ps) did.events (results x.at ps) ns (same_events is) (results_recorded x.state x.at ps)
-finish_recorded turn_end.BookFull x did told (is, ns) = moved x.state told [] did.events [] ns (same_events is) tt
-finish_recorded turn_end.Disk x did told (ps, _, is, ns) = moved x.state told [] did.events [] ns (same_events is) tt
-finish_recorded _ x did told none = absurd none
+finish_recorded : (end : TurnEnd) (x : Scene) (did : Effects) (reported : List Notice) → IsFinish end x did reported
+    → AllRecorded x.state (map Ended reported) did.events
+finish_recorded turn_end.Done x did reported (ps, _, is, ns) =
+    moved x.state reported (result_notices x.at ps) did.events (results x.at ps) ns (same_events is) (results_recorded x.state x.at ps)
+finish_recorded turn_end.BookFull x did reported (is, ns) = moved x.state reported [] did.events [] ns (same_events is) tt
+finish_recorded turn_end.Disk x did reported (ps, _, is, ns) = moved x.state reported [] did.events [] ns (same_events is) tt
+finish_recorded _ x did reported none = absurd none
 
 -- a step without a notice
 unnoticed : (s : State) (cs : List Claim) (ns : List Notice) (es : List Event) → ns ≡ [] → AllRecorded s cs es
@@ -281,6 +281,6 @@ pub runs_kept : (start : State) (xs : List Seen) (zs : List Event) → IsLawfulS
 runs_kept start xs zs lawful runs = record {
   recorded = runs_recorded start xs zs runs;
   begun = runs_begun start xs zs runs;
-  reported = reports_told start xs zs runs;
+  opening_report = reports_reported start xs zs runs;
   order = in_order start xs zs lawful runs;
 }

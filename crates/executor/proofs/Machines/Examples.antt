@@ -71,7 +71,7 @@ done_so : (answers : List Entry) (room : ℕ) (notices : List Notice) (m n : Mac
     → MovesWhile true (turned turn_end.Done answers room notices) m n did
     → (x : Scene) × (x.state ≡ m.state) × (answers ≡ did.entries) × Whole turn_end.Done x did notices
 done_so answers room notices m n did ((end, is, t), memory) =
-    let same : end ≡ turn_end.Done = (let told : reply.Turn turn_end.Done ≡ reply.Turn end = is in cc) in
+    let same : end ≡ turn_end.Done = (let reported : reply.Turn turn_end.Done ≡ reply.Turn end = is in cc) in
     let x : Scene = scene m.state m.due first_place (moment m.state 10) m.refuses in
     (x, refl, t.answers, subst (λ (e : TurnEnd). IsTurn e x did notices) same t.turns)
 
@@ -79,20 +79,20 @@ done_so answers room notices m n did ((end, is, t), memory) =
 unanswered : (room : ℕ) (a : Notice) (more : List Notice) (m n : Machine) (did : Effects)
     → MovesWhile true (turned turn_end.Done [] room (a ∷ more)) m n did → ⊥
 unanswered room a more m n did moves =
-    let (x, here, answered, (t, is, told)) = done_so [] room (a ∷ more) m n did moves in
+    let (x, here, answered, (t, is, reported)) = done_so [] room (a ∷ more) m n did moves in
     let entries = answered ∙ same_entries is in
     let no_ps = no_polls x.at t.polled (none_before (polls x.at t.polled) (starts t.clock t.started) (sym entries)) in
     let no_xs = none_mapped (λ (s : Started). record { run = s.what.running.run; at = t.clock; answer = start_answer s.answer }) t.started
     (none_after (polls x.at t.polled) (starts t.clock t.started) (sym entries)) in
     let bad : a ∷ more ≡ [] =
-    told ∙ (λ i. result_notices x.at (no_ps i) ++ refusal_notices x.at (no_xs i)) in
+    reported ∙ (λ i. result_notices x.at (no_ps i) ++ refusal_notices x.at (no_xs i)) in
     cc
 
 -- a start of an agent without its begin
 unbegun : (e : Entry) (room : ℕ) (notices : List Notice) (n : Machine) (did : Effects) → did.events ≡ []
     → MovesWhile true (turned turn_end.Done (e ∷ []) room notices) waiting n did → ⊥
 unbegun e room notices n did none moves =
-    let (x, here, answered, (t, is, told)) = done_so (e ∷ []) room notices waiting n did moves in
+    let (x, here, answered, (t, is, reported)) = done_so (e ∷ []) room notices waiting n did moves in
     let entries = answered ∙ same_entries is in
     let events = sym none ∙ same_events is in
     let early : List Event = results x.at t.polled ++ begins_at x.at t.begun in
@@ -108,7 +108,7 @@ unbegun e room notices n did none moves =
 full_with_reserve : (answers : List Entry) (notices : List Notice) (n : Machine) (did : Effects)
     → MovesWhile true (turned turn_end.BookFull answers 3 notices) waiting n did → ⊥
 full_with_reserve answers notices n did ((end, is, t), memory) =
-    let same : end ≡ turn_end.BookFull = (let told : reply.Turn turn_end.BookFull ≡ reply.Turn end = is in cc) in
+    let same : end ≡ turn_end.BookFull = (let reported : reply.Turn turn_end.BookFull ≡ reply.Turn end = is in cc) in
     let less : 3 < 3 = t.full.0 same in omega (arith, less)
 
 -- want of memory without a refused growth

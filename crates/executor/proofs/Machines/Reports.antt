@@ -16,7 +16,7 @@ use Rattle.executor.specs.Interruptions.{interrupted, interrupted_in, interrupti
 use Rattle.executor.specs.Runs.{Opening, Runs, Seen, Serving}
 use Rattle.executor.specs.SeenLives.{reports}
 use Rattle.executor.proofs.History.Runs.{both_false, rests}
-use Rattle.executor.proofs.History.Told.{interruptions-append}
+use Rattle.executor.proofs.History.TurnReport.{interruptions-append}
 
 -- lists with some elements left out, one after the other
 within_all : (xs : List Notice) → IsWithin xs xs
@@ -45,8 +45,8 @@ none_interrupted at (e ∷ es) idle =
     ap₂ (λ (a b : List Notice). a ++ b)
     (ap (λ (o : Option Running). map (interruption e.0 at) (option_to_list o)) (rests e.1.history halves.0)) (none_interrupted at es halves.1)
 
-boots_tell : (s : State) (now : ℕ) → IsWithin (interrupted s (moment s now)) (interruptions s (boots s now))
-boots_tell s now = by (any_busy s) refl
+boots_report : (s : State) (now : ℕ) → IsWithin (interrupted s (moment s now)) (interruptions s (boots s now))
+boots_report s now = by (any_busy s) refl
   where
     by : (b : Bool) → any_busy s ≡ b
         → IsWithin (interrupted s (moment s now)) (interruptions s (option_to_list (if b then Some (boot_at (moment s now)) else None)))
@@ -54,19 +54,19 @@ boots_tell s now = by (any_busy s) refl
     by false idle =
         subst (λ (l : List Notice). IsWithin l []) (sym (none_interrupted (moment s now) s.resources idle)) tt
 
-pub reports_told : (start : State) (xs : List Seen) (zs : List Event) → Runs start xs zs → IsWithin (reports xs) (interruptions start zs)
-reports_told start [] zs none = tt
-reports_told start (Opening now end ∷ older) zs (ys, more, before, sits, is) =
+pub reports_reported : (start : State) (xs : List Seen) (zs : List Event) → Runs start xs zs → IsWithin (reports xs) (interruptions start zs)
+reports_reported start [] zs none = tt
+reports_reported start (Opening now end ∷ older) zs (ys, more, before, sits, is) =
     subst (λ (l : List Event). IsWithin (reports older) (interruptions start l)) (sym is)
     (subst (IsWithin (reports older)) (sym (interruptions-append start ys more))
-    (within_more (reports older) (interruptions start ys) (interruptions (after_all start ys) more) (reports_told start older ys before)))
-reports_told start (Serving x ∷ older) zs (ys, more, before, (p, r, more_is), is) =
+    (within_more (reports older) (interruptions start ys) (interruptions (after_all start ys) more) (reports_reported start older ys before)))
+reports_reported start (Serving x ∷ older) zs (ys, more, before, (p, r, more_is), is) =
     let s = after_all start ys in
     let here : IsWithin x.ran (interruptions s more) =
     subst (λ (l : List Event). IsWithin x.ran (interruptions s l)) (sym more_is)
     (subst (IsWithin x.ran) (sym (interruptions-append s (boots s x.now) p))
     (within_more x.ran (interruptions s (boots s x.now)) (interruptions (after_all s (boots s x.now)) p)
-    (subst (λ (l : List Notice). IsWithin l (interruptions s (boots s x.now))) (sym r.ran) (boots_tell s x.now)))) in
+    (subst (λ (l : List Notice). IsWithin l (interruptions s (boots s x.now))) (sym r.ran) (boots_report s x.now)))) in
     subst (λ (l : List Event). IsWithin (reports older ++ x.ran) (interruptions start l)) (sym is)
     (subst (IsWithin (reports older ++ x.ran)) (sym (interruptions-append start ys more))
-    (within_both (reports older) (interruptions start ys) x.ran (interruptions s more) (reports_told start older ys before) here))
+    (within_both (reports older) (interruptions start ys) x.ran (interruptions s more) (reports_reported start older ys before) here))

@@ -30,7 +30,7 @@ use Rattle.exec_turn.specs.Polls.{Polled, ending, ends_of, results}
 use Rattle.exec_turn.specs.Starts.{Started, refusals, refused_end}
 use Rattle.exec_ledger.specs.Laws.{same_events, same_pending}
 use Rattle.exec_ledger.specs.Pieces.{Effects, followed_by, no_effects, batch_effects}
-use Rattle.exec_turn.specs.Turn.{EachPolled, IsFinish, IsTurn, PickedAt, Told, TurnKind, Whole}
+use Rattle.exec_turn.specs.Turn.{EachPolled, IsFinish, IsTurn, PickedAt, TurnReport, TurnKind, Whole}
 use Rattle.executor.specs.Histories.{Follow, IsInOrder}
 use Rattle.executor.specs.Lives.{Abandoned, Cleared, Exchange, Finished, Batch, Tidied, Took, boots}
 use Rattle.executor.specs.Machine.{GoesOn, Label, Machine, MovesAll, MovesOpen, MovesTurn, MovesWhile, TakesAll, TidyEnds}
@@ -42,7 +42,7 @@ use Rattle.executor.proofs.Isolation.Lists.{each_unmap}
 use Rattle.executor.proofs.History.Events.{runs_ascend}
 use Rattle.executor.proofs.History.Order.{begin_in_order}
 use Rattle.executor.proofs.History.Runs.{ends_between, follow_first}
-use Rattle.executor.proofs.History.Told.{apart_all, interrupted_once}
+use Rattle.executor.proofs.History.TurnReport.{apart_all, interrupted_once}
 use Rattle.executor.proofs.Lives.Whole.{boots_is}
 use Rattle.executor.proofs.Machines.Follows.{AtMostOne, BegunSo, RunsHere, all_run, begins_follow, command_applies, drawn, ends_follow, entries_found, follow_both, ids_of}
 
@@ -60,7 +60,7 @@ one_follows s now c r es low adds = by (event_of s now c) refl adds
   where
     by : (v : Result Event Refusal) → event_of s now c ≡ v → Adds v r es → Follow s es
     by (Err refusal) is adds = subst (Follow s) (sym adds.1) tt
-    by (Ok e) is (inl told) = subst (Follow s) (sym told.1) (command_applies s now c e low is, tt)
+    by (Ok e) is (inl reported) = subst (Follow s) (sym reported.1) (command_applies s now c e low is, tt)
     by (Ok e) is (inr memory) = subst (Follow s) (sym memory.2) tt
 
 answered_follow : (s : State) (now : ℕ) (cs : List Command) (rs : List Reply) (es : List Event) → s.next_call ≤ num_max
@@ -128,7 +128,7 @@ two_follow end x ps bs polled picked fine =
     follow_both x.state (results x.at ps) (begins x.at bs) one
     (begun_so end (behind x (results x.at ps)) bs picked (fine_on x.state (results x.at ps) one fine)).follow
 
-three_follow : (end : TurnEnd) (x : Scene) (t : Told end x) → Fine x.state
+three_follow : (end : TurnEnd) (x : Scene) (t : TurnReport end x) → Fine x.state
     → Follow x.state (results x.at t.polled ++ begins x.at t.begun ++ refusals x.at t.started)
 three_follow end x t fine =
     let es = results x.at t.polled in
@@ -158,42 +158,42 @@ some_pending s es fs events pending is rest follow = record {
   whole = λ none. absurd (none refl);
 }
 
-whole_follows : (end : TurnEnd) (x : Scene) (did : Effects) (told : List Notice) → Whole end x did told
+whole_follows : (end : TurnEnd) (x : Scene) (did : Effects) (reported : List Notice) → Whole end x did reported
     → TurnFollows end x.state did.events did.pending
-whole_follows end x did told (t, is, told_is) =
+whole_follows end x did reported (t, is, reported_is) =
     all_recorded end x.state _ did.events did.pending (same_events is) (same_pending is) (three_follow end x t)
 
-turn_follows : (end : TurnEnd) (x : Scene) (did : Effects) (told : List Notice) → IsTurn end x did told
+turn_follows : (end : TurnEnd) (x : Scene) (did : Effects) (reported : List Notice) → IsTurn end x did reported
     → TurnFollows end x.state did.events did.pending
-turn_follows turn_end.Closed x did told bad = absurd bad
-turn_follows turn_end.BookFull x did told (is, none) =
+turn_follows turn_end.Closed x did reported bad = absurd bad
+turn_follows turn_end.BookFull x did reported (is, none) =
     all_recorded turn_end.BookFull x.state [] did.events did.pending (same_events is) (same_pending is) (λ fine. tt)
-turn_follows turn_end.Done x did told does = whole_follows turn_end.Done x did told does
-turn_follows turn_end.RunsSpent x did told does = whole_follows turn_end.RunsSpent x did told does
-turn_follows turn_end.Full x did told does = whole_follows turn_end.Full x did told does
-turn_follows turn_end.Memory x did told does = whole_follows turn_end.Memory x did told does
-turn_follows turn_end.Disk x did told (inl (ps, polled, is, told_is)) =
+turn_follows turn_end.Done x did reported does = whole_follows turn_end.Done x did reported does
+turn_follows turn_end.RunsSpent x did reported does = whole_follows turn_end.RunsSpent x did reported does
+turn_follows turn_end.Full x did reported does = whole_follows turn_end.Full x did reported does
+turn_follows turn_end.Memory x did reported does = whole_follows turn_end.Memory x did reported does
+turn_follows turn_end.Disk x did reported (inl (ps, polled, is, reported_is)) =
     some_pending x.state [] (results x.at ps) did.events did.pending (same_events is) (same_pending is)
     (λ fine. results_follow x.at x.state ps polled.each fine)
-turn_follows turn_end.Disk x did told (inr (inl (ps, end, bs, polled, picked, is, told_is))) =
+turn_follows turn_end.Disk x did reported (inr (inl (ps, end, bs, polled, picked, is, reported_is))) =
     some_pending x.state (results x.at ps) (begins x.at bs) did.events did.pending (same_events is) (same_pending is)
     (two_follow end x ps bs polled picked)
-turn_follows turn_end.Disk x did told (inr (inr (end, t, is, told_is))) =
+turn_follows turn_end.Disk x did reported (inr (inr (end, t, is, reported_is))) =
     some_pending x.state (results x.at t.polled ++ begins x.at t.begun) (refusals x.at t.started) did.events did.pending (same_events is)
     (same_pending is) (three_follow end x t)
 
 -- those of a turn that begins nothing
-finish_follows : (end : TurnEnd) (x : Scene) (did : Effects) (told : List Notice) → IsFinish end x did told
+finish_follows : (end : TurnEnd) (x : Scene) (did : Effects) (reported : List Notice) → IsFinish end x did reported
     → TurnFollows end x.state did.events did.pending
-finish_follows turn_end.Done x did told (ps, polled, is, told_is) =
+finish_follows turn_end.Done x did reported (ps, polled, is, reported_is) =
     all_recorded turn_end.Done x.state (results x.at ps) did.events did.pending (same_events is) (same_pending is)
     (λ fine. results_follow x.at x.state ps polled.each fine)
-finish_follows turn_end.BookFull x did told (is, none) =
+finish_follows turn_end.BookFull x did reported (is, none) =
     all_recorded turn_end.BookFull x.state [] did.events did.pending (same_events is) (same_pending is) (λ fine. tt)
-finish_follows turn_end.Disk x did told (ps, polled, is, told_is) =
+finish_follows turn_end.Disk x did reported (ps, polled, is, reported_is) =
     some_pending x.state [] (results x.at ps) did.events did.pending (same_events is) (same_pending is)
     (λ fine. results_follow x.at x.state ps polled.each fine)
-finish_follows _ x did told bad = absurd bad
+finish_follows _ x did reported bad = absurd bad
 
 -- The events of calls, from one machine to another: they apply, and they lead to its state where it is open.
 pub record Went (m n : Machine) (did : Effects) : Type 0 where
@@ -222,9 +222,9 @@ goes_on m n es did opened crash follow = went_on m n es did opened (ap (λ (k : 
 
 takes_all : (l : Label) (m n : Machine) (now : ℕ) (cs : List Command) (rs : List Reply) (did : Effects) → m.is_open ≡ true → TakesAll l now cs rs m n did
     → Went m n did
-takes_all l m n now cs rs did opened (meant, es, answered, inl (told, crash)) =
+takes_all l m n now cs rs did opened (meant, es, answered, inl (reported, crash)) =
     goes_on m n es did opened crash (λ fine. answered_follow m.state now cs meant es fine.low answered)
-takes_all l m n now cs rs did opened (meant, es, answered, inr (some, told, fails)) =
+takes_all l m n now cs rs did opened (meant, es, answered, inr (some, reported, fails)) =
     went_wrong m n [] es did opened fails.1.0 fails.1.1 (λ fine. answered_follow m.state now cs meant es fine.low answered)
 
 -- a turn of a kind whose events apply
@@ -352,6 +352,6 @@ in_order start xs zs lawful runs =
     let follow = runs_apply start xs zs lawful runs in record {
       runs = runs_ascend start zs follow;
       ends = ends_between start zs follow;
-      told = interrupted_once start zs lawful follow;
+      reported = interrupted_once start zs lawful follow;
       calls = λ id. begin_in_order start zs id follow;
     }

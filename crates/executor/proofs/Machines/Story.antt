@@ -19,7 +19,7 @@ use Rattle.exec_ledger.specs.Pieces.{Effects, HasBegin, no_effects}
 use Rattle.exec_ledger.specs.Replies.{acknowledged}
 use Rattle.exec_ledger.specs.Scenes.{scene}
 use Rattle.exec_turn.specs.Picks.{begins as begins_at}
-use Rattle.exec_turn.specs.Turn.{Told}
+use Rattle.exec_turn.specs.Turn.{TurnReport}
 use Rattle.executor.specs.Lives.{Took}
 use Rattle.executor.specs.Machine.{Label, Machine, MovesWhile, after_events}
 use Rattle.executor.specs.Interruptions.{interrupted}
@@ -91,8 +91,8 @@ module _ (p : Place) (fits : IsTooLong p.tail (begins_at 10 (begun ∷ [])) → 
     λ bad. absurd (cc),
   )
 
-  abbrev told : Told turn_end.Done (scene with_action.state with_action.due p 10 false)
-  told = record {
+  abbrev reported : TurnReport turn_end.Done (scene with_action.state with_action.due p 10 false)
+  reported = record {
     polled = [];
     begun = begun ∷ [];
     started = record { what = begun; answer = Ok tt } ∷ [];
@@ -108,7 +108,7 @@ module _ (p : Place) (fits : IsTooLong p.tail (begins_at 10 (begun ∷ [])) → 
       turn_end.Done,
       refl,
       record {
-        turns = (told, refl, refl);
+        turns = (reported, refl, refl);
         answers = refl;
         goes_on = refl;
         full = ((λ is. absurd (cc)), (λ less. let l : 256 < 3 = less in absurd (omega (arith, l))));

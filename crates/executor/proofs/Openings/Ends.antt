@@ -24,7 +24,7 @@ use Rattle.exec_journal.specs.declared.fault.JournalFault.TheVariants as journal
 use Rattle.executor.specs.declared.opening.OpenError.{OpenError}
 use Rattle.executor.specs.declared.opening.OpenError.TheVariants as why
 use Rattle.exec_ledger.specs.Boots.{Boots, BootsFrom, LacksBoot, booted}
-use Rattle.executor.specs.Openings.{IsQuiet, LacksReserve, NotOpened, Opened, OpensDisk, StartsLike, told_fault, told_slot, IsForeign, IsOver, IsOwn, IsUnready}
+use Rattle.executor.specs.Openings.{IsQuiet, LacksReserve, NotOpened, Opened, OpensDisk, StartsLike, reported_fault, reported_slot, IsForeign, IsOver, IsOwn, IsUnready}
 use Rattle.executor.specs.Interruptions.{dropped, interrupted}
 use Rattle.exec_ledger.specs.LedgerView.{LedgerView}
 use Rattle.executor.specs.ExecutorView.{ExecutorView, due_in, ledger_of}
@@ -51,7 +51,7 @@ read_only old new now crash reserved unwritten =
 
 module _ (old new : View) (from : ChildrenView) (now : ℕ) where
   -- the journal was not opened
-  pub journal_refused : (fault : JournalFault) → FailsToOpen fault old new → NotOpened old new from from now (told_fault fault)
+  pub journal_refused : (fault : JournalFault) → FailsToOpen fault old new → NotOpened old new from from now (reported_fault fault)
   journal_refused fault fails = record {
     did = read_only old new now fails.opens.crash fails.opens.reserved fails.opens.unwritten;
     children = inl refl;
@@ -70,22 +70,22 @@ module _ (old new : View) (from : ChildrenView) (now : ℕ) where
     unwritten = λ _. fails.opens.unwritten;
   }
     where
-      as_damaged : (f : JournalFault) (d : Damage) → told_fault f ≡ why.Damaged d → f ≡ journal.Damaged d
+      as_damaged : (f : JournalFault) (d : Damage) → reported_fault f ≡ why.Damaged d → f ≡ journal.Damaged d
       as_damaged journal.Disk d is = absurd cc
       as_damaged (journal.Damaged x) d is = let same : x ≡ d = cc in ap journal.Damaged same
       as_damaged journal.Memory d is = absurd cc
 
-      as_disk : (f : JournalFault) → told_fault f ≡ why.Disk → f ≡ journal.Disk
+      as_disk : (f : JournalFault) → reported_fault f ≡ why.Disk → f ≡ journal.Disk
       as_disk journal.Disk is = refl
       as_disk (journal.Damaged x) is = absurd cc
       as_disk journal.Memory is = absurd cc
 
-      never_foreign : (f : JournalFault) → told_fault f ≡ why.Foreign → ⊥
+      never_foreign : (f : JournalFault) → reported_fault f ≡ why.Foreign → ⊥
       never_foreign journal.Disk is = cc
       never_foreign (journal.Damaged x) is = cc
       never_foreign journal.Memory is = cc
 
-      never_full : (f : JournalFault) → told_fault f ≡ why.Full → ⊥
+      never_full : (f : JournalFault) → reported_fault f ≡ why.Full → ⊥
       never_full journal.Disk is = cc
       never_full (journal.Damaged x) is = cc
       never_full journal.Memory is = cc
@@ -221,11 +221,11 @@ module _ {D : Type 0} (look : D → View) (law : WhatStands) (once : (c : Image)
 
     pub opened : (x : Unit) (final : ExecutorView D) (ran queued : List Notice) → Boots look now (ledger_of mid) new (Ok x) → final.is_open ≡ true
         → final.state ≡ new.state → final.disk ≡ new.disk → final.place ≡ new.place
-        → due_in final ≡ due_at final.state (moment mid.state now) → final.children ≡ mid.children → final.told ≡ mid.told
-        → final.reported ≡ record { interrupted = ran; dropped = queued }
+        → due_in final ≡ due_at final.state (moment mid.state now) → final.children ≡ mid.children → final.reported ≡ mid.reported
+        → final.opening_report ≡ record { interrupted = ran; dropped = queued }
         → ran ≡ interrupted mid.state (moment mid.state now) → queued ≡ dropped mid.state (moment mid.state now)
         → Admits from.site final.site → Opened look old from now final ran queued
-    opened x final ran queued boots is_open state disk place due kids tells remembers ran_is queued_is admits =
+    opened x final ran queued boots is_open state disk place due kids sends remembers ran_is queued_is admits =
         let honest_new : (look final.disk).honest → (look new.disk).honest = λ h. subst (λ (d : D). (look d).honest) disk h in
         let done : final.state ≡ booted mid.state now = state ∙ boots.state in
         let quiet_now : any_busy final.state ≡ false = ap any_busy done ∙ boot_quiet mid.state (moment mid.state now) in
@@ -233,7 +233,7 @@ module _ {D : Type 0} (look : D → View) (law : WhatStands) (once : (c : Image)
         let next = ap (λ (u : State). u.next_run) done ∙ boot_next mid.state (moment mid.state now) in
         let low = over.rising in
         let rising : from.last_run < final.state.next_run = omega (arith, next, low) in record {
-          over = record { is_open = is_open; children = given; told = tells ∙ over.told; rising = rising };
+          over = record { is_open = is_open; children = given; reported = sends ∙ over.reported; rising = rising };
           sound = λ _. record {
             journal =
                 λ h. subst (λ p. IsSettled p final.state (look final.disk)) (sym place)
@@ -251,7 +251,7 @@ module _ {D : Type 0} (look : D → View) (law : WhatStands) (once : (c : Image)
             ran = ran_is;
             queued = queued_is;
           };
-          reported = remembers;
+          opening_report = remembers;
           did = subst (λ (d : D). OpensDisk old (look d) now) (sym disk) (did_both boots.crash boots.reserved boots.quiet);
           fits = λ h lacks. let bad = boots.full.1 (lacks_boot (boots.crash.passed.honest (honest_new h)) lacks) in let none : ⊥ = cc in
               none;
@@ -259,8 +259,8 @@ module _ {D : Type 0} (look : D → View) (law : WhatStands) (once : (c : Image)
 
     -- the boot failed
     pub boot_refused : (fault : SlotFault) (d : D) (to : ChildrenView) → Boots look now (ledger_of mid) new (Err fault) → d ≡ new.disk
-        → to ≡ mid.children → NotOpened old (look d) from to now (told_slot fault)
-    boot_refused fault d to boots same kids = subst (λ (x : D). NotOpened old (look x) from to now (told_slot fault)) (sym same) (record {
+        → to ≡ mid.children → NotOpened old (look d) from to now (reported_slot fault)
+    boot_refused fault d to boots same kids = subst (λ (x : D). NotOpened old (look x) from to now (reported_slot fault)) (sym same) (record {
       did = did_both boots.crash boots.reserved boots.quiet;
       children = inr (kids ∙ over.children);
       full_given_up = λ is. kids ∙ over.children;
@@ -293,32 +293,32 @@ module _ {D : Type 0} (look : D → View) (law : WhatStands) (once : (c : Image)
         own : (look new.disk).honest → IsForeign old.reads from → ⊥
         own h = own_children once old.reads mid.state from (opens.found (boots.crash.passed.honest h)) over.rising
 
-        no_damage : (f : SlotFault) (x : Damage) → told_slot f ≡ why.Damaged x → ⊥
+        no_damage : (f : SlotFault) (x : Damage) → reported_slot f ≡ why.Damaged x → ⊥
         no_damage slot.Disk x is = cc
         no_damage slot.Full x is = cc
 
-        as_disk : (f : SlotFault) → told_slot f ≡ why.Disk → f ≡ slot.Disk
+        as_disk : (f : SlotFault) → reported_slot f ≡ why.Disk → f ≡ slot.Disk
         as_disk slot.Disk is = refl
         as_disk slot.Full is = absurd cc
 
-        as_full : (f : SlotFault) → told_slot f ≡ why.Full → f ≡ slot.Full
+        as_full : (f : SlotFault) → reported_slot f ≡ why.Full → f ≡ slot.Full
         as_full slot.Disk is = absurd cc
         as_full slot.Full is = refl
 
-        no_foreign : (f : SlotFault) → told_slot f ≡ why.Foreign → ⊥
+        no_foreign : (f : SlotFault) → reported_slot f ≡ why.Foreign → ⊥
         no_foreign slot.Disk is = cc
         no_foreign slot.Full is = cc
 
-        else_full : (f : SlotFault) → (told_slot f ≡ why.Disk → ⊥) → f ≡ slot.Full
+        else_full : (f : SlotFault) → (reported_slot f ≡ why.Disk → ⊥) → f ≡ slot.Full
         else_full slot.Disk not = absurd (not refl)
         else_full slot.Full not = refl
 
 -- where an opening was refused for memory the journal's opening was, and not the boot
-pub told_memory : (f : JournalFault) → told_fault f ≡ why.Memory → f ≡ journal.Memory
-told_memory journal.Disk is = absurd cc
-told_memory (journal.Damaged d) is = absurd cc
-told_memory journal.Memory is = refl
+pub reported_memory : (f : JournalFault) → reported_fault f ≡ why.Memory → f ≡ journal.Memory
+reported_memory journal.Disk is = absurd cc
+reported_memory (journal.Damaged d) is = absurd cc
+reported_memory journal.Memory is = refl
 
-pub never_memory : (f : SlotFault) → told_slot f ≡ why.Memory → ⊥
+pub never_memory : (f : SlotFault) → reported_slot f ≡ why.Memory → ⊥
 never_memory slot.Disk is = cc
 never_memory slot.Full is = cc

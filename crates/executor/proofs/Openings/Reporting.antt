@@ -18,12 +18,12 @@ entry_there s i lt =
     sym (get_or_from_slice_get s.resources i (entry_at s i) (entry_at s i) (slice_get-get_or s.resources i no_entry lt))
 
 -- the notices of one more resource
-pub told_more : (tells : List ℕ × Resource → List Notice) (s : State) (i : ℕ) (out new : List Notice) → i < length s.resources
-    → out ≡ flat_map tells (take i s.resources) → new ≡ out ++ tells (entry_at s i)
-    → new ≡ flat_map tells (take (i + 1) s.resources)
-told_more tells s i out new lt so_far pushed =
-    pushed ∙ ap (λ (t : List Notice). t ++ tells (entry_at s i)) so_far
-    ∙ sym (flat_more tells s.resources i (entry_at s i) lt (entry_there s i lt))
+pub reported_more : (sends : List ℕ × Resource → List Notice) (s : State) (i : ℕ) (out new : List Notice) → i < length s.resources
+    → out ≡ flat_map sends (take i s.resources) → new ≡ out ++ sends (entry_at s i)
+    → new ≡ flat_map sends (take (i + 1) s.resources)
+reported_more sends s i out new lt so_far pushed =
+    pushed ∙ ap (λ (t : List Notice). t ++ sends (entry_at s i)) so_far
+    ∙ sym (flat_more sends s.resources i (entry_at s i) lt (entry_there s i lt))
 
 -- the notice of one more action
 pub drop_more : (id : List ℕ) (at i : ℕ) (queue : List Op) (o : Op) (old out new : List Notice) (n : Notice) → slice_get queue i ≡ Some o

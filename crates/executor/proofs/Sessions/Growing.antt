@@ -62,7 +62,7 @@ leads_start look law x lawful keeps = record {
   book = sym (append-nil x.children.book);
   log = sym (append-nil x.children.log);
   site = refl;
-  reported = refl;
+  opening_report = refl;
   due = refl;
   whole = λ is_open. refl;
 }
@@ -97,7 +97,7 @@ leads_still look w x a lawful is_open so_far = record {
   book = sym (append-nil x.children.book);
   log = sym (append-nil x.children.log);
   site = refl;
-  reported = refl;
+  opening_report = refl;
   due = refl;
   whole = λ is_open. refl;
 }
@@ -115,7 +115,7 @@ leads_command look x y (Ok e) reply still records beside closes = record {
   book = ap (λ (c : ChildrenView). c.book) beside.children ∙ sym (append-nil x.children.book);
   log = ap (λ (c : ChildrenView). c.log) beside.children ∙ sym (append-nil x.children.log);
   site = beside.site;
-  reported = beside.reported;
+  opening_report = beside.opening_report;
   due = records.due;
   whole = λ is_open. no_pending e reply (λ disk. absurd (true≢false (sym is_open ∙ closes.1 disk)));
 }
@@ -137,7 +137,7 @@ leads_turn look now x y end takes = record {
   book = takes.turns.book;
   log = takes.turns.log;
   site = takes.site;
-  reported = takes.reported;
+  opening_report = takes.opening_report;
   due = takes.turns.due_is;
   whole = λ is_open. takes.turns.whole (λ disk. absurd (true≢false (sym is_open ∙ takes.closes.1 disk)));
 }
@@ -179,7 +179,7 @@ leads_joined look x y z a b is_open one two =
       book = two.book ∙ ap (λ (es : List Entry). es ++ b.entries) one.book ∙ append_assoc x.children.book a.entries b.entries;
       log = two.log ∙ ap (λ (es : List Entry). es ++ b.entries) one.log ∙ append_assoc x.children.log a.entries b.entries;
       site = two.site ∙ one.site;
-      reported = two.reported ∙ one.reported;
+      opening_report = two.opening_report ∙ one.opening_report;
       due =
           two.due ∙ ap (λ (s : State). due_after_all s (due_in y) b.events) one.crash.state
           ∙ ap (λ (d : Due). due_after_all (after_all x.state a.events) d b.events) one.due

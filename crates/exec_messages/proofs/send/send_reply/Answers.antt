@@ -3,8 +3,8 @@ use Rattle.exec_messages.proofs.send.send_reply.Goals as goal
 
 pub returns-clause-prefix : goal.returns-clause-prefix
 returns-clause-prefix g c =
-    prefix_made (λ v. v.items) c.write_told_reply.result c.send_line.result _ _ _ c.write_told_reply.ensures.line c.send_line.ensures.prefix
+    prefix_made (λ v. v.items) c.write_sent_reply.result c.send_line.result _ _ _ c.write_sent_reply.ensures.line c.send_line.ensures.prefix
     c.send_line.ensures.unwritten
 
 pub returns-clause-memory : goal.returns-clause-memory
-returns-clause-memory g c = memory_of c.write_told_reply.result c.send_line.result _ c.send_line.ensures.only c.write_told_reply.ensures.memory
+returns-clause-memory g c = memory_of c.write_sent_reply.result c.send_line.result _ c.send_line.ensures.only c.write_sent_reply.ensures.memory

@@ -67,14 +67,14 @@ returns-in-Ok-open-clause-runs g c = inl (record {
       (rules_of c.context_of-context.result) c.in-Ok-open.report c.in-Ok-open.executor c.new-edge.result _ c.run_lines-run.result.edge
       c.run_lines-run.result.ended c.run_lines-run.result.disk c.run_lines-run.result.children c.context_of-context.ensures.metadata
       (edge_begins c.new-edge.result (g.H.Reader.Read.remaining c.in-Ok.reader) c.new-client.result.client.opened.value c.in-Ok-open.executor
-      c.new-client.result.client.telling.said (g.H.Writer.Write.contents c.new-client.result.client.writer) (g.H.Writer.Write.contents c.writer.result)
+      c.new-client.result.client.sent_log.items (g.H.Writer.Write.contents c.new-client.result.client.writer) (g.H.Writer.Write.contents c.writer.result)
       c.new-edge.ensures
-      (ap (λ t. t.opened.value) c.new-client.ensures.client ∙ c.new-teller.ensures.opened)
-      (ap (λ t. t.telling.said) c.new-client.ensures.client ∙ c.new-teller.ensures.told)
-      (ap (λ t. g.H.Writer.Write.contents t.writer) c.new-client.ensures.client ∙ ap g.H.Writer.Write.contents c.new-teller.ensures.writer))
+      (ap (λ t. t.opened.value) c.new-client.ensures.client ∙ c.new-json_client.ensures.opened)
+      (ap (λ t. t.sent_log.items) c.new-client.ensures.client ∙ c.new-json_client.ensures.reported)
+      (ap (λ t. g.H.Writer.Write.contents t.writer) c.new-client.ensures.client ∙ ap g.H.Writer.Write.contents c.new-json_client.ensures.writer))
       c.run_lines-run.ensures.ends;
   ends = subst (λ (r : Result Unit Fault). EndsBy (g.H.Host.asked c.args.host.now) c.args.options c.watch-watch.result r c.ended_over-ended.result)
-      c.told-ended.ensures c.ended_over-ended.ensures.ends;
+      c.reported-ended.ensures c.ended_over-ended.ensures.ends;
 })
 
 pub returns-in-Err-clause-runs : goal.returns-in-Err-clause-runs
@@ -88,5 +88,5 @@ returns-in-Err-clause-runs g c = inr (inl (record {
   why = c.in-Err.fault.why;
   stands = record { logs = search rules; fresh = search rules; waited = c.in_ok-disk.ensures.waits; shown = c.moment.ensures };
   refused = search rules;
-  ends = c.told.ensures ∙ ap Err c.opening_fault.ensures;
+  ends = c.reported.ensures ∙ ap Err c.opening_fault.ensures;
 }))

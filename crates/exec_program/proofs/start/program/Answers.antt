@@ -40,4 +40,4 @@ pub returns-in-Err-clause-ends : goal.returns-in-Err-clause-ends
 returns-in-Err-clause-ends g c =
     starts_nothing (option_map (λ s. s.now) c.args.named) (map string_bytes c.args.words.now)
     c.in-Err.fault c.refuse.result c.with_status-in-Err.result
-    c.in-Err.ensures.fault c.refuse.ensures.told c.with_status-in-Err.ensures
+    c.in-Err.ensures.fault c.refuse.ensures.reported c.with_status-in-Err.ensures

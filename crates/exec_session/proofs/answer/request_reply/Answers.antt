@@ -1,7 +1,7 @@
 use Rattle.std.proofs.Common.{[], refl, sym}
 use Rattle.exec_client.specs.Behind.{nothing}
 use Rattle.exec_client.proofs.Growing.{none_stands}
-use Rattle.exec_session.proofs.TellLemmas.{one_more, request_says, request_stands}
+use Rattle.exec_session.proofs.SendLemmas.{one_more, request_states, request_stands}
 use Rattle.exec_session.proofs.answer.request_reply.Goals as goal
 
 pub returns-then-not-is_open-clause-stands : goal.returns-then-not-is_open-clause-stands
@@ -18,5 +18,5 @@ returns-clause-stands g c =
 
 pub returns-clause-says : goal.returns-clause-says
 returns-clause-says g c =
-    request_says g.D.Disk.view c.args.now c.args.request c.args.executor.now c.command.new.self c.command.result
+    request_states g.D.Disk.view c.args.now c.args.request c.args.executor.now c.command.new.self c.command.result
     (sym c.if-not-is_open.ensures.value) c.command.ensures.serves

@@ -2,7 +2,7 @@ use Rattle.std.proofs.Common.{length, refl, []}
 use Rattle.exec_client.specs.Behind.{nothing}
 use Rattle.exec_client.proofs.Growing.{none_stands}
 use Rattle.exec_session.specs.Gathered.{replied, waiting}
-use Rattle.exec_session.proofs.TellLemmas.{refused_say, refused_stand, together_say, together_stand}
+use Rattle.exec_session.proofs.SendLemmas.{refused_states, refused_stand, together_states, together_stand}
 use Rattle.exec_session.proofs.answer.serve_gathered.Goals as goal
 
 pub returns-then-is_open-clause-stands : goal.returns-then-is_open-clause-stands
@@ -13,7 +13,7 @@ returns-then-is_open-clause-stands g c =
 
 pub returns-then-is_open-clause-says : goal.returns-then-is_open-clause-says
 returns-then-is_open-clause-says g c =
-    together_say g.D.Disk.view c.args.now (waiting c.args.gathered.now) c.args.executor.now c.take_all.new.executor
+    together_states g.D.Disk.view c.args.now (waiting c.args.gathered.now) c.args.executor.now c.take_all.new.executor
     (replied c.take_all.new.self) c.take_all.ensures.takes
 
 pub returns-else-is_open-clause-stands : goal.returns-else-is_open-clause-stands
@@ -24,5 +24,5 @@ returns-else-is_open-clause-stands g c =
 
 pub returns-else-is_open-clause-says : goal.returns-else-is_open-clause-says
 returns-else-is_open-clause-says g c =
-    refused_say g.D.Disk.view c.args.executor.now (length (waiting c.args.gathered.now)) (replied c.refuse_all.new.self)
+    refused_states g.D.Disk.view c.args.executor.now (length (waiting c.args.gathered.now)) (replied c.refuse_all.new.self)
     c.refuse_all.ensures.replies

@@ -1,7 +1,7 @@
 use Rattle.std.proofs.Common.{ap, subst, sym, ◌∙◌}
 use Rattle.executor.specs.ExecutorView.{ExecutorView}
 use Rattle.exec_client.proofs.Growing.{abandoned_stands, all_still_stand}
-use Rattle.exec_client.specs.MayTell.{StandsBehind}
+use Rattle.exec_client.specs.MaySend.{StandsBehind}
 use Rattle.exec_session.specs.Rules.{rules_of}
 use Rattle.exec_session.specs.Spots.{Position}
 use Rattle.exec_session.proofs.BreakLemmas.{ends_from}
@@ -13,7 +13,7 @@ answer_lines-ended-requires g c =
       clear = c.new-session.ensures.clear;
       none = c.new-session.ensures.none;
       «open» = ap (λ (w : Position _). w.at.executor.is_open) place ∙ c.requires.fresh.2;
-      reported = ap (λ (w : Position _). w.at.executor.reported) place ∙ c.requires.reported;
+      opening_report = ap (λ (w : Position _). w.at.executor.opening_report) place ∙ c.requires.opening_report;
     }
 
 pub returns-clause-ends : goal.returns-clause-ends
@@ -30,8 +30,8 @@ returns-clause-ends g c =
       children_are = c.close-disk.ensures.children ∙ ap (λ (x : ExecutorView g.row.D.Denot). x.children) c.abandon.ensures.abandoned;
     }
 
-pub returns-clause-told : goal.returns-clause-told
-returns-clause-told g c =
+pub returns-clause-reported : goal.returns-clause-reported
+returns-clause-reported g c =
     let look = g.D.Disk.view in
     let (edge, executor) = c.into_parts-edge.result in
     let last = c.abandon.new.self in
@@ -41,7 +41,7 @@ returns-clause-told g c =
     ∙ ap (λ (w : Position _). w.at.client_view.opened) c.new-session.ensures.place ∙ c.requires.fresh.0 in
     record {
       last = last;
-      stands = subst (λ (o : ExecutorView g.row.D.Denot). StandsBehind look o last edge.client_view.told) opened stands;
+      stands = subst (λ (o : ExecutorView g.row.D.Denot). StandsBehind look o last edge.client_view.reported) opened stands;
       is_closed = ap (λ (x : ExecutorView g.row.D.Denot). x.is_open) c.abandon.ensures.abandoned;
       disk_is = c.close-disk.ensures.disk;
       children_are = c.close-disk.ensures.children;

@@ -31,7 +31,7 @@ returns-clause-polled g c =
     let end = c.in-Some-ask.end in
     let who : Active = record { id = e.0; running = c.in-Some.running } in
     let batch_id : c.copied-id.result ≡ e.0 = ◌∙◌ {c = e.0} c.copied-id.ensures c.id_at.ensures in
-    let told_id : c.copied-id-2.result ≡ e.0 = ◌∙◌ {c = e.0} c.copied-id-2.ensures c.id_at-2.ensures in
+    let reported_id : c.copied-id-2.result ≡ e.0 = ◌∙◌ {c = e.0} c.copied-id-2.ensures c.id_at-2.ensures in
     let one = polled_one c.args.at e.0 c.in-Some.running e.1.history.running h.0 h.1 (g.C.Children.view c.args.children.now)
     (g.C.Children.view c.ask.new.children) (Some end)
     (sym c.running_at.ensures ∙ c.in-Some.is) h.2 h.3 h.4 in (
@@ -42,6 +42,6 @@ returns-clause-polled g c =
           ≡ c.args.batch.now.items ++ result_of c.args.at (record { id = id; running = c.in-Some.running }) end ∷ [])
           batch_id c.push_reserved.ensures.items,
       subst (λ (n : Notice). c.push_reserved-2.new.self.items ≡ c.args.notices.now.items ++ n ∷ [])
-          (c.run_notice-notice.ensures ∙ ap (λ (id : List ℕ). run_notice id (Run end) c.args.at c.in-Some.running) told_id)
+          (c.run_notice-notice.ensures ∙ ap (λ (id : List ℕ). run_notice id (Run end) c.args.at c.in-Some.running) reported_id)
           c.push_reserved-2.ensures.items,
     )

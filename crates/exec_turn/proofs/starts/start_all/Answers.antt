@@ -17,7 +17,7 @@ pub loop-start-init : goal.loop-start-init
 loop-start-init g c = record {
   started = (
     [],
-    record { answers = []; each = refl; children = refl; batch_is = c.clear.ensures.items; told_is = refl },
+    record { answers = []; each = refl; children = refl; batch_is = c.clear.ensures.items; reported_is = refl },
     sym (append-nil c.args.notices.now.items),
   );
   rising = c.requires.rising;
@@ -51,7 +51,7 @@ loop-start-preserved g c =
     let a = what_starts x in
     let old = view c.loop-start.children in
     let new = view c.start_one.new.children in
-    let told = inv.started.0 in
+    let reported = inv.started.0 in
     let started = c.start_one.ensures.started in
     let answer = started.0 in
     let taken : all_starting (take (i + 1) all) ≡ all_starting (take i all) ++ a ∷ [] =
@@ -64,14 +64,14 @@ loop-start-preserved g c =
     let last : new.last_run ≡ x.running.run = ap (λ (v : ChildrenView). v.last_run) started.1 in
     record {
       started = (
-        told ++ map (notice_of c.args.at a) (refused_end answer),
+        reported ++ map (notice_of c.args.at a) (refused_end answer),
         subst (λ (l : List Active). Starts c.args.at clock l (view c.args.children.now) new c.start_one.new.batch.items
-            (told ++ map (notice_of c.args.at a) (refused_end answer))) (sym taken)
+            (reported ++ map (notice_of c.args.at a) (refused_end answer))) (sym taken)
             (starts_more c.args.at clock (all_starting (take i all)) a
-            (view c.args.children.now) old new c.loop-start.batch.items c.start_one.new.batch.items told _ answer inv.started.1 started.1
+            (view c.args.children.now) old new c.loop-start.batch.items c.start_one.new.batch.items reported _ answer inv.started.1 started.1
             started.2 refl),
         started.3 ∙ ap (λ (l : List Notice). l ++ map (notice_of c.args.at a) (refused_end answer)) inv.started.2
-            ∙ append_assoc c.args.notices.now.items told (map (notice_of c.args.at a) (refused_end answer)),
+            ∙ append_assoc c.args.notices.now.items reported (map (notice_of c.args.at a) (refused_end answer)),
       );
       rising = subst (λ k. Rising k (all_starting (drop (i + 1) all))) (sym last) rises.1;
       few = let live = ap (λ (v : ChildrenView). length v.live) started.1 in

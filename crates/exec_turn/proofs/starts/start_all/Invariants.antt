@@ -13,9 +13,9 @@ invariant-loop-start g l =
     let clock = (g.D.Disk.view (journal_disk l.journal)).clock in
     let i = l.start-index in
     record {
-      started : (told : List Notice)
-          × Starts l.at clock (all_starting (take i l.starts)) (view l.fn.children) (view l.children) l.batch.items told
-          × (l.notices.items ≡ l.fn.notices.items ++ told);
+      started : (reported : List Notice)
+          × Starts l.at clock (all_starting (take i l.starts)) (view l.fn.children) (view l.children) l.batch.items reported
+          × (l.notices.items ≡ l.fn.notices.items ++ reported);
       rising : Rising (view l.children).last_run (all_starting (drop i l.starts));
       few : length (view l.children).live + length l.starts ≤ live_limit + i;
       room : length l.starts ≤ (view l.children).room + i;

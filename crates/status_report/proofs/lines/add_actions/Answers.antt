@@ -3,8 +3,8 @@ use Rattle.std.specs.List.{flat_map}
 use Rattle.ocf_types.specs.Places.{at_place}
 use Rattle.ocf_types.specs.declared.action.Action.{Action}
 use Rattle.ocf_types.specs.declared.action.Action.TheVariants as action
-use Rattle.status_report.specs.Told.{action_line, told_actions}
-use Rattle.status_report.proofs.ToldLemmas.{line_first, lines_last}
+use Rattle.status_report.specs.Written.{action_line, written_actions}
+use Rattle.status_report.proofs.WrittenLemmas.{line_first, lines_last}
 use Rattle.status_report.proofs.lines.add_actions.Goals as goal
 
 pub returns-clause-text : goal.returns-clause-text
@@ -16,7 +16,7 @@ returns-clause-text c =
     let from_4 : List Action = action.Demote ∷ from_5 in
     let from_3 : List Action = action.Promote ∷ from_4 in
     let from_2 : List Action = action.Start ∷ from_3 in
-    lines_last c.add_action-7.result f action.ValidateAll (flat_map f told_actions) _ _ _
+    lines_last c.add_action-7.result f action.ValidateAll (flat_map f written_actions) _ _ _
     (line_first f action.ReloadAgent from_7 _ _ c.in_ok-add_action-6.ensures.text
     ∙ line_first f action.Stop from_6 _ _ c.in_ok-add_action-5.ensures.text
     ∙ line_first f action.Demote from_5 _ _ c.in_ok-add_action-4.ensures.text

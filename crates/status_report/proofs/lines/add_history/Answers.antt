@@ -2,8 +2,8 @@ use Rattle.std.proofs.Common.{◌≡◌, ◌++◌, refl}
 use Rattle.std.specs.Prelude.{codes}
 use Rattle.std.specs.List.{flat_map}
 use Rattle.ocf_types.specs.Places.{at_place}
-use Rattle.status_report.specs.Told.{history_text, past_line}
-use Rattle.status_report.proofs.ToldLemmas.{headed}
+use Rattle.status_report.specs.Written.{history_text, past_line}
+use Rattle.status_report.proofs.WrittenLemmas.{headed}
 use Rattle.status_report.proofs.lines.add_history.Goals as goal
 
 pub returns-in_ok-add-in-Some-clause-text : goal.returns-in_ok-add-in-Some-clause-text

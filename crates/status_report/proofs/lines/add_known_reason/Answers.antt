@@ -1,6 +1,6 @@
 use Rattle.std.proofs.Common.{codes, refl}
-use Rattle.status_report.specs.Told.{known_reason_line, set_in}
-use Rattle.status_report.proofs.ToldLemmas.{headed}
+use Rattle.status_report.specs.Written.{known_reason_line, set_in}
+use Rattle.status_report.proofs.WrittenLemmas.{headed}
 use Rattle.status_report.proofs.lines.add_known_reason.Goals as goal
 
 pub returns-clause-text : goal.returns-clause-text

@@ -1,6 +1,6 @@
 use Rattle.std.proofs.Common.{◌++◌, ap, ◌∙◌}
 use Rattle.ocf_types.specs.Places.{at_place}
-use Rattle.status_report.specs.Told.{monitor_line}
+use Rattle.status_report.specs.Written.{monitor_line}
 use Rattle.resource_status.proofs.ResultLemmas.{lines_more}
 use Rattle.status_report.proofs.lines.add_monitors.Goals as goal
 

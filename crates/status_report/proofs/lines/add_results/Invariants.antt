@@ -1,7 +1,7 @@
 use Rattle.std.proofs.Common.{◌≡◌, ◌++◌, take}
 use Rattle.std.specs.List.{flat_map}
 use Rattle.ocf_types.specs.Places.{at_place}
-use Rattle.status_report.specs.Told.{past_line}
+use Rattle.status_report.specs.Written.{past_line}
 use Rattle.status_report.proofs.lines.add_results.Given as goal
 
 abbrev pub invariant-loop-at : goal.invariant-loop-at

@@ -1,6 +1,6 @@
 use Rattle.std.proofs.Common.{sym, ◌∙◌}
 use Rattle.ocf_types.specs.Places.{at_place}
-use Rattle.status_report.specs.Told.{is_asked}
+use Rattle.status_report.specs.Written.{is_asked}
 use Rattle.resource_status.proofs.ResultLemmas.{last_no, last_yes}
 use Rattle.status_report.proofs.lines.last_asked.Goals as goal
 use Rattle.status_report.proofs.lines.last_asked.Goals.{then-is_asked, else-is_asked}

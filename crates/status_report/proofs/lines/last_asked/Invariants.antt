@@ -1,6 +1,6 @@
 use Rattle.std.proofs.Common.{◌≡◌, take}
 use Rattle.ocf_types.specs.Places.{at_place}
-use Rattle.status_report.specs.Told.{is_asked}
+use Rattle.status_report.specs.Written.{is_asked}
 use Rattle.resource_status.specs.Results.{last_of}
 use Rattle.status_report.proofs.lines.last_asked.Given as goal
 

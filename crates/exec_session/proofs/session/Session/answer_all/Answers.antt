@@ -5,7 +5,7 @@ use Rattle.exec_session.specs.Gathered.{waiting}
 use Rattle.exec_session.specs.Rules.{rules_of}
 use Rattle.exec_session.specs.Waiting.{GoesRound, midway}
 use Rattle.exec_session.specs.declared.lines.Taken.{Taken}
-use Rattle.exec_session.proofs.BreakLemmas.{ends_err, fault_told, left_so}
+use Rattle.exec_session.proofs.BreakLemmas.{ends_err, fault_sent, left_so}
 use Rattle.exec_session.proofs.LastLemmas.{lasts_both, lasts_same}
 use Rattle.exec_session.proofs.RoundLemmas.{first_round}
 use Rattle.exec_session.proofs.WaitLemmas.{bound_breaks}
@@ -36,18 +36,18 @@ returns-in-Closed-clause-ends g c =
     let rules = rules_of c.args.context.now in
     let p = c.args.self.now.desk.worker in
     let new = c.round.new.self in
-    fault_told look source rules p c.tell_end.new.self new.desk.worker.at new.desk.worker c.tell_end.result refl
+    fault_sent look source rules p c.send_end.new.self new.desk.worker.at new.desk.worker c.send_end.result refl
     (subst (λ (t : Taken). GoesRound {E = Failed} look source rules p new.pause.since new.own (midway new.desk.worker new.desk.pending) (Ok t)) c.in-Closed.is
     (c.in_ok-round.ensures.rounds.goes p c.loop-rounds.invariant.come))
-    c.tell_end.ensures.sends
+    c.send_end.ensures.sends
 
 pub returns-in-Closed-clause-lasts : goal.returns-in-Closed-clause-lasts
 returns-in-Closed-clause-lasts g c =
     let p = c.args.self.now.desk.worker.at in
     let it = c.loop-rounds.self.desk.worker.at in
     let new = c.round.new.self.desk.worker.at in
-    lasts_both p it c.tell_end.new.self.at c.loop-rounds.invariant.lasts
-    (lasts_both it new c.tell_end.new.self.at c.in_ok-round.ensures.rounds.lasts c.tell_end.ensures.sends.keeps.0)
+    lasts_both p it c.send_end.new.self.at c.loop-rounds.invariant.lasts
+    (lasts_both it new c.send_end.new.self.at c.in_ok-round.ensures.rounds.lasts c.send_end.ensures.sends.keeps.0)
 
 pub leave-requires : goal.leave-requires
 leave-requires g c =

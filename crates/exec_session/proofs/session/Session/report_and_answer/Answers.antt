@@ -11,68 +11,68 @@ use Rattle.exec_session.proofs.session.Session.report_and_answer.Goals as goal
 
 pub returns-clause-runs : goal.returns-clause-runs
 returns-clause-runs g c = record {
-  reported = c.tell_report.new.self.at;
-  report_first = c.in_ok-tell_report.ensures.told.done;
-  begun = c.tell_ready.new.self.at;
-  ready = c.in_ok-tell_ready.ensures.told.done;
+  opening_report = c.send_report.new.self.at;
+  report_first = c.in_ok-send_report.ensures.reported.done;
+  begun = c.send_ready.new.self.at;
+  ready = c.in_ok-send_ready.ensures.reported.done;
   lines =
       subst (λ (w : Position _). Finishes g.D.Disk.view (g.M.Metadata.gives c.args.context.now.metadata.now) (rules_of c.args.context.now)
       w c.answer_all.new.self.desk.worker)
-      (position_is c.tell_ready.new.self c.tell_ready.new.self.at c.args.self.now.desk.worker.left refl
-      (c.in_ok-tell_ready.ensures.told.keeps.1 ∙ c.in_ok-tell_report.ensures.told.keeps.1)) c.in_ok-answer_all.ensures.ends;
+      (position_is c.send_ready.new.self c.send_ready.new.self.at c.args.self.now.desk.worker.left refl
+      (c.in_ok-send_ready.ensures.reported.keeps.1 ∙ c.in_ok-send_report.ensures.reported.keeps.1)) c.in_ok-answer_all.ensures.ends;
 }
 
-pub returns-in_err-tell_report-clause-breaks : goal.returns-in_err-tell_report-clause-breaks
-returns-in_err-tell_report-clause-breaks g c =
-    on_err c.from_residual.result _ (in_report c.in_err-tell_report.ensures.told.breaks)
+pub returns-in_err-send_report-clause-breaks : goal.returns-in_err-send_report-clause-breaks
+returns-in_err-send_report-clause-breaks g c =
+    on_err c.from_residual.result _ (in_report c.in_err-send_report.ensures.reported.breaks)
 
-pub returns-in_err-tell_ready-clause-breaks : goal.returns-in_err-tell_ready-clause-breaks
-returns-in_err-tell_ready-clause-breaks g c =
-    on_err c.from_residual-in_err-tell_ready.result _
-    (in_ready c.tell_report.new.self.at c.in_ok-tell_report.ensures.told.done c.in_err-tell_ready.ensures.told.breaks)
+pub returns-in_err-send_ready-clause-breaks : goal.returns-in_err-send_ready-clause-breaks
+returns-in_err-send_ready-clause-breaks g c =
+    on_err c.from_residual-in_err-send_ready.result _
+    (in_ready c.send_report.new.self.at c.in_ok-send_report.ensures.reported.done c.in_err-send_ready.ensures.reported.breaks)
 
 pub returns-in_err-answer_all-clause-breaks : goal.returns-in_err-answer_all-clause-breaks
 returns-in_err-answer_all-clause-breaks g c =
     on_err c.from_residual-in_err-answer_all.result _
-    (behind_ready c.tell_report.new.self.at c.tell_ready.new.self.at c.in_ok-tell_report.ensures.told.done
-    c.in_ok-tell_ready.ensures.told.done
+    (behind_ready c.send_report.new.self.at c.send_ready.new.self.at c.in_ok-send_report.ensures.reported.done
+    c.in_ok-send_ready.ensures.reported.done
     (subst (λ (w : Position _). BreaksOff g.D.Disk.view (g.M.Metadata.gives c.args.context.now.metadata.now) (rules_of c.args.context.now)
     w c.answer_all.new.self.desk.worker.at)
-    (position_is c.tell_ready.new.self c.tell_ready.new.self.at c.args.self.now.desk.worker.left refl
-    (c.in_ok-tell_ready.ensures.told.keeps.1 ∙ c.in_ok-tell_report.ensures.told.keeps.1)) c.in_err-answer_all.ensures.ends))
+    (position_is c.send_ready.new.self c.send_ready.new.self.at c.args.self.now.desk.worker.left refl
+    (c.in_ok-send_ready.ensures.reported.keeps.1 ∙ c.in_ok-send_report.ensures.reported.keeps.1)) c.in_err-answer_all.ensures.ends))
 
-pub tell_ready-requires : goal.tell_ready-requires
-tell_ready-requires g c =
-    let (m, one, two) = c.in_ok-tell_report.ensures.told.done in
-    record { reported = ap (λ x. x.reported) (two.executor ∙ one.executor) ∙ c.requires.reported }
+pub send_ready-requires : goal.send_ready-requires
+send_ready-requires g c =
+    let (m, one, two) = c.in_ok-send_report.ensures.reported.done in
+    record { opening_report = ap (λ x. x.opening_report) (two.executor ∙ one.executor) ∙ c.requires.opening_report }
 
 pub answer_all-requires-clause-open : goal.answer_all-requires-clause-open
 answer_all-requires-clause-open g c =
-    let (m, one, two) = c.in_ok-tell_report.ensures.told.done in
-    let still = ready_still c.args.context.now.way c.args.context.now.form c.tell_report.new.self.at c.tell_ready.new.self.at
-    c.in_ok-tell_ready.ensures.told.done in
+    let (m, one, two) = c.in_ok-send_report.ensures.reported.done in
+    let still = ready_still c.args.context.now.way c.args.context.now.form c.send_report.new.self.at c.send_ready.new.self.at
+    c.in_ok-send_ready.ensures.reported.done in
     ap (λ x. x.is_open) (still ∙ two.executor ∙ one.executor) ∙ c.requires.«open»
 
 pub returns-clause-lasts : goal.returns-clause-lasts
 returns-clause-lasts g c =
     let old = c.args.self.now.desk.worker.at in
-    let reported = c.tell_report.new.self.at in
+    let opening_report = c.send_report.new.self.at in
     let new = c.answer_all.new.self.desk.worker.at in
-    lasts_both old reported new c.in_ok-tell_report.ensures.told.keeps.0
-    (lasts_both reported c.tell_ready.new.self.at new c.in_ok-tell_ready.ensures.told.keeps.0 c.in_ok-answer_all.ensures.lasts)
+    lasts_both old opening_report new c.in_ok-send_report.ensures.reported.keeps.0
+    (lasts_both opening_report c.send_ready.new.self.at new c.in_ok-send_ready.ensures.reported.keeps.0 c.in_ok-answer_all.ensures.lasts)
 
 pub returns-in_err-answer_all-clause-lasts : goal.returns-in_err-answer_all-clause-lasts
 returns-in_err-answer_all-clause-lasts g c =
     let old = c.args.self.now.desk.worker.at in
-    let reported = c.tell_report.new.self.at in
+    let opening_report = c.send_report.new.self.at in
     let new = c.answer_all.new.self.desk.worker.at in
-    lasts_both old reported new c.in_ok-tell_report.ensures.told.keeps.0
-    (lasts_both reported c.tell_ready.new.self.at new c.in_ok-tell_ready.ensures.told.keeps.0 c.in_err-answer_all.ensures.lasts)
+    lasts_both old opening_report new c.in_ok-send_report.ensures.reported.keeps.0
+    (lasts_both opening_report c.send_ready.new.self.at new c.in_ok-send_ready.ensures.reported.keeps.0 c.in_err-answer_all.ensures.lasts)
 
-pub returns-in_err-tell_ready-clause-lasts : goal.returns-in_err-tell_ready-clause-lasts
-returns-in_err-tell_ready-clause-lasts g c =
-    lasts_both c.args.self.now.desk.worker.at c.tell_report.new.self.at c.tell_ready.new.self.at
-    c.in_ok-tell_report.ensures.told.keeps.0 c.in_err-tell_ready.ensures.told.keeps.0
+pub returns-in_err-send_ready-clause-lasts : goal.returns-in_err-send_ready-clause-lasts
+returns-in_err-send_ready-clause-lasts g c =
+    lasts_both c.args.self.now.desk.worker.at c.send_report.new.self.at c.send_ready.new.self.at
+    c.in_ok-send_report.ensures.reported.keeps.0 c.in_err-send_ready.ensures.reported.keeps.0
 
-pub returns-in_err-tell_report-clause-lasts : goal.returns-in_err-tell_report-clause-lasts
-returns-in_err-tell_report-clause-lasts g c = c.in_err-tell_report.ensures.told.keeps.0
+pub returns-in_err-send_report-clause-lasts : goal.returns-in_err-send_report-clause-lasts
+returns-in_err-send_report-clause-lasts g c = c.in_err-send_report.ensures.reported.keeps.0

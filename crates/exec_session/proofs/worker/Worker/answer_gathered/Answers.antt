@@ -2,13 +2,13 @@ use Rattle.std.proofs.Common.{[], List, map, refl, sym, subst, ◌∙◌}
 use Rattle.std.specs.Prelude.{is_ok}
 use Rattle.std.specs.List.{AllByRecursion}
 use Rattle.ocf_types.specs.Kinds.{Reply}
-use Rattle.exec_client.specs.MayTell.{MayAnswer, StandsBehind}
-use Rattle.exec_client.specs.Said.{answered}
-use Rattle.exec_client.proofs.Growing.{both_stand, may_tell}
+use Rattle.exec_client.specs.MaySend.{MayAnswer, StandsBehind}
+use Rattle.exec_client.specs.SentItem.{answered}
+use Rattle.exec_client.proofs.Growing.{both_stand, may_send}
 use Rattle.exec_session.specs.Gathered.{waiting}
-use Rattle.exec_session.specs.Spots.{Tells, TellsPart, spot}
+use Rattle.exec_session.specs.Spots.{SendsAll, SendsPart, spot}
 use Rattle.exec_session.proofs.EventLemmas.{both_keep, err_map, ok_map, here_keeps, send_cause, send_keeps, sends, sends_part, was_noted}
-use Rattle.exec_session.proofs.TellLemmas.{after_told}
+use Rattle.exec_session.proofs.SendLemmas.{after_sent}
 use Rattle.exec_session.proofs.WorkerLemmas.{all_answered, none_answered, open_noted, batch_broken, some_waits, together_heard}
 use Rattle.exec_session.proofs.worker.Worker.answer_gathered.Goals as goal
 
@@ -19,15 +19,15 @@ make_room-requires g c = record {
       (c.requires.«open» (some_waits _ (sym c.is_empty.ensures ∙ c.if-is_empty.false)));
 }
 
-pub tell-requires : goal.tell-requires
-tell-requires g c =
+pub send-requires : goal.send-requires
+send-requires g c =
     let look = g.D.Disk.view in
     let x = c.self.inside.executor in
     let r = c.make_room.new.executor in
     let y = c.serve_gathered.new.executor in
     let is = sym c.replies.ensures in record {
-      may_tell =
-          may_tell look c.self.inside.edge.client_view x y _ c.self.invariant
+      may_send =
+          may_send look c.self.inside.edge.client_view x y _ c.self.invariant
           (subst (λ (rs : List Reply). StandsBehind look x y (map answered rs)) is
           (both_stand look x r y [] _ c.make_room.ensures.stands c.serve_gathered.ensures.stands))
           (subst (λ (rs : List Reply). AllByRecursion (MayAnswer y) rs) is c.serve_gathered.ensures.says);
@@ -39,30 +39,30 @@ invariant_of-self g c =
     let x = c.self.inside.executor in
     let r = c.make_room.new.executor in
     let y = c.serve_gathered.new.executor in
-    after_told look c.self.inside.edge.client_view c.tell.new.self.client_view x y _ c.self.invariant
+    after_sent look c.self.inside.edge.client_view c.send.new.self.client_view x y _ c.self.invariant
     (subst (λ (rs : List Reply). StandsBehind look x y (map answered rs)) (sym c.replies.ensures)
     (both_stand look x r y [] _ c.make_room.ensures.stands c.serve_gathered.ensures.stands))
-    c.tell.ensures.told
+    c.send.ensures.reported
 
 pub returns-clause-answers : goal.returns-clause-answers
 returns-clause-answers g c = record {
   keeps =
       let m = c.now-moment.new.self in
       both_keep c.args.self.now m _ (was_noted c.args.self.now m _ c.now-moment.ensures.noted)
-      (send_keeps c.args.context.now.form [] c.serve_gathered.new.executor c.self.inside.edge c.tell.new.self (is_ok c.tell.result) m
-      c.self.inside.executor c.self.view_is c.tell.ensures.told.0 c.tell.ensures.left c.tell.ensures.noted);
+      (send_keeps c.args.context.now.form [] c.serve_gathered.new.executor c.self.inside.edge c.send.new.self (is_ok c.send.result) m
+      c.self.inside.executor c.self.view_is c.send.ensures.reported.0 c.send.ensures.left c.send.ensures.noted);
   done =
       let look = g.D.Disk.view in
       let form = c.args.context.now.form in
       let x = c.self.inside.executor in
       let e = c.self.inside.edge in
       let y = c.serve_gathered.new.executor in
-      let new = c.tell.new.self in
+      let new = c.send.new.self in
       let now = c.now-moment.result in
       let commands = waiting c.args.gathered.now in
-      all_answered look _ c.tell.result commands c.args.self.now.at (spot y new.client_view new.events) (some_waits _ (sym c.is_empty.ensures ∙ c.if-is_empty.false))
-      (ok_map c.tell.result _ _
-      (λ tells. together_heard (Tells form) look _ now commands x y e c.args.self.now c.now-moment.new.self (spot y new.client_view new.events) _
+      all_answered look _ c.send.result commands c.args.self.now.at (spot y new.client_view new.events) (some_waits _ (sym c.is_empty.ensures ∙ c.if-is_empty.false))
+      (ok_map c.send.result _ _
+      (λ sends_all. together_heard (SendsAll form) look _ now commands x y e c.args.self.now c.now-moment.new.self (spot y new.client_view new.events) _
       c.now-moment.ensures.noted c.self.view_is refl
       (record {
         middle = c.make_room.new.executor;
@@ -70,20 +70,20 @@ returns-clause-answers g c = record {
         takes = c.serve_gathered.ensures.takes;
         fails = c.serve_gathered.ensures.fails;
       })
-      (subst (λ (rs : List Reply). Tells form (spot y e.client_view e.events) (spot y new.client_view new.events) (map answered rs)) c.replies.ensures tells))
-      (sends form _ y e new c.tell.result c.tell.ensures.receives c.tell.ensures.noted));
+      (subst (λ (rs : List Reply). SendsAll form (spot y e.client_view e.events) (spot y new.client_view new.events) (map answered rs)) c.replies.ensures sends_all))
+      (sends form _ y e new c.send.result c.send.ensures.receives c.send.ensures.noted));
   breaks =
       let look = g.D.Disk.view in
       let form = c.args.context.now.form in
       let x = c.self.inside.executor in
       let e = c.self.inside.edge in
       let y = c.serve_gathered.new.executor in
-      let new = c.tell.new.self in
+      let new = c.send.new.self in
       let now = c.now-moment.result in
       let commands = waiting c.args.gathered.now in
-      batch_broken look _ c.tell.result commands c.args.self.now.at (spot y new.client_view new.events) (some_waits _ (sym c.is_empty.ensures ∙ c.if-is_empty.false))
-      (err_map c.tell.result _ _
-      (λ tells. together_heard (TellsPart form) look _ now commands x y e c.args.self.now c.now-moment.new.self (spot y new.client_view new.events) _
+      batch_broken look _ c.send.result commands c.args.self.now.at (spot y new.client_view new.events) (some_waits _ (sym c.is_empty.ensures ∙ c.if-is_empty.false))
+      (err_map c.send.result _ _
+      (λ sends_all. together_heard (SendsPart form) look _ now commands x y e c.args.self.now c.now-moment.new.self (spot y new.client_view new.events) _
       c.now-moment.ensures.noted c.self.view_is refl
       (record {
         middle = c.make_room.new.executor;
@@ -91,9 +91,9 @@ returns-clause-answers g c = record {
         takes = c.serve_gathered.ensures.takes;
         fails = c.serve_gathered.ensures.fails;
       })
-      (subst (λ (rs : List Reply). TellsPart form (spot y e.client_view e.events) (spot y new.client_view new.events) (map answered rs)) c.replies.ensures tells))
-      (sends_part form _ y e new c.tell.result c.tell.ensures.breaks c.tell.ensures.noted));
-  cause = send_cause c.args.context.now.form [] c.serve_gathered.new.executor c.self.inside.edge c.tell.new.self c.tell.result c.tell.ensures.noted;
+      (subst (λ (rs : List Reply). SendsPart form (spot y e.client_view e.events) (spot y new.client_view new.events) (map answered rs)) c.replies.ensures sends_all))
+      (sends_part form _ y e new c.send.result c.send.ensures.breaks c.send.ensures.noted));
+  cause = send_cause c.args.context.now.form [] c.serve_gathered.new.executor c.self.inside.edge c.send.new.self c.send.result c.send.ensures.noted;
 }
 
 pub returns-then-is_empty-clause-answers : goal.returns-then-is_empty-clause-answers

@@ -12,9 +12,9 @@ returns g c = record {
       let source = g.M.Metadata.gives c.args.context.now.metadata.now in
       let rules = rules_of c.args.context.now in
       let p = c.args.self.now in
-      let q = c.tell_reply.new.self in
+      let q = c.send_reply.new.self in
       let found = Ok (line.Meta c.args.provider.now c.args.agent.now c.args.limit) in
-      answers_step look source rules c.tell_reply.result found c.meta_reply.result p p q (here_keeps p)
-      (λ tells_so tells. open_answered look source rules tells_so found c.meta_reply.result p.at p.at q.at c.requires.«open» (c.meta_reply.ensures, refl) tells)
-      c.tell_reply.ensures.sends;
+      answers_step look source rules c.send_reply.result found c.meta_reply.result p p q (here_keeps p)
+      (λ sends_so sends_all. open_answered look source rules sends_so found c.meta_reply.result p.at p.at q.at c.requires.«open» (c.meta_reply.ensures, refl) sends_all)
+      c.send_reply.ensures.sends;
 }

@@ -68,7 +68,7 @@ returns-in-Ok-Leave g c = record {
       let reply = refused refusal.UnknownOp in
       subst (λ l. AnswersLine look source rules l p q c.refuse.result) (sym (c.in-Ok-Leave.is ∙ ap Ok c.in-Ok-Leave.field-0-is))
       (answers_step look source rules c.refuse.result found reply p p q (here_keeps p)
-      (λ tells_so tells. open_answered look source rules tells_so found reply p.at p.at q.at c.requires.«open» (refl, refl) tells)
+      (λ sends_so sends_all. open_answered look source rules sends_so found reply p.at p.at q.at c.requires.«open» (refl, refl) sends_all)
       c.refuse.ensures.sends);
 }
 
@@ -84,7 +84,7 @@ returns-in-Ok-Version g c = record {
       let reply = answer.Version in
       subst (λ l. AnswersLine look source rules l p q c.answer_version.result) (sym (c.in-Ok-Version.is ∙ ap Ok c.in-Ok-Version.field-0-is))
       (answers_step look source rules c.answer_version.result found reply p p q (here_keeps p)
-      (λ tells_so tells. open_answered look source rules tells_so found reply p.at p.at q.at c.requires.«open» (refl, refl) tells)
+      (λ sends_so sends_all. open_answered look source rules sends_so found reply p.at p.at q.at c.requires.«open» (refl, refl) sends_all)
       c.answer_version.ensures.sends);
 }
 
@@ -120,7 +120,7 @@ returns-in-Ok-Direct g c = record {
       let found = Ok (line.Direct direct) in
       subst (λ l. AnswersLine look source rules l p q c.answer_direct.result) (sym (c.in-Ok-Direct.is ∙ ap Ok c.in-Ok-Direct.field-0-is))
       (answers_step look source rules c.answer_direct.result found (answer.Direct direct) p p q (here_keeps p)
-      (λ tells_so tells. open_answered look source rules tells_so found (answer.Direct direct) p.at p.at q.at c.requires.«open» (refl, refl) tells)
+      (λ sends_so sends_all. open_answered look source rules sends_so found (answer.Direct direct) p.at p.at q.at c.requires.«open» (refl, refl) sends_all)
       c.answer_direct.ensures.sends);
 }
 
@@ -136,6 +136,6 @@ returns-in-Err g c = record {
       let reply = refused c.in-Err.refusal in
       subst (λ l. AnswersLine look source rules l p q c.refuse-in-Err.result) (sym c.in-Err.is)
       (answers_step look source rules c.refuse-in-Err.result found reply p p q (here_keeps p)
-      (λ tells_so tells. open_answered look source rules tells_so found reply p.at p.at q.at c.requires.«open» (refl, refl) tells)
+      (λ sends_so sends_all. open_answered look source rules sends_so found reply p.at p.at q.at c.requires.«open» (refl, refl) sends_all)
       c.refuse-in-Err.ensures.sends);
 }

@@ -1,11 +1,11 @@
 use Rattle.std.proofs.Common.{[], ◌∷◌}
 use Rattle.std.specs.Prelude.{is_ok}
-use Rattle.exec_client.specs.Said.{answered}
-use Rattle.exec_client.proofs.Growing.{both_stand, may_tell}
-use Rattle.exec_session.specs.Spots.{Tells, TellsPart, spot}
+use Rattle.exec_client.specs.SentItem.{answered}
+use Rattle.exec_client.proofs.Growing.{both_stand, may_send}
+use Rattle.exec_session.specs.Spots.{SendsAll, SendsPart, spot}
 use Rattle.exec_session.proofs.AnswerLemmas.{request_answered}
 use Rattle.exec_session.proofs.EventLemmas.{both_keep, err_map, ok_map, send_cause, send_keeps, sends, sends_part, was_noted}
-use Rattle.exec_session.proofs.TellLemmas.{after_told}
+use Rattle.exec_session.proofs.SendLemmas.{after_sent}
 use Rattle.exec_session.proofs.WorkerLemmas.{open_noted}
 use Rattle.exec_session.proofs.worker.Worker.answer_request.Goals as goal
 
@@ -14,14 +14,14 @@ make_room-requires g c = record {
   «open» = open_noted c.self.inside.executor c.self.inside.edge c.args.self.now c.now-now.new.self _ c.self.view_is c.now-now.ensures.noted c.requires.«open»;
 }
 
-pub tell-requires : goal.tell-requires
-tell-requires g c =
+pub send-requires : goal.send-requires
+send-requires g c =
     let look = g.D.Disk.view in
     let x = c.self.inside.executor in
     let r = c.make_room.new.executor in
     let y = c.request_reply.new.executor in
     let stands = both_stand look x r y [] (answered c.request_reply.result ∷ []) c.make_room.ensures.stands c.request_reply.ensures.stands in
-    record { may_tell = may_tell look c.self.inside.edge.client_view x y _ c.self.invariant stands c.request_reply.ensures.says }
+    record { may_send = may_send look c.self.inside.edge.client_view x y _ c.self.invariant stands c.request_reply.ensures.says }
 
 pub invariant_of-self : goal.invariant_of-self
 invariant_of-self g c =
@@ -30,7 +30,7 @@ invariant_of-self g c =
     let r = c.make_room.new.executor in
     let y = c.request_reply.new.executor in
     let stands = both_stand look x r y [] (answered c.request_reply.result ∷ []) c.make_room.ensures.stands c.request_reply.ensures.stands in
-    after_told look c.self.inside.edge.client_view c.tell.new.self.client_view x y _ c.self.invariant stands c.tell.ensures.told
+    after_sent look c.self.inside.edge.client_view c.send.new.self.client_view x y _ c.self.invariant stands c.send.ensures.reported
 
 pub returns : goal.returns
 returns g c = record {
@@ -39,30 +39,30 @@ returns g c = record {
         keeps =
             let m = c.now-now.new.self in
             both_keep c.args.self.now m _ (was_noted c.args.self.now m _ c.now-now.ensures.noted)
-            (send_keeps c.args.context.now.form [] c.request_reply.new.executor c.self.inside.edge c.tell.new.self (is_ok c.tell.result) m
-            c.self.inside.executor c.self.view_is c.tell.ensures.told.0 c.tell.ensures.left c.tell.ensures.noted);
+            (send_keeps c.args.context.now.form [] c.request_reply.new.executor c.self.inside.edge c.send.new.self (is_ok c.send.result) m
+            c.self.inside.executor c.self.view_is c.send.ensures.reported.0 c.send.ensures.left c.send.ensures.noted);
         done =
             let look = g.D.Disk.view in
             let form = c.args.context.now.form in
             let y = c.request_reply.new.executor in
             let e = c.self.inside.edge in
-            let new = c.tell.new.self in
-            ok_map c.tell.result _ _
-            (λ tells. request_answered look _ _ (Tells form) c.now-now.result c.args.request c.self.inside.executor c.make_room.new.executor y e
+            let new = c.send.new.self in
+            ok_map c.send.result _ _
+            (λ sends_all. request_answered look _ _ (SendsAll form) c.now-now.result c.args.request c.self.inside.executor c.make_room.new.executor y e
             c.args.self.now c.now-now.new.self (spot y new.client_view new.events) c.request_reply.result c.now-now.ensures.noted c.self.view_is
-            c.requires.«open» c.make_room.ensures.makes c.request_reply.ensures.serves c.request_reply.ensures.fails c.request_reply.ensures.closes tells)
-            (sends form _ y e new c.tell.result c.tell.ensures.receives c.tell.ensures.noted);
+            c.requires.«open» c.make_room.ensures.makes c.request_reply.ensures.serves c.request_reply.ensures.fails c.request_reply.ensures.closes sends_all)
+            (sends form _ y e new c.send.result c.send.ensures.receives c.send.ensures.noted);
         breaks =
             let look = g.D.Disk.view in
             let form = c.args.context.now.form in
             let y = c.request_reply.new.executor in
             let e = c.self.inside.edge in
-            let new = c.tell.new.self in
-            err_map c.tell.result _ _
-            (λ tells. request_answered look _ _ (TellsPart form) c.now-now.result c.args.request c.self.inside.executor c.make_room.new.executor y e
+            let new = c.send.new.self in
+            err_map c.send.result _ _
+            (λ sends_all. request_answered look _ _ (SendsPart form) c.now-now.result c.args.request c.self.inside.executor c.make_room.new.executor y e
             c.args.self.now c.now-now.new.self (spot y new.client_view new.events) c.request_reply.result c.now-now.ensures.noted c.self.view_is
-            c.requires.«open» c.make_room.ensures.makes c.request_reply.ensures.serves c.request_reply.ensures.fails c.request_reply.ensures.closes tells)
-            (sends_part form _ y e new c.tell.result c.tell.ensures.breaks c.tell.ensures.noted);
-        cause = send_cause c.args.context.now.form [] c.request_reply.new.executor c.self.inside.edge c.tell.new.self c.tell.result c.tell.ensures.noted;
+            c.requires.«open» c.make_room.ensures.makes c.request_reply.ensures.serves c.request_reply.ensures.fails c.request_reply.ensures.closes sends_all)
+            (sends_part form _ y e new c.send.result c.send.ensures.breaks c.send.ensures.noted);
+        cause = send_cause c.args.context.now.form [] c.request_reply.new.executor c.self.inside.edge c.send.new.self c.send.result c.send.ensures.noted;
       };
 }

@@ -13,9 +13,9 @@ returns g c = record {
       let rules = rules_of c.args.context.now in
       let p = c.args.self.now in
       let m = c.tidy-end.new.self in
-      let q = c.tell_reply.new.self in
+      let q = c.send_reply.new.self in
       let reply = answer.Tidy c.tidy-end.result in
-      answers_step look source rules c.tell_reply.result (Ok line.Tidy) reply p m q c.tidy-end.ensures.keeps
-      (λ tells_so tells. open_answered look source rules tells_so (Ok line.Tidy) reply p.at m.at q.at c.requires.«open» c.tidy-end.ensures.tidies tells)
-      c.tell_reply.ensures.sends;
+      answers_step look source rules c.send_reply.result (Ok line.Tidy) reply p m q c.tidy-end.ensures.keeps
+      (λ sends_so sends_all. open_answered look source rules sends_so (Ok line.Tidy) reply p.at m.at q.at c.requires.«open» c.tidy-end.ensures.tidies sends_all)
+      c.send_reply.ensures.sends;
 }

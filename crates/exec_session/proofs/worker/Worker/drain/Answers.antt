@@ -1,7 +1,7 @@
 use Rattle.std.proofs.Common.{◌+◌, ◌≤◌, ap, None, Some, arith, inr, ◌∙◌}
 use Rattle.exec_session.specs.Drains.{at_start, further}
 use Rattle.exec_session.specs.Broken.{in_turn, spent, unheard}
-use Rattle.exec_session.proofs.DrainLemmas.{at_moment, closes, paused_longer, rests, rests_executor, rests_shown, still_open, told_end_at, unheard_cause, unheard_pause}
+use Rattle.exec_session.proofs.DrainLemmas.{at_moment, closes, paused_longer, rests, rests_executor, rests_shown, still_open, sent_end_at, unheard_cause, unheard_pause}
 use Rattle.exec_session.proofs.EventLemmas.{both_keep, here_keeps, last_longer, pause_keeps, was_noted}
 use Rattle.exec_session.proofs.StepLemmas.{step_to_fails}
 use Rattle.exec_session.proofs.worker.Worker.drain.Goals as goal
@@ -19,36 +19,36 @@ loop-turns-init g c = record {
 pub loop-turns-preserved : goal.loop-turns-preserved
 loop-turns-preserved g c =
     let m = c.loop-turns.self in
-    let told = c.make_turn.new.self in
+    let reported = c.make_turn.new.self in
     let mid = c.pauses.new.self in
     let q = c.now-now.new.self in
     let after = c.now-now.result in
     let end = c.in_ok-end.end in
-    let paused = at_moment c.pauses.new.pause.since c.pauses.new.pause.moment c.loop-turns.now c.pauses.result told.at mid.at
+    let paused = at_moment c.pauses.new.pause.since c.pauses.new.pause.moment c.loop-turns.now c.pauses.result reported.at mid.at
     (c.pauses.ensures.moment ∙ c.before_turn.ensures.moment) c.pauses.ensures.paused in
     let later : c.args.start ≤ c.pauses.new.pause.since =
     omega (arith, c.loop-turns.invariant.since, c.before_turn.ensures.since, c.pauses.ensures.grows) in
-    let rest = rests c.args.start c.pauses.new.pause.since c.loop-turns.now told.at mid q c.pauses.result after later c.if-not-pauses.false
+    let rest = rests c.args.start c.pauses.new.pause.since c.loop-turns.now reported.at mid q c.pauses.result after later c.if-not-pauses.false
     paused c.now-now.ensures.noted in
-    let same = rests_executor c.args.start c.loop-turns.now told.at q.at after rest in
-    let on = told_end_at c.args.terms (c.loop-turns.turns + 1) after end told.at q.at c.idle.result c.end_behind.result None same
+    let same = rests_executor c.args.start c.loop-turns.now reported.at q.at after rest in
+    let on = sent_end_at c.args.terms (c.loop-turns.turns + 1) after end reported.at q.at c.idle.result c.end_behind.result None same
     c.end_behind.ensures c.idle.ensures.value c.in_default.is in
-    let keeps = both_keep told mid q
-    (pause_keeps c.pauses.new.pause.since c.pauses.new.pause.moment c.pauses.result told mid c.pauses.ensures.left c.pauses.ensures.paused)
+    let keeps = both_keep reported mid q
+    (pause_keeps c.pauses.new.pause.since c.pauses.new.pause.moment c.pauses.result reported mid c.pauses.ensures.left c.pauses.ensures.paused)
     (was_noted mid q _ c.now-now.ensures.noted) in
-    let more = paused_longer c.pauses.new.pause.since c.pauses.new.pause.moment c.pauses.result told.at mid.at c.pauses.ensures.paused in
+    let more = paused_longer c.pauses.new.pause.since c.pauses.new.pause.moment c.pauses.result reported.at mid.at c.pauses.ensures.paused in
     record {
       is_open =
           ap (λ x. x.is_open) same
-          ∙ still_open c.args.terms (c.loop-turns.turns + 1) after end _ told.at.executor.is_open
-          (closes _ _ _ m.at told.at end c.in_ok-end.ensures.made.done) on;
-      shown = rests_shown c.args.start c.loop-turns.now told.at q.at after rest;
+          ∙ still_open c.args.terms (c.loop-turns.turns + 1) after end _ reported.at.executor.is_open
+          (closes _ _ _ m.at reported.at end c.in_ok-end.ensures.made.done) on;
+      shown = rests_shown c.args.start c.loop-turns.now reported.at q.at after rest;
       since = later;
-      gone_on = further c.loop-turns.turns c.loop-turns.now after m.at told.at q.at end c.loop-turns.invariant.gone_on c.in_ok-end.ensures.made.done rest on;
-      keeps = both_keep c.args.self.now m q c.loop-turns.invariant.keeps (both_keep m told q c.make_turn.ensures.made.keeps keeps);
+      gone_on = further c.loop-turns.turns c.loop-turns.now after m.at reported.at q.at end c.loop-turns.invariant.gone_on c.in_ok-end.ensures.made.done rest on;
+      keeps = both_keep c.args.self.now m q c.loop-turns.invariant.keeps (both_keep m reported q c.make_turn.ensures.made.keeps keeps);
       many =
           let one = c.loop-turns.invariant.many in
-          let two = last_longer m.at told.at c.make_turn.ensures.made.keeps.0 in
+          let two = last_longer m.at reported.at c.make_turn.ensures.made.keeps.0 in
           let three = last_longer mid.at q.at (was_noted mid q _ c.now-now.ensures.noted).0 in
           omega (arith, one, two, more, three);
     }
@@ -65,11 +65,11 @@ returns-in-Some g c = record {
             c.pauses.ensures.left c.pauses.ensures.paused)
             (was_noted c.pauses.new.self c.now-now.new.self _ c.now-now.ensures.noted)));
         done =
-            let told = c.make_turn.new.self.at in
+            let reported = c.make_turn.new.self.at in
             let q = c.now-now.new.self in
-            let paused = at_moment c.pauses.new.pause.since c.pauses.new.pause.moment c.loop-turns.now c.pauses.result told c.pauses.new.self.at
+            let paused = at_moment c.pauses.new.pause.since c.pauses.new.pause.moment c.loop-turns.now c.pauses.result reported c.pauses.new.self.at
             (c.pauses.ensures.moment ∙ c.before_turn.ensures.moment) c.pauses.ensures.paused in
-            let rest = rests c.args.start c.pauses.new.pause.since c.loop-turns.now told c.pauses.new.self q c.pauses.result c.now-now.result
+            let rest = rests c.args.start c.pauses.new.pause.since c.loop-turns.now reported c.pauses.new.self q c.pauses.result c.now-now.result
             (omega (arith, c.loop-turns.invariant.since, c.before_turn.ensures.since, c.pauses.ensures.grows)) c.if-not-pauses.false paused
             c.now-now.ensures.noted in
             record {
@@ -77,14 +77,14 @@ returns-in-Some g c = record {
               now = c.loop-turns.now;
               after = c.now-now.result;
               last = c.loop-turns.self.at;
-              told = told;
+              reported = reported;
               turn_end = c.in_ok-end.end;
               gone_on = c.loop-turns.invariant.gone_on;
               made = c.in_ok-end.ensures.made.done;
               rests = rest;
               ended =
-                  told_end_at c.args.terms (c.loop-turns.turns + 1) c.now-now.result c.in_ok-end.end told q.at c.idle.result c.end_behind.result
-                  (Some c.in-Some.end) (rests_executor c.args.start c.loop-turns.now told q.at c.now-now.result rest) c.end_behind.ensures c.idle.ensures.value c.in-Some.is;
+                  sent_end_at c.args.terms (c.loop-turns.turns + 1) c.now-now.result c.in_ok-end.end reported q.at c.idle.result c.end_behind.result
+                  (Some c.in-Some.end) (rests_executor c.args.start c.loop-turns.now reported q.at c.now-now.result rest) c.end_behind.ensures c.idle.ensures.value c.in-Some.is;
             };
         breaks = tt;
         cause = tt;

@@ -2,13 +2,13 @@ use Rattle.std.proofs.Common.{◌≡◌, true, [], List, refl, sym, subst}
 use Rattle.std.specs.Prelude.{is_ok}
 use Rattle.executor.specs.ExecutorView.{ExecutorView}
 use Rattle.executor.specs.TurnCalls.{TurnsWhile}
-use Rattle.exec_client.specs.MayTell.{StandsBehind}
-use Rattle.exec_client.specs.Said.{Said}
-use Rattle.exec_client.proofs.Growing.{all_still_stand, may_tell}
-use Rattle.exec_session.specs.Spots.{Position, Tells, TellsPart, spot}
+use Rattle.exec_client.specs.MaySend.{StandsBehind}
+use Rattle.exec_client.specs.SentItem.{SentItem}
+use Rattle.exec_client.proofs.Growing.{all_still_stand, may_send}
+use Rattle.exec_session.specs.Spots.{Position, SendsAll, SendsPart, spot}
 use Rattle.exec_session.proofs.EventLemmas.{moved_keeps, send_keeps, unsent}
 use Rattle.exec_session.proofs.StepLemmas.{step_to_fails}
-use Rattle.exec_session.proofs.TellLemmas.{after_told, cleared_room, turn_behind_room}
+use Rattle.exec_session.proofs.SendLemmas.{after_sent, cleared_room, turn_behind_room}
 use Rattle.exec_session.proofs.WorkerLemmas.{parts, turn_failed, turn_heard}
 use Rattle.exec_session.proofs.worker.Worker.make_turn.Goals as goal
 
@@ -28,8 +28,8 @@ invariant_of-self g c =
     all_still_stand look c.self.inside.edge.client_view x middle c.self.invariant
     (cleared_room look x c.clear_book.new.self middle c.clear_book.ensures.cleared c.make_room.ensures.stands)
 
-pub tell-requires : goal.tell-requires
-tell-requires g c =
+pub send-requires : goal.send-requires
+send-requires g c =
     let look = g.D.Disk.view in
     let is_open = sym c.if-not-make_room.ensures.value in
     let old = c.self.inside.executor in
@@ -37,10 +37,10 @@ tell-requires g c =
     let last = c.turn-end.new.self in
     let takes = subst (λ b. TurnsWhile b look c.args.now middle last c.turn-end.result) is_open c.turn-end.ensures.turns in
     let room = cleared_room look old c.clear_book.new.self middle c.clear_book.ensures.cleared c.make_room.ensures.stands in
-    let told = turn_behind_room look c.args.now old middle last c.turn-end.result room is_open takes in record {
-      may_tell =
-          may_tell look c.self.inside.edge.client_view old last _ c.self.invariant
-          (subst (λ (said : List Said). StandsBehind look old last said) (sym c.of_executor-turn.ensures.said) told) tt;
+    let reported = turn_behind_room look c.args.now old middle last c.turn-end.result room is_open takes in record {
+      may_send =
+          may_send look c.self.inside.edge.client_view old last _ c.self.invariant
+          (subst (λ (items : List SentItem). StandsBehind look old last items) (sym c.of_executor-turn.ensures.items) reported) tt;
     }
 
 pub invariant_of-self-2 : goal.invariant_of-self-2
@@ -52,13 +52,13 @@ invariant_of-self-2 g c =
     let last = c.turn-end.new.self in
     let takes = subst (λ b. TurnsWhile b look c.args.now middle last c.turn-end.result) is_open c.turn-end.ensures.turns in
     let room = cleared_room look old c.clear_book.new.self middle c.clear_book.ensures.cleared c.make_room.ensures.stands in
-    let told = turn_behind_room look c.args.now old middle last c.turn-end.result room is_open takes in
-    after_told look c.self.inside.edge.client_view c.tell.new.self.client_view old last _ c.self.invariant
-    (subst (λ (said : List Said). StandsBehind look old last said) (sym c.of_executor-turn.ensures.said) told)
-    c.tell.ensures.told
+    let reported = turn_behind_room look c.args.now old middle last c.turn-end.result room is_open takes in
+    after_sent look c.self.inside.edge.client_view c.send.new.self.client_view old last _ c.self.invariant
+    (subst (λ (items : List SentItem). StandsBehind look old last items) (sym c.of_executor-turn.ensures.items) reported)
+    c.send.ensures.reported
 
-pub invariant_of-self-in_err-tell : goal.invariant_of-self-in_err-tell
-invariant_of-self-in_err-tell g c =
+pub invariant_of-self-in_err-send : goal.invariant_of-self-in_err-send
+invariant_of-self-in_err-send g c =
     let look = g.D.Disk.view in
     let is_open = sym c.if-not-make_room.ensures.value in
     let old = c.self.inside.executor in
@@ -66,10 +66,10 @@ invariant_of-self-in_err-tell g c =
     let last = c.turn-end.new.self in
     let takes = subst (λ b. TurnsWhile b look c.args.now middle last c.turn-end.result) is_open c.turn-end.ensures.turns in
     let room = cleared_room look old c.clear_book.new.self middle c.clear_book.ensures.cleared c.make_room.ensures.stands in
-    let told = turn_behind_room look c.args.now old middle last c.turn-end.result room is_open takes in
-    after_told look c.self.inside.edge.client_view c.tell.new.self.client_view old last _ c.self.invariant
-    (subst (λ (said : List Said). StandsBehind look old last said) (sym c.of_executor-turn.ensures.said) told)
-    c.tell.ensures.told
+    let reported = turn_behind_room look c.args.now old middle last c.turn-end.result room is_open takes in
+    after_sent look c.self.inside.edge.client_view c.send.new.self.client_view old last _ c.self.invariant
+    (subst (λ (items : List SentItem). StandsBehind look old last items) (sym c.of_executor-turn.ensures.items) reported)
+    c.send.ensures.reported
 
 pub returns-then-not-make_room : goal.returns-then-not-make_room
 returns-then-not-make_room g c = record {
@@ -77,7 +77,7 @@ returns-then-not-make_room g c = record {
       record {
         keeps = moved_keeps c.self.inside.executor c.make_room.new.executor c.self.inside.edge c.args.self.now c.self.view_is;
         done =
-            turn_failed (Tells c.args.context.now.form) g.D.Disk.view _ c.args.now c.self.inside.executor c.clear_book.new.self
+            turn_failed (SendsAll c.args.context.now.form) g.D.Disk.view _ c.args.now c.self.inside.executor c.clear_book.new.self
             c.make_room.new.executor c.self.inside.edge c.args.self.now c.self.view_is c.requires.shown c.clear_book.ensures.cleared
             c.make_room.ensures.makes (sym c.if-not-make_room.ensures.value);
         breaks = tt;
@@ -90,49 +90,49 @@ returns g c = record {
   made =
       record {
         keeps =
-            send_keeps c.args.context.now.form [] c.turn-end.new.self c.self.inside.edge c.tell.new.self (is_ok c.tell.result) c.args.self.now
-            c.self.inside.executor c.self.view_is c.tell.ensures.told.0 c.tell.ensures.left c.tell.ensures.noted;
+            send_keeps c.args.context.now.form [] c.turn-end.new.self c.self.inside.edge c.send.new.self (is_ok c.send.result) c.args.self.now
+            c.self.inside.executor c.self.view_is c.send.ensures.reported.0 c.send.ensures.left c.send.ensures.noted;
         done =
             let look = g.D.Disk.view in
             let is_open = sym c.if-not-make_room.ensures.value in
             let e = c.self.inside.edge in
             let middle = c.make_room.new.executor in
             let last = c.turn-end.new.self in
-            let new = c.tell.new.self in
+            let new = c.send.new.self in
             let form = c.args.context.now.form in
-            turn_heard (Tells form) look _ c.args.now c.self.inside.executor c.clear_book.new.self middle last e c.args.self.now
+            turn_heard (SendsAll form) look _ c.args.now c.self.inside.executor c.clear_book.new.self middle last e c.args.self.now
             (spot last new.client_view new.events) c.turn-end.result c.self.view_is c.requires.shown c.clear_book.ensures.cleared
             c.make_room.ensures.makes is_open refl
             (subst (λ b. TurnsWhile b look c.args.now middle last c.turn-end.result) is_open c.turn-end.ensures.turns)
-            (subst (λ (said : List Said). Tells form (spot last e.client_view e.events) (spot last new.client_view new.events) said)
-            c.of_executor-turn.ensures.said
-            (record { executor = refl; receives = c.in_ok-tell.ensures.receives; events = c.in_ok-tell.ensures.noted }));
+            (subst (λ (items : List SentItem). SendsAll form (spot last e.client_view e.events) (spot last new.client_view new.events) items)
+            c.of_executor-turn.ensures.items
+            (record { executor = refl; receives = c.in_ok-send.ensures.receives; events = c.in_ok-send.ensures.noted }));
         breaks = tt;
         cause = tt;
       };
 }
 
-pub returns-in_err-tell : goal.returns-in_err-tell
-returns-in_err-tell g c = record {
+pub returns-in_err-send : goal.returns-in_err-send
+returns-in_err-send g c = record {
   made =
       let look = g.D.Disk.view in
       let is_open = sym c.if-not-make_room.ensures.value in
       let e = c.self.inside.edge in
       let middle = c.make_room.new.executor in
       let last = c.turn-end.new.self in
-      let new = c.tell.new.self in
+      let new = c.send.new.self in
       let form = c.args.context.now.form in
       step_to_fails c.args.self.now _ c.from_residual.result c.from_residual.ensures.0 (
-      send_keeps c.args.context.now.form [] c.turn-end.new.self c.self.inside.edge c.tell.new.self (is_ok c.tell.result) c.args.self.now
-      c.self.inside.executor c.self.view_is c.tell.ensures.told.0 c.tell.ensures.left c.tell.ensures.noted
+      send_keeps c.args.context.now.form [] c.turn-end.new.self c.self.inside.edge c.send.new.self (is_ok c.send.result) c.args.self.now
+      c.self.inside.executor c.self.view_is c.send.ensures.reported.0 c.send.ensures.left c.send.ensures.noted
       ) (
         c.turn-end.result,
-        turn_heard (TellsPart form) look _ c.args.now c.self.inside.executor c.clear_book.new.self middle last e c.args.self.now
+        turn_heard (SendsPart form) look _ c.args.now c.self.inside.executor c.clear_book.new.self middle last e c.args.self.now
             (spot last new.client_view new.events) c.turn-end.result c.self.view_is c.requires.shown c.clear_book.ensures.cleared
             c.make_room.ensures.makes is_open refl
             (subst (λ b. TurnsWhile b look c.args.now middle last c.turn-end.result) is_open c.turn-end.ensures.turns)
-            (subst (λ (said : List Said). TellsPart form (spot last e.client_view e.events) (spot last new.client_view new.events) said)
-            c.of_executor-turn.ensures.said
-            (record { executor = refl; receives = c.in_err-tell.ensures.breaks; events = c.in_err-tell.ensures.noted })),
-      ) (unsent c.self.inside.edge.events c.tell.new.self.events c.in_err-tell.ensures.noted);
+            (subst (λ (items : List SentItem). SendsPart form (spot last e.client_view e.events) (spot last new.client_view new.events) items)
+            c.of_executor-turn.ensures.items
+            (record { executor = refl; receives = c.in_err-send.ensures.breaks; events = c.in_err-send.ensures.noted })),
+      ) (unsent c.self.inside.edge.events c.send.new.self.events c.in_err-send.ensures.noted);
 }

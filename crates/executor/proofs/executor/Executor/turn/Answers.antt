@@ -5,7 +5,7 @@ use Rattle.child_model.specs.Children.{Admits}
 use Rattle.exec_ledger.specs.Laws.{while_open}
 use Rattle.exec_ledger.specs.Scenes.{scene_of}
 use Rattle.exec_turn.specs.Turn.{IsTurn}
-use Rattle.exec_turn.specs.Turns.{told_of}
+use Rattle.exec_turn.specs.Turns.{reports_of}
 use Rattle.executor.specs.Reports.{reported_of}
 use Rattle.executor.specs.ExecutorView.{ExecutorView, executor_view}
 use Rattle.executor.specs.TurnCalls.{TakesTurn, TurnsWhile}
@@ -29,21 +29,21 @@ invariant_of-self g c is_open =
 pub returns : goal.returns
 returns g c =
     let e = c.self.inside in
-    let x = executor_view e.ledger (g.C.Children.view e.children) e.site (told_of e.batches) (reported_of e.reported) in
-    let y = executor_view c.take_turn-end.new.ledger (g.C.Children.view c.take_turn-end.new.children) e.site (told_of c.take_turn-end.new.batches) (reported_of e.reported) in
+    let x = executor_view e.ledger (g.C.Children.view e.children) e.site (reports_of e.batches) (reported_of e.opening_report) in
+    let y = executor_view c.take_turn-end.new.ledger (g.C.Children.view c.take_turn-end.new.children) e.site (reports_of c.take_turn-end.new.batches) (reported_of e.opening_report) in
     let was : x.is_open ≡ true = sym c.is_open.ensures.value ∙ c.if-not-is_open.false in
     let turn = c.take_turn-end.ensures in
     let takes : TakesTurn g.D.Disk.view c.args.now x y c.take_turn-end.result = record {
       turns = turn.turns;
       site = refl;
       allocator = ◌∙◌ {b = g.A.Grows.refuses} c.known-2.ensures.allocator (sym c.known.ensures.allocator);
-      reported = refl;
+      opening_report = refl;
       full = turn.full;
       unchanged = λ is.
           let same = turn.unchanged is in
-          let none = (subst (λ (end : TurnEnd). IsTurn end (scene_of e.ledger (moment e.ledger.state c.args.now)) turn.turns.effects y.told) is
+          let none = (subst (λ (end : TurnEnd). IsTurn end (scene_of e.ledger (moment e.ledger.state c.args.now)) turn.turns.effects y.reported) is
           turn.turns.does).1 in
-          λ i. executor_view (same.0 i) (g.C.Children.view (same.1 i)) e.site (none i) (reported_of e.reported);
+          λ i. executor_view (same.0 i) (g.C.Children.view (same.1 i)) e.site (none i) (reported_of e.opening_report);
       closes = turn.closes;
     } in
     record {

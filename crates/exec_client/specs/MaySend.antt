@@ -1,0 +1,81 @@
+-- When a client may be sent something.
+use Rattle.std.specs.Prelude.{◌≡◌, ◌⊎◌, true, ⊤, List, [], ◌∷◌, ◌++◌, length}
+use Rattle.std.specs.List.{AllByRecursion}
+use Rattle.ocf_types.specs.Answer.{reply_to}
+use Rattle.ocf_types.specs.Kinds.{Reply}
+use Rattle.ocf_types.specs.declared.command.Question.{Question}
+use Rattle.ocf_types.specs.declared.reply.Notice.{Notice}
+use Rattle.ocf_types.specs.declared.reply.ReplyOf.TheVariants as reply
+use Rattle.disk_model.specs.View.{View}
+use Rattle.executor.specs.Lives.{Calls, Exchange}
+use Rattle.executor.specs.Sessions.{Effects}
+use Rattle.executor.specs.ExecutorView.{ExecutorView}
+use Rattle.exec_commands.specs.Replies.{statuses_in}
+use Rattle.exec_commands.specs.declared.reply.LineReply.{LineReply}
+use Rattle.exec_commands.specs.declared.reply.LineReply.TheVariants as line
+use Rattle.exec_commands.specs.declared.service.Counts.{Counts}
+use Rattle.resource_status.specs.Statuses.{statuses_of}
+use Rattle.exec_client.specs.Behind.{Behind}
+use Rattle.exec_client.specs.ClientView.{ClientView}
+use Rattle.exec_client.specs.SentItem.{Answered, SentItem, sent_in}
+use Rattle.exec_client.specs.Sends.{SendsCalls}
+use Rattle.exec_client.specs.declared.message.Message.{Message}
+use Rattle.exec_client.specs.declared.message.Message.TheVariants as message
+
+-- Calls lead from one view of an executor to another. The messages are exactly what these calls answered, with nothing left out, and the
+-- events that the calls recorded back them.
+pub record StandsBehind {D : Type 0} (look : D → View) (old new : ExecutorView D) (items : List SentItem) : Type 0 where
+  pub calls : List Exchange
+  pub effects : Effects
+  pub leads : Calls look old calls new effects
+  pub sends : SendsCalls look old calls new effects items
+  pub behind : Behind items effects.events
+
+-- the reply is what an open executor answers to some question, from its state
+abbrev pub IsAnswer : {D : Type 0} → ExecutorView D → Reply → Type 0
+IsAnswer x given = (x.is_open ≡ true) × (question : Question) × (given ≡ reply_to x.state question)
+
+-- a reply may be sent: if it reports on the state, it is the answer from that state
+abbrev pub MayAnswer : {D : Type 0} → ExecutorView D → Reply → Type 0
+MayAnswer x (reply.List ids) = IsAnswer x (reply.List ids)
+MayAnswer x (reply.Info info) = IsAnswer x (reply.Info info)
+MayAnswer x (reply.History results) = IsAnswer x (reply.History results)
+MayAnswer x _ = ⊤
+
+-- these are the numbers of the executor's resources, and of the results that its opening reported as interrupted and as dropped
+abbrev pub IsCounted : {D : Type 0} → ExecutorView D → Counts → Type 0
+IsCounted x counts =
+    (counts.resources ≡ length x.state.resources) × (counts.interrupted ≡ length x.opening_report.interrupted)
+    × (counts.dropped ≡ length x.opening_report.dropped)
+
+-- a reply to a line may be sent: the status of all resources is that of the state, too
+abbrev pub MayReply : {D : Type 0} → ExecutorView D → LineReply → Type 0
+MayReply x (line.Request given) = MayAnswer x given
+MayReply x (line.Status statuses) = (x.is_open ≡ true) × (statuses_in statuses ≡ statuses_of x.state)
+MayReply x (line.Ready counts) = IsCounted x counts
+MayReply x _ = ⊤
+
+-- the opening of this executor reported these notices as interrupted, or as dropped
+abbrev pub IsReported : {D : Type 0} → ExecutorView D → List Notice → Type 0
+IsReported x notices = (notices ≡ x.opening_report.interrupted) ⊎ (notices ≡ x.opening_report.dropped)
+
+-- a message may be sent by its content: answers are from the settled state, and a report is that of the opening
+abbrev pub IsOfView : {D : Type 0} → ExecutorView D → Message → Type 0
+IsOfView x (message.Reply given) = MayReply x given.now
+IsOfView x (message.News given) = MayReply x given.now
+IsOfView x (message.Replies given) = AllByRecursion (MayAnswer x) given.now
+IsOfView x (message.Notices turn) = ⊤
+IsOfView x (message.Report notices) = IsReported x notices.now
+
+-- all messages that were sent are backed by what the executor recorded since it was opened
+abbrev pub AllStand : {D : Type 0} → (D → View) → ClientView D → ExecutorView D → Type 0
+AllStand look client_view x = StandsBehind look client_view.opened x client_view.reported
+
+-- This message may be sent to a client of an executor in this view: all that was sent is recorded, and so is this message.
+pub record MaySend {D : Type 0} (look : D → View) (client_view : ClientView D) (x : ExecutorView D) (what : Message) : Type 0 where
+  pub stands : StandsBehind look client_view.opened x (client_view.reported ++ sent_in what)
+  pub says : IsOfView x what
+
+-- this reply to a line may be sent
+abbrev pub MayBeReplied : {D : Type 0} → (D → View) → ClientView D → ExecutorView D → LineReply → Type 0
+MayBeReplied look client_view x given = StandsBehind look client_view.opened x (client_view.reported ++ Answered given ∷ []) × MayReply x given

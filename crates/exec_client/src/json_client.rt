@@ -1,0 +1,112 @@
+//! A client that writes messages as lines.
+ghost use Rattle.std.specs.Prelude.{◌≡◌, [], IfErr, IsTrue, OnErr, OnOk};
+ghost use Rattle.std.specs.Io.KnownBytes.{Appends};
+ghost use Rattle.exec_lines.specs.Prefixes.{AppendsPrefix};
+ghost use Rattle.exec_messages.specs.declared.send.IoFault.TheVariants.{Memory};
+ghost use Rattle.exec_client.specs.ClientView.{ClientView};
+ghost use Rattle.exec_client.specs.SentItem.{lines_of, sent_in};
+ghost use Rattle.exec_client.specs.MessageTags.{after_sent, sent_tags};
+
+use crate::client::Client;
+use crate::notices::send_turn;
+use crate::replies::{Making, send_answer, send_answers, send_news};
+use crate::tags::Tags;
+use crate::sent_log::SentLog;
+use crate::message::Message;
+use child_model::Children;
+use disk_model::Disk;
+use exec_commands::{NoticeForm, Tag};
+use exec_lines::Output;
+use exec_messages::{IoFault, send_notices};
+use executor::Executor;
+use growth::Grows;
+use past::Seen;
+use std::alloc::{AllocError, Global};
+use std::io::Write;
+
+/// A client of an executor of this type, which writes messages as lines. It owns the writer.
+#[derive(Drop)]
+pub struct JsonClient<E, W> {
+    alloc: Global,
+    pub(crate) writer: W,
+    pub(crate) opened: Seen<E>,
+    pub(crate) sent_log: SentLog,
+    tags: Tags,
+}
+
+// Writes the lines of a message and flushes them. On error a prefix of the lines was written.
+fn write_sent<W: Output>(
+    making: &Making,
+    writer: &mut W,
+    tags: &mut Tags,
+    what: &Message,
+) -> Result<(), IoFault>
+    ensures sent { OnOk result
+        (Appends (W.contents writer.old) (W.contents writer.new)
+        (lines_of making.now.form (sent_tags tags.old what.now) (sent_in what.now))) }
+    ensures prefix { OnErr result
+        (AppendsPrefix (W.contents writer.old) (W.contents writer.new)
+        (lines_of making.now.form (sent_tags tags.old what.now) (sent_in what.now))) }
+    ensures kept { OnOk result (tags.new ≡ after_sent what.now tags.old) }
+    ensures memory { IfErr result (λ f. f ≡ Memory → IsTrue ⟦<Global as Grows>⟧.refuses) }
+{
+    match what {
+        Message::Reply(reply) => send_answer(making, writer, tags, reply),
+        Message::Replies(replies) => send_answers(making, writer, tags, replies),
+        Message::Notices(turn) => send_turn(making, writer, tags, turn),
+        Message::News(reply) => send_news(making, writer, reply),
+        Message::Report(notices) => send_notices(making.alloc, writer, making.form, notices),
+    }
+}
+
+impl<E, W: Output> JsonClient<E, W> {
+    /// A client of an executor that was just opened. It was sent nothing yet.
+    pub fn new(alloc: Global, writer: W, executor: &E) -> JsonClient<E, W>
+        ensures opened { result.opened.value ≡ executor.now }
+        ensures reported { result.sent_log.items ≡ [] }
+        ensures writer { result.writer ≡ writer }
+    {
+        JsonClient {
+            alloc,
+            writer,
+            opened: Seen::of(executor),
+            sent_log: SentLog::new(),
+            tags: Tags::new(alloc),
+        }
+    }
+
+    /// The writer.
+    pub fn writer(&self) -> &W
+        ensures { result.now ≡ self.now.writer }
+    {
+        &self.writer
+    }
+}
+
+impl<D: Disk + Drop, C: Children + Drop, W: Output> Client<D, C> for JsonClient<Executor<D, C>, W> {
+    ghost client_view = { λ t. record { opened = t.opened.value; reported = t.sent_log.items; written = W.contents t.writer } };
+
+    ghost refuses = { ⟦<Global as Grows>⟧.refuses };
+
+    fn send(
+        &mut self,
+        executor: &Executor<D, C>,
+        form: NoticeForm,
+        what: &Message,
+    ) -> Result<(), IoFault> {
+        self.sent_log.note(what);
+        let making = Making {
+            alloc: self.alloc,
+            form,
+        };
+        write_sent(&making, &mut self.writer, &mut self.tags, what)
+    }
+
+    fn note_tag(&mut self, tag: Option<Tag>) -> Result<(), AllocError> {
+        self.tags.note(tag)
+    }
+
+    fn has_reader(&self) -> bool {
+        self.writer.has_reader()
+    }
+}
