@@ -83,7 +83,7 @@ fn difference(counts: &[u32; 10]) -> Option<(&'static str, u32, u32)> {
 }
 
 #[test]
-fn every_byte_is_read_as_it_stands(rt: HostRuntime) {
+fn every_byte_is_read_as_it_is(rt: HostRuntime) {
     let counts = counts(rt.alloc(), FIRST).expect(&rt, "damage where none may be, or no memory");
     assert_eq!(rt; difference(&counts), None);
 }
@@ -96,7 +96,7 @@ fn in_first_layout(alloc: Global) -> Option<Vec<u8>> {
 }
 
 #[test]
-fn every_byte_of_the_first_layout_is_read_as_it_stands(rt: HostRuntime) {
+fn every_byte_of_the_first_layout_is_read_as_it_is(rt: HostRuntime) {
     let part = in_first_layout(rt.alloc()).expect(&rt, "no memory");
     let counts = counts(rt.alloc(), part.as_slice()).expect(&rt, "damage where none may be");
     assert_eq!(rt; difference(&counts), None);

@@ -61,7 +61,7 @@ fn second(alloc: Global) -> Option<Vec<Input>> {
 }
 
 // Whether the second machine's reply has what the first one's acknowledged, and shows an action that had begun as interrupted.
-fn stands(first: &[Reply], second: &[Reply]) -> bool {
+fn holds(first: &[Reply], second: &[Reply]) -> bool {
     let Some(ReplyOf::History(results)) = second.first() else {
         return first
             .first()
@@ -79,7 +79,7 @@ fn answered(alloc: Global, stop: u64, fill: Fill) -> Option<usize> {
     let one = machine(alloc, 0, first(alloc)?, stop)?;
     let other = machine(alloc, 4, second(alloc)?, u64::MAX)?;
     let (replies, last) = live_twice(alloc, one, other, fill)?;
-    let all = last.replies.len() == 1 && stands(&replies, &last.replies);
+    let all = last.replies.len() == 1 && holds(&replies, &last.replies);
     all.then(|| replies.len())
 }
 

@@ -29,7 +29,7 @@ use Rattle.executor.specs.declared.session.InputOf.TheVariants as input
 use Rattle.exec_ledger.proofs.Keeping.{command_keeps}
 use Rattle.exec_client.specs.Behind.{Behind, claims, nothing}
 use Rattle.exec_client.specs.ClientView.{ClientView}
-use Rattle.exec_client.specs.MaySend.{AllStand, MayBeReplied, MayReply, IsOfView, MaySend, StandsBehind}
+use Rattle.exec_client.specs.MaySend.{AllBacked, MayBeReplied, MayReply, IsOfView, MaySend, IsBacked}
 use Rattle.exec_client.specs.SentItem.{Answered, SentItem, answered, sent_in}
 use Rattle.exec_client.specs.Sends.{States, SendsCalls, noticed}
 use Rattle.exec_client.specs.declared.message.Message.{Message}
@@ -49,8 +49,8 @@ events_are ss d e same behind = subst (λ (f : Effects). Behind ss f.events) (sy
 
 module _ {D : Type 0} (look : D → View) where
   -- no call, one call, and calls after others
-  pub none_stands : (x y : ExecutorView D) (items : List SentItem) → y ≡ x → Behind items [] → StandsBehind look x y items
-  none_stands x y items same behind = record {
+  pub none_holds : (x y : ExecutorView D) (items : List SentItem) → y ≡ x → Behind items [] → IsBacked look x y items
+  none_holds x y items same behind = record {
     calls = [];
     effects = no_effects;
     leads = (same, refl);
@@ -58,9 +58,9 @@ module _ {D : Type 0} (look : D → View) where
     behind = behind;
   }
 
-  one_stands : (x y : ExecutorView D) (e : Exchange) (d : Effects) (items : List SentItem) → Does look e x y d → States e y items → Behind items d.events
-      → StandsBehind look x y items
-  one_stands x y e d items does says behind = record {
+  one_holds : (x y : ExecutorView D) (e : Exchange) (d : Effects) (items : List SentItem) → Does look e x y d → States e y items → Behind items d.events
+      → IsBacked look x y items
+  one_holds x y e d items does says behind = record {
     calls = e ∷ [];
     effects = d;
     leads = (y, d, no_effects, does, (refl, refl), sym (followed_by_none d));
@@ -68,9 +68,9 @@ module _ {D : Type 0} (look : D → View) where
     behind = behind;
   }
 
-  pub both_stand : (x y z : ExecutorView D) (ss ts : List SentItem) → StandsBehind look x y ss → StandsBehind look y z ts
-      → StandsBehind look x z (ss ++ ts)
-  both_stand x y z ss ts one two = record {
+  pub both_hold : (x y z : ExecutorView D) (ss ts : List SentItem) → IsBacked look x y ss → IsBacked look y z ts
+      → IsBacked look x z (ss ++ ts)
+  both_hold x y z ss ts one two = record {
     calls = one.calls ++ two.calls;
     effects = followed_by one.effects two.effects;
     leads = calls_behind look x y z one.calls two.calls one.effects two.effects one.leads two.leads;
@@ -79,9 +79,9 @@ module _ {D : Type 0} (look : D → View) where
   }
 
   -- nothing is sent of the later calls
-  pub still_stand : (x y z : ExecutorView D) (ss : List SentItem) → StandsBehind look x y ss → StandsBehind look y z [] → StandsBehind look x z ss
-  still_stand x y z ss one two =
-      subst (λ (items : List SentItem). StandsBehind look x z items) (append-nil ss) (both_stand x y z ss [] one two)
+  pub still_hold : (x y z : ExecutorView D) (ss : List SentItem) → IsBacked look x y ss → IsBacked look y z [] → IsBacked look x z ss
+  still_hold x y z ss one two =
+      subst (λ (items : List SentItem). IsBacked look x z items) (append-nil ss) (both_hold x y z ss [] one two)
 
   -- a command
   obeys_behind : (now : ℕ) (c : Command) (x y : ExecutorView D) (r : Reply) (found : Result Event Refusal) → event_of x.state now c ≡ found
@@ -105,16 +105,16 @@ module _ {D : Type 0} (look : D → View) where
   )
   while_taken false now request x y r serves closes = (no_effects, (serves.0, serves.1, refl), refused_behind r _ serves.0)
 
-  pub serves_stands : (now : ℕ) (request : Request) (x y : ExecutorView D) (r : Reply) → Serves look now request x y r
-      → (x.is_open ≡ true → ((y.is_open ≡ false) ↔ (r ≡ reply.Refused Disk))) → StandsBehind look x y (answered r ∷ [])
-  serves_stands now request x y r serves closes =
+  pub serves_holds : (now : ℕ) (request : Request) (x y : ExecutorView D) (r : Reply) → Serves look now request x y r
+      → (x.is_open ≡ true → ((y.is_open ≡ false) ↔ (r ≡ reply.Refused Disk))) → IsBacked look x y (answered r ∷ [])
+  serves_holds now request x y r serves closes =
       let (d, takes, behind) = while_taken x.is_open now request x y r serves closes in
-      one_stands x y (Took (input.Request now request) r) d (answered r ∷ []) takes refl behind
+      one_holds x y (Took (input.Request now request) r) d (answered r ∷ []) takes refl behind
 
   -- commands in a batch
-  batch_stands : (now : ℕ) (cs : List Command) (x y : ExecutorView D) (rs : List Reply) (d : Effects) → TakesBatch look now cs x y rs d
+  batch_holds : (now : ℕ) (cs : List Command) (x y : ExecutorView D) (rs : List Reply) (d : Effects) → TakesBatch look now cs x y rs d
       → Behind (map answered rs) d.events
-  batch_stands now cs x y rs d takes = by y.is_open refl
+  batch_holds now cs x y rs d takes = by y.is_open refl
     where
       sent_so : (b : Bool) → y.is_open ≡ b → Behind (map answered (batch_replies b takes.takes.meant)) (batch_effects b takes.takes.events).events
           → Behind (map answered rs) d.events
@@ -140,7 +140,7 @@ module _ {D : Type 0} (look : D → View) where
   one_behind now (Took (input.Request at (asked.Command c)) r) x y d is does = taken_behind x.is_open at c x y r d does
   one_behind now (Took (input.Request at (asked.Question q)) r) x y d is does = absurd is
   one_behind now (Took (input.Turn at) r) x y d is does = absurd is
-  one_behind now (Batch at cs rs) x y d is does = batch_stands at cs x y rs d does
+  one_behind now (Batch at cs rs) x y d is does = batch_holds at cs x y rs d does
   one_behind now (Finished at end) x y d is does = absurd is
   one_behind now (Tidied end) x y d is does = absurd is
   one_behind now Cleared x y d is does = absurd is
@@ -155,9 +155,9 @@ module _ {D : Type 0} (look : D → View) where
       (both_behind (map answered (replies_of e)) first.events (map answered (flat_map replies_of es)) later.events
       (one_behind now e x mid first at.0 does) (calls_sent now es mid y later at.1 calls)))
 
-  pub commands_stand : (now : ℕ) (cs : List Command) (x y : ExecutorView D) (rs : List Reply) → TakesCommands look now cs x y rs
-      → StandsBehind look x y (map answered rs)
-  commands_stand now cs x y rs does =
+  pub commands_hold : (now : ℕ) (cs : List Command) (x y : ExecutorView D) (rs : List Reply) → TakesCommands look now cs x y rs
+      → IsBacked look x y (map answered rs)
+  commands_hold now cs x y rs does =
       let takes = commands_called look now cs rs x y does in record {
         calls = takes.exchanges;
         effects = takes.effects;
@@ -169,50 +169,50 @@ module _ {D : Type 0} (look : D → View) where
       }
 
   -- a turn, a turn that begins nothing, a tidy, and an emptied book
-  pub turn_stands : (now : ℕ) (x y : ExecutorView D) (end : TurnEnd) → x.is_open ≡ true → TakesTurn look now x y end
-      → StandsBehind look x y (noticed y)
-  turn_stands now x y end is_open takes =
-      one_stands x y (Took (input.Turn now) (reply.Turn end)) takes.turns.effects (noticed y)
+  pub turn_holds : (now : ℕ) (x y : ExecutorView D) (end : TurnEnd) → x.is_open ≡ true → TakesTurn look now x y end
+      → IsBacked look x y (noticed y)
+  turn_holds now x y end is_open takes =
+      one_holds x y (Took (input.Turn now) (reply.Turn end)) takes.turns.effects (noticed y)
       (while_open _ is_open (record { end = end; takes = takes; replies = refl; does = refl })) refl
       (turn_behind y.children.book end _ takes.turns.effects y.reported takes.turns.does)
 
-  pub finish_stands : (now : ℕ) (x y : ExecutorView D) (end : TurnEnd) → x.is_open ≡ true → FinishesTurn look now x y end
-      → StandsBehind look x y (noticed y)
-  finish_stands now x y end is_open takes =
-      one_stands x y (Finished now end) takes.turns.effects (noticed y) (while_open _ is_open (takes, refl)) refl
+  pub finish_holds : (now : ℕ) (x y : ExecutorView D) (end : TurnEnd) → x.is_open ≡ true → FinishesTurn look now x y end
+      → IsBacked look x y (noticed y)
+  finish_holds now x y end is_open takes =
+      one_holds x y (Finished now end) takes.turns.effects (noticed y) (while_open _ is_open (takes, refl)) refl
       (finish_behind y.children.book end _ takes.turns.effects y.reported takes.turns.does)
 
-  pub tidied_stands : (x y : ExecutorView D) (end : TidyEnd) → TidiesWhile x.is_open look x y end → StandsBehind look x y []
-  tidied_stands x y end tidies = one_stands x y (Tidied end) no_effects [] (tidies, refl) refl nothing
+  pub tidied_holds : (x y : ExecutorView D) (end : TidyEnd) → TidiesWhile x.is_open look x y end → IsBacked look x y []
+  tidied_holds x y end tidies = one_holds x y (Tidied end) no_effects [] (tidies, refl) refl nothing
 
-  pub tidy_stands : (x y : ExecutorView D) (end : TidyEnd) → x.is_open ≡ true → Tidies look x y end → StandsBehind look x y []
-  tidy_stands x y end is_open tidies =
-      tidied_stands x y end (while_open _ is_open tidies)
+  pub tidy_holds : (x y : ExecutorView D) (end : TidyEnd) → x.is_open ≡ true → Tidies look x y end → IsBacked look x y []
+  tidy_holds x y end is_open tidies =
+      tidied_holds x y end (while_open _ is_open tidies)
 
-  pub cleared_stands : (x y : ExecutorView D) → y ≡ with_empty_book x → StandsBehind look x y []
-  cleared_stands x y cleared = one_stands x y Cleared no_effects [] (cleared, refl) refl nothing
+  pub cleared_holds : (x y : ExecutorView D) → y ≡ with_empty_book x → IsBacked look x y []
+  cleared_holds x y cleared = one_holds x y Cleared no_effects [] (cleared, refl) refl nothing
 
   -- what may be sent of an executor after calls
-  pub may_send : (client_view : ClientView D) (x y : ExecutorView D) (what : Message) → AllStand look client_view x → StandsBehind look x y (sent_in what)
+  pub may_send : (client_view : ClientView D) (x y : ExecutorView D) (what : Message) → AllBacked look client_view x → IsBacked look x y (sent_in what)
       → IsOfView y what → MaySend look client_view y what
-  may_send client_view x y what stands more says =
-      record { stands = both_stand client_view.opened x y client_view.reported (sent_in what) stands more; says = says }
+  may_send client_view x y what holds more says =
+      record { holds = both_hold client_view.opened x y client_view.reported (sent_in what) holds more; says = says }
 
   -- calls of which nothing is sent
-  pub all_still_stand : (client_view : ClientView D) (x y : ExecutorView D) → AllStand look client_view x → StandsBehind look x y [] → AllStand look client_view y
-  all_still_stand client_view x y stands more = still_stand client_view.opened x y client_view.reported stands more
+  pub all_still_hold : (client_view : ClientView D) (x y : ExecutorView D) → AllBacked look client_view x → IsBacked look x y [] → AllBacked look client_view y
+  all_still_hold client_view x y holds more = still_hold client_view.opened x y client_view.reported holds more
 
   -- a reply to a line, of an executor after calls
-  pub may_reply : (client_view : ClientView D) (x y : ExecutorView D) (given : LineReply) → AllStand look client_view x
-      → StandsBehind look x y (Answered given ∷ []) → MayReply y given → MayBeReplied look client_view y given
-  may_reply client_view x y given stands more says = (both_stand client_view.opened x y client_view.reported (Answered given ∷ []) stands more, says)
+  pub may_reply : (client_view : ClientView D) (x y : ExecutorView D) (given : LineReply) → AllBacked look client_view x
+      → IsBacked look x y (Answered given ∷ []) → MayReply y given → MayBeReplied look client_view y given
+  may_reply client_view x y given holds more says = (both_hold client_view.opened x y client_view.reported (Answered given ∷ []) holds more, says)
 
   -- a reply that claims nothing
-  pub may_reply_none : (client_view : ClientView D) (x : ExecutorView D) (given : LineReply) → AllStand look client_view x → claims (Answered given) ≡ false
+  pub may_reply_none : (client_view : ClientView D) (x : ExecutorView D) (given : LineReply) → AllBacked look client_view x → claims (Answered given) ≡ false
       → MayReply x given → MayBeReplied look client_view x given
-  may_reply_none client_view x given stands none says =
-      may_reply client_view x x given stands (none_stands x x (Answered given ∷ []) refl (states_nothing (Answered given) none)) says
+  may_reply_none client_view x given holds none says =
+      may_reply client_view x x given holds (none_holds x x (Answered given ∷ []) refl (states_nothing (Answered given) none)) says
 
   -- all agent processes are given up
-  pub abandoned_stands : (x y : ExecutorView D) → y ≡ abandoned x → StandsBehind look x y []
-  abandoned_stands x y given_up = one_stands x y Abandoned no_effects [] (given_up, refl) refl nothing
+  pub abandoned_holds : (x y : ExecutorView D) → y ≡ abandoned x → IsBacked look x y []
+  abandoned_holds x y given_up = one_holds x y Abandoned no_effects [] (given_up, refl) refl nothing

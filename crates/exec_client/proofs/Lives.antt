@@ -20,7 +20,7 @@ sent_lives start (InOpening old new now end ∷ older) reported zs over (ys, liv
     by_lists reported reported zs ys refl same (sent_lives start older reported ys over lived)
 sent_lives start (InOpening old new now end ∷ older) reported zs over (ys, lived, inr (may, is)) =
     by_lists reported reported zs _ refl is (behind_more reported ys _ (sent_lives start older reported ys over lived))
-sent_lives start (InService x ∷ older) reported zs (before, later, over, behind, same) (ys, p, lived, stands, is) =
+sent_lives start (InService x ∷ older) reported zs (before, later, over, behind, same) (ys, p, lived, holds, is) =
     by_lists reported (before ++ later) zs _ same is
     (both_behind before ys later _ (sent_lives start older before ys over lived)
-    (behind_after later _ p (by_lists later later p _ refl stands.acknowledged (behind_more later x.done.events stands.later behind))))
+    (behind_after later _ p (by_lists later later p _ refl holds.acknowledged (behind_more later x.done.events holds.later behind))))

@@ -22,8 +22,8 @@ use executor::laws::promise;
 /// The promise, with what clients were sent. Each history of incarnations has one list of events for which all of
 /// `executor::laws::promise` holds. In this list each acknowledgement and each notice that a client was sent in any incarnation has an
 /// event of its own, in the order in which they were sent.
-pub fn sent_stands<D: Disk>()
-    ensures stands { (start : State) (life : List (Sitting D)) (is : IsLife D.view start life)
+pub fn sent_holds<D: Disk>()
+    ensures holds { (start : State) (life : List (Sitting D)) (is : IsLife D.view start life)
         (reported : List SentItem) → SentOver life reported
         → (c : Image) → LifeLeaves D.view start life c
         → (zs : List Event) × FoundAs (after_all start zs) c

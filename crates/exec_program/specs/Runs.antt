@@ -86,7 +86,7 @@ EndsBy asked o watch ran ended =
 
 -- What a session is given before its executor is opened: its agents, which write to this log, with a book of the capacity that a turn
 -- needs; the wait for what is left, which takes its disk from one state to another; and the time of the opening.
-pub record Stands {F L A S R W H D : Type 0} (asked : Asked F L A S R W H) (tend : A → ChildrenView) (look : D → View) (o : Options)
+pub record PreparedRun {F L A S R W H D : Type 0} (asked : Asked F L A S R W H) (tend : A → ChildrenView) (look : D → View) (o : Options)
     (log : L) (old new : D) (agents : A) (left : List Left) (now : ℕ) : Type 0 where
   pub logs : asked.agents log agents
   pub fresh : tend agents ≡ fresh_agents book_room
@@ -113,7 +113,7 @@ pub record Runs {F L A S R W H D : Type 0} (asked : Asked F L A S R W H) (tend :
   pub ran : Result Unit Fault
   pub last_disk : D
   pub last_agents : A
-  pub stands : Stands asked tend look o log begun disk agents lives now
+  pub holds : PreparedRun asked tend look o log begun disk agents lives now
   pub opened : Opened look (look disk) (tend agents) now executor report.interrupted.items report.dropped.items
   pub at_site : executor.site ≡ site_of o
   pub of_site : asked.source (site_of o) source
@@ -137,7 +137,7 @@ pub record RunsNot {F L A S R W H D : Type 0} (asked : Asked F L A S R W H) (ten
   pub lives : List Left
   pub now : ℕ
   pub why : OpenError
-  pub stands : Stands asked tend look o log begun disk agents lives now
+  pub holds : PreparedRun asked tend look o log begun disk agents lives now
   pub refused : NotOpened (look disk) (look last_disk) (tend agents) (tend last_agents) now why
   pub ends : ended ≡ Err (opening_fault why)
 

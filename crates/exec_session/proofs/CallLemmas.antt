@@ -20,11 +20,11 @@ use Rattle.exec_commands.specs.declared.reply.LineReply.{LineReply}
 use Rattle.exec_commands.specs.declared.reply.LineReply.TheVariants as answer
 use Rattle.exec_client.specs.Behind.{nothing}
 use Rattle.exec_client.specs.ClientView.{ClientView, IsSent}
-use Rattle.exec_client.specs.MaySend.{StandsBehind}
+use Rattle.exec_client.specs.MaySend.{IsBacked}
 use Rattle.exec_client.specs.SentItem.{Answered, SentItem, answered}
 use Rattle.exec_client.specs.Sends.{noticed}
 use Rattle.exec_client.proofs.Behinds.{states_nothing}
-use Rattle.exec_client.proofs.Growing.{both_stand, none_stands, tidy_stands}
+use Rattle.exec_client.proofs.Growing.{both_hold, none_holds, tidy_holds}
 use Rattle.exec_session.specs.Answers.{IsOpenReply, ServesNow, Source}
 use Rattle.exec_trace.specs.declared.event.IoEvent.TheVariants.{Shown}
 use Rattle.exec_session.specs.Drains.{Drains, GoesOn, MakesTurn, Rests, at_start, further}
@@ -38,17 +38,17 @@ use Rattle.exec_session.specs.Together.{AnswersTogether}
 use Rattle.exec_session.specs.declared.drain.Terms.{Terms}
 use Rattle.exec_session.proofs.DrainLemmas.{closes, still_open}
 use Rattle.exec_session.proofs.LeaveLemmas.{finish_sent}
-use Rattle.exec_session.proofs.SendLemmas.{Plain, cleared_room, closed_plain, is_plain, refused_stand, request_stands, status_plain}
-use Rattle.exec_session.proofs.SendLemmas.{together_stand, turn_behind_room}
+use Rattle.exec_session.proofs.SendLemmas.{Plain, cleared_room, closed_plain, is_plain, refused_hold, request_holds, status_plain}
+use Rattle.exec_session.proofs.SendLemmas.{together_hold, turn_behind_room}
 
 -- a tidy by a call, or none, and no message
-room_stands : {D : Type 0} (look : D → View) (rules : Rules) (now : ℕ) (x y : ExecutorView D) → x.is_open ≡ true
-    → MakesRoom look rules now x y → StandsBehind look x y []
-room_stands look rules now x y is_open room = by (is_tidy_due rules x now room.pace) refl
+room_holds : {D : Type 0} (look : D → View) (rules : Rules) (now : ℕ) (x y : ExecutorView D) → x.is_open ≡ true
+    → MakesRoom look rules now x y → IsBacked look x y []
+room_holds look rules now x y is_open room = by (is_tidy_due rules x now room.pace) refl
   where
-    by : (b : Bool) → is_tidy_due rules x now room.pace ≡ b → StandsBehind look x y []
-    by true due = let made = room.made due in tidy_stands look x y made.0 is_open made.1
-    by false none = none_stands look x y [] (room.none none) nothing
+    by : (b : Bool) → is_tidy_due rules x now room.pace ≡ b → IsBacked look x y []
+    by true due = let made = room.made due in tidy_holds look x y made.0 is_open made.1
+    by false none = none_holds look x y [] (room.none none) nothing
 
 module _ {D : Type 0} (look : D → View) where
   abbrev Goes : Spot D → Spot D → Type 0
@@ -59,7 +59,7 @@ module _ {D : Type 0} (look : D → View) where
   here_still p = record {
     items = [];
     reported = (refl, sym (append-nil p.client_view.reported));
-    stands = none_stands look p.executor p.executor [] refl nothing;
+    holds = none_holds look p.executor p.executor [] refl nothing;
   }
 
   stays : (p q : Spot D) → q ≡ p → Goes p q
@@ -72,34 +72,34 @@ module _ {D : Type 0} (look : D → View) where
       two.reported.0 ∙ one.reported.0,
       two.reported.1 ∙ ap (λ (ss : List SentItem). ss ++ two.items) one.reported.1 ∙ append_assoc p.client_view.reported one.items two.items,
     );
-    stands = both_stand look p.executor m.executor q.executor one.items two.items one.stands two.stands;
+    holds = both_hold look p.executor m.executor q.executor one.items two.items one.holds two.holds;
   }
 
-  sent_go : (p q : Spot D) (more : List SentItem) → IsSent p.client_view q.client_view more → StandsBehind look p.executor q.executor more → Goes p q
-  sent_go p q more reported stands = record { items = more; reported = reported; stands = stands }
+  sent_go : (p q : Spot D) (more : List SentItem) → IsSent p.client_view q.client_view more → IsBacked look p.executor q.executor more → Goes p q
+  sent_go p q more reported holds = record { items = more; reported = reported; holds = holds }
 
   -- no message
-  quiet_go : (p q : Spot D) → q.client_view ≡ p.client_view → StandsBehind look p.executor q.executor [] → Goes p q
-  quiet_go p q same stands =
-      sent_go p q [] (subst (λ (h : ClientView D). IsSent p.client_view h []) (sym same) (refl, sym (append-nil p.client_view.reported))) stands
+  quiet_go : (p q : Spot D) → q.client_view ≡ p.client_view → IsBacked look p.executor q.executor [] → Goes p q
+  quiet_go p q same holds =
+      sent_go p q [] (subst (λ (h : ClientView D). IsSent p.client_view h []) (sym same) (refl, sym (append-nil p.client_view.reported))) holds
 
   -- no call: one question at most
   unmoved : (p q : Spot D) → q.executor ≡ p.executor → q.client_view ≡ p.client_view → Goes p q
-  unmoved p q same client_view = quiet_go p q client_view (none_stands look p.executor q.executor [] same nothing)
+  unmoved p q same client_view = quiet_go p q client_view (none_holds look p.executor q.executor [] same nothing)
 
   -- a reply that acknowledges no command
   plain_go : (form : NoticeForm) (s q : Spot D) (reply : LineReply) → Plain s.executor reply → SendsAll form s q (Answered reply ∷ [])
       → Goes s q
   plain_go form s q reply plain sends_all =
       sent_go s q (Answered reply ∷ []) sends_all.receives.reported
-      (none_stands look s.executor q.executor (Answered reply ∷ []) sends_all.executor (states_nothing (Answered reply) plain.0))
+      (none_holds look s.executor q.executor (Answered reply ∷ []) sends_all.executor (states_nothing (Answered reply) plain.0))
 
   -- messages of an executor that went on by calls
-  sends_go : (form : NoticeForm) (p s q : Spot D) (more : List SentItem) → s.client_view ≡ p.client_view → StandsBehind look p.executor s.executor more
+  sends_go : (form : NoticeForm) (p s q : Spot D) (more : List SentItem) → s.client_view ≡ p.client_view → IsBacked look p.executor s.executor more
       → SendsAll form s q more → Goes p q
-  sends_go form p s q more same stands sends_all =
+  sends_go form p s q more same holds sends_all =
       sent_go p q more (subst (λ (h : ClientView D). IsSent h q.client_view more) same sends_all.receives.reported)
-      (subst (λ (x : ExecutorView D). StandsBehind look p.executor x more) (sym sends_all.executor) stands)
+      (subst (λ (x : ExecutorView D). IsBacked look p.executor x more) (sym sends_all.executor) holds)
 
   -- a pause
   pauses_go : (since now : ℕ) (client_view : Bool) (p q : Spot D) → Pauses since now client_view p q → Goes p q
@@ -117,22 +117,22 @@ module _ {D : Type 0} (look : D → View) where
   module _ (rules : Rules) where
     -- a request, after a due tidy
     request_goes : (request : Request) (p s : Spot D) (reply : LineReply) → p.executor.is_open ≡ true
-        → ServesNow look rules request p s reply → StandsBehind look p.executor s.executor (Answered reply ∷ [])
+        → ServesNow look rules request p s reply → IsBacked look p.executor s.executor (Answered reply ∷ [])
     request_goes request p s reply is_open serves =
-        subst (λ (r : LineReply). StandsBehind look p.executor s.executor (Answered r ∷ [])) (sym serves.reported)
+        subst (λ (r : LineReply). IsBacked look p.executor s.executor (Answered r ∷ [])) (sym serves.reported)
         (by serves.middle.is_open refl)
       where
-        room : StandsBehind look p.executor serves.middle []
-        room = room_stands look rules serves.now p.executor serves.middle is_open serves.room
+        room : IsBacked look p.executor serves.middle []
+        room = room_holds look rules serves.now p.executor serves.middle is_open serves.room
 
-        by : (b : Bool) → serves.middle.is_open ≡ b → StandsBehind look p.executor s.executor (answered serves.given ∷ [])
+        by : (b : Bool) → serves.middle.is_open ≡ b → IsBacked look p.executor s.executor (answered serves.given ∷ [])
         by true open_still =
-            request_stands look serves.now request p.executor serves.middle s.executor serves.given room (serves.serves open_still)
+            request_holds look serves.now request p.executor serves.middle s.executor serves.given room (serves.serves open_still)
             serves.closes
         by false closed =
             let (refused, same) = serves.fails closed in
-            subst (λ (z : ExecutorView D). StandsBehind look p.executor z (answered serves.given ∷ [])) (sym same)
-            (refused_stand look p.executor serves.middle 1 (serves.given ∷ []) (ap (λ (r : Reply). r ∷ []) refused) room)
+            subst (λ (z : ExecutorView D). IsBacked look p.executor z (answered serves.given ∷ [])) (sym same)
+            (refused_hold look p.executor serves.middle 1 (serves.given ∷ []) (ap (λ (r : Reply). r ∷ []) refused) room)
 
     -- a group commit
     together_goes : (commands : List Command) (p q : Spot D) → p.executor.is_open ≡ true → AnswersTogether look rules commands p q
@@ -143,17 +143,17 @@ module _ {D : Type 0} (look : D → View) where
         middle : ExecutorView D
         middle = together.serves.middle
 
-        room : StandsBehind look p.executor middle []
-        room = room_stands look rules together.now p.executor middle is_open together.serves.room
+        room : IsBacked look p.executor middle []
+        room = room_holds look rules together.now p.executor middle is_open together.serves.room
 
-        by : (b : Bool) → middle.is_open ≡ b → StandsBehind look p.executor q.executor (map answered together.given)
+        by : (b : Bool) → middle.is_open ≡ b → IsBacked look p.executor q.executor (map answered together.given)
         by true open_still =
-            together_stand look together.now commands p.executor middle q.executor together.given room
+            together_hold look together.now commands p.executor middle q.executor together.given room
             (together.serves.takes open_still)
         by false closed =
             let (refused, same) = together.serves.fails closed in
-            subst (λ (z : ExecutorView D). StandsBehind look p.executor z (map answered together.given)) (sym same)
-            (refused_stand look p.executor middle (length commands) together.given refused room)
+            subst (λ (z : ExecutorView D). IsBacked look p.executor z (map answered together.given)) (sym same)
+            (refused_hold look p.executor middle (length commands) together.given refused room)
 
     -- a turn of a drain
     turn_goes : (now : ℕ) (p q : Spot D) (end : TurnEnd) → p.executor.is_open ≡ true → MakesTurn look rules now p q end → Goes p q
@@ -162,8 +162,8 @@ module _ {D : Type 0} (look : D → View) where
         cleared : ExecutorView D
         cleared = with_empty_book p.executor
 
-        room : StandsBehind look p.executor made.middle []
-        room = cleared_room look p.executor cleared made.middle refl (room_stands look rules now cleared made.middle is_open made.room)
+        room : IsBacked look p.executor made.middle []
+        room = cleared_room look p.executor cleared made.middle refl (room_holds look rules now cleared made.middle is_open made.room)
 
         by : (b : Bool) → made.middle.is_open ≡ b → Goes p q
         by true open_still =
@@ -172,7 +172,7 @@ module _ {D : Type 0} (look : D → View) where
         by false closed =
             let (ended, same) = made.fails closed in
             quiet_go p q (ap (λ (s : Spot D). s.client_view) same)
-            (subst (λ (z : ExecutorView D). StandsBehind look p.executor z []) (sym (ap (λ (s : Spot D). s.executor) same)) room)
+            (subst (λ (z : ExecutorView D). IsBacked look p.executor z []) (sym (ap (λ (s : Spot D). s.executor) same)) room)
 
     -- turns after which it goes on, each from an executor that is still open
     pub turns_go : (t : Terms) (start : ℕ) (p : Spot D) (turns now : ℕ) (q : Spot D)
@@ -211,7 +211,7 @@ module _ {D : Type 0} (look : D → View) where
         (drain_goes _ _ (behind p (Shown now)) s end is_open drains))
         (plain_go rules.form s q reply (is_plain s.executor reply (answer.Drain end) is (refl, tt)) sends_all)
     open_goes source p s q (Ok line.Tidy) reply is_open (end, is, tidies, same) sends_all =
-        both_go p s q (quiet_go p s (ap (λ (t : Spot D). t.client_view) same) (tidy_stands look p.executor s.executor end is_open tidies))
+        both_go p s q (quiet_go p s (ap (λ (t : Spot D). t.client_view) same) (tidy_holds look p.executor s.executor end is_open tidies))
         (plain_go rules.form s q reply (is_plain s.executor reply (answer.Tidy end) is (refl, tt)) sends_all)
     open_goes source p s q (Ok line.Leave) reply is_open (is, same) sends_all =
         both_go p s q (stays p s same)

@@ -5,18 +5,18 @@ use Rattle.disk_model.specs.View.{View}
 use Rattle.executor.specs.ExecutorView.{ExecutorView}
 use Rattle.executor.specs.TurnCalls.{FinishesTurn, FinishesWhile, with_empty_book}
 use Rattle.exec_turn.specs.Actives.{any_running}
-use Rattle.exec_client.specs.MaySend.{StandsBehind}
+use Rattle.exec_client.specs.MaySend.{IsBacked}
 use Rattle.exec_client.specs.Sends.{noticed}
-use Rattle.exec_client.proofs.Growing.{both_stand, cleared_stands, finish_stands}
+use Rattle.exec_client.proofs.Growing.{both_hold, cleared_holds, finish_holds}
 use Rattle.exec_session.specs.Leaving.{FinishReceived, WindsOne}
 use Rattle.exec_session.specs.Spots.{Spot, Sending}
 
 -- the notices of a turn that begins nothing are backed by what it recorded
 pub finish_sent : {D : Type 0} (look : D → View) (now : ℕ) (x y z : ExecutorView D) (end : TurnEnd) → y ≡ with_empty_book x → x.is_open ≡ true
-    → FinishesTurn look now y z end → StandsBehind look x z (noticed z)
+    → FinishesTurn look now y z end → IsBacked look x z (noticed z)
 finish_sent look now x y z end cleared is_open takes =
-    both_stand look x y z [] (noticed z) (cleared_stands look x y cleared)
-    (finish_stands look now y z end (subst (λ (c : ExecutorView _). c.is_open ≡ true) (sym cleared) is_open) takes)
+    both_hold look x y z [] (noticed z) (cleared_holds look x y cleared)
+    (finish_holds look now y z end (subst (λ (c : ExecutorView _). c.is_open ≡ true) (sym cleared) is_open) takes)
 
 -- a turn that begins nothing, after the book was emptied
 pub finish_taken : {D : Type 0} (look : D → View) (now : ℕ) (x y z : ExecutorView D) (end : TurnEnd) → y ≡ with_empty_book x

@@ -21,11 +21,11 @@ use Rattle.exec_commands.specs.declared.reply.LineReply.{LineReply}
 use Rattle.exec_commands.specs.declared.reply.LineReply.TheVariants as answer
 use Rattle.exec_client.specs.Behind.{Behind, claims, nothing, states_else}
 use Rattle.exec_client.specs.ClientView.{ClientView, IsSent}
-use Rattle.exec_client.specs.MaySend.{AllStand, MayAnswer, MayReply, StandsBehind}
+use Rattle.exec_client.specs.MaySend.{AllBacked, MayAnswer, MayReply, IsBacked}
 use Rattle.exec_client.specs.SentItem.{Answered, Reported, SentItem, answered}
 use Rattle.exec_client.specs.Sends.{noticed}
 use Rattle.exec_client.proofs.Behinds.{states_nothing}
-use Rattle.exec_client.proofs.Growing.{both_stand, cleared_stands, commands_stand, none_stands, serves_stands, turn_stands}
+use Rattle.exec_client.proofs.Growing.{both_hold, cleared_holds, commands_hold, none_holds, serves_holds, turn_holds}
 use Rattle.exec_client.proofs.Plain.{commands_plain, obeys_plain, refused_plain}
 use Rattle.exec_client.proofs.Saying.{may_answer}
 use Rattle.exec_session.specs.Answers.{IsClosedReply, IsStatusReply, Source}
@@ -64,14 +64,14 @@ status_plain x given is_open (inr (is, refuses)) = is_plain x given _ is (refl, 
 
 module _ {D : Type 0} (look : D → View) where
   -- one more message, which acknowledges no command and reports no result
-  pub one_more : (x y : ExecutorView D) (s : SentItem) → claims s ≡ false → StandsBehind look x y [] → StandsBehind look x y (s ∷ [])
-  one_more x y s none stands = both_stand look x y y [] (s ∷ []) stands (none_stands look y y (s ∷ []) refl (states_nothing s none))
+  pub one_more : (x y : ExecutorView D) (s : SentItem) → claims s ≡ false → IsBacked look x y [] → IsBacked look x y (s ∷ [])
+  one_more x y s none holds = both_hold look x y y [] (s ∷ []) holds (none_holds look y y (s ∷ []) refl (states_nothing s none))
 
   -- a request, after a due tidy
-  pub request_stands : (now : ℕ) (request : Request) (x m y : ExecutorView D) (r : Reply) → StandsBehind look x m []
-      → Serves look now request m y r → ((y.is_open ≡ false) ↔ (r ≡ Refused Disk)) → StandsBehind look x y (answered r ∷ [])
-  request_stands now request x m y r room serves closes =
-      both_stand look x m y [] (answered r ∷ []) room (serves_stands look now request m y r serves (λ _. closes))
+  pub request_holds : (now : ℕ) (request : Request) (x m y : ExecutorView D) (r : Reply) → IsBacked look x m []
+      → Serves look now request m y r → ((y.is_open ≡ false) ↔ (r ≡ Refused Disk)) → IsBacked look x y (answered r ∷ [])
+  request_holds now request x m y r room serves closes =
+      both_hold look x m y [] (answered r ∷ []) room (serves_holds look now request m y r serves (λ _. closes))
 
   open_states : (now : ℕ) (request : Request) (x y : ExecutorView D) (r : Reply) → x.is_open ≡ true → ServesOpen look now request x y r
       → MayAnswer y r
@@ -85,53 +85,53 @@ module _ {D : Type 0} (look : D → View) where
       open_states now request x y r is_open (subst (λ (b : Bool). ServesWhile b look now request x y r) is_open serves)
 
   -- a group commit, after a due tidy
-  pub together_stand : (now : ℕ) (commands : List Command) (x m y : ExecutorView D) (rs : List Reply) → StandsBehind look x m []
-      → TakesCommands look now commands m y rs → StandsBehind look x y (map answered rs)
-  together_stand now commands x m y rs room takes =
-      both_stand look x m y [] (map answered rs) room (commands_stand look now commands m y rs takes)
+  pub together_hold : (now : ℕ) (commands : List Command) (x m y : ExecutorView D) (rs : List Reply) → IsBacked look x m []
+      → TakesCommands look now commands m y rs → IsBacked look x y (map answered rs)
+  together_hold now commands x m y rs room takes =
+      both_hold look x m y [] (map answered rs) room (commands_hold look now commands m y rs takes)
 
   pub together_states : (now : ℕ) (commands : List Command) (x y : ExecutorView D) (rs : List Reply) → TakesCommands look now commands x y rs
       → AllByRecursion (MayAnswer y) rs
   together_states now commands x y rs takes = commands_plain y look now commands x y rs takes
 
   -- each of them refused for the disk
-  pub refused_stand : (x y : ExecutorView D) (n : ℕ) (rs : List Reply) → rs ≡ replicate n (Refused Disk) → StandsBehind look x y []
-      → StandsBehind look x y (map answered rs)
-  refused_stand x y n rs same room =
-      subst (λ (ts : List Reply). StandsBehind look x y (map answered ts)) (sym same)
-      (both_stand look x y y [] (map answered (replicate n (Refused Disk))) room
-      (none_stands look y y (map answered (replicate n (Refused Disk))) refl (each_refused n)))
+  pub refused_hold : (x y : ExecutorView D) (n : ℕ) (rs : List Reply) → rs ≡ replicate n (Refused Disk) → IsBacked look x y []
+      → IsBacked look x y (map answered rs)
+  refused_hold x y n rs same room =
+      subst (λ (ts : List Reply). IsBacked look x y (map answered ts)) (sym same)
+      (both_hold look x y y [] (map answered (replicate n (Refused Disk))) room
+      (none_holds look y y (map answered (replicate n (Refused Disk))) refl (each_refused n)))
 
   pub refused_states : (y : ExecutorView D) (n : ℕ) (rs : List Reply) → rs ≡ replicate n (Refused Disk) → AllByRecursion (MayAnswer y) rs
   refused_states y n rs same = subst (λ (ts : List Reply). AllByRecursion (MayAnswer y) ts) (sym same) (refused_plain y n)
 
   -- a tidy after the book was emptied, and then a turn
-  pub cleared_room : (x c m : ExecutorView D) → c ≡ with_empty_book x → StandsBehind look c m [] → StandsBehind look x m []
-  cleared_room x c m cleared room = both_stand look x c m [] [] (cleared_stands look x c cleared) room
+  pub cleared_room : (x c m : ExecutorView D) → c ≡ with_empty_book x → IsBacked look c m [] → IsBacked look x m []
+  cleared_room x c m cleared room = both_hold look x c m [] [] (cleared_holds look x c cleared) room
 
-  pub turn_behind_room : (now : ℕ) (x m y : ExecutorView D) (end : TurnEnd) → StandsBehind look x m [] → m.is_open ≡ true
-      → TakesTurn look now m y end → StandsBehind look x y (noticed y)
+  pub turn_behind_room : (now : ℕ) (x m y : ExecutorView D) (end : TurnEnd) → IsBacked look x m [] → m.is_open ≡ true
+      → TakesTurn look now m y end → IsBacked look x y (noticed y)
   turn_behind_room now x m y end room is_open takes =
-      both_stand look x m y [] (noticed y) room (turn_stands look now m y end is_open takes)
+      both_hold look x m y [] (noticed y) room (turn_holds look now m y end is_open takes)
 
   -- nothing was sent yet
-  pub new_stands : (client_view : ClientView D) (x : ExecutorView D) → IsNew client_view x → AllStand look client_view x
-  new_stands client_view x (opened, untold, is_open) =
-      subst (λ (o : ExecutorView D). StandsBehind look o x client_view.reported) (sym opened)
-      (subst (λ (ss : List SentItem). StandsBehind look x x ss) (sym untold) (none_stands look x x [] refl nothing))
+  pub new_holds : (client_view : ClientView D) (x : ExecutorView D) → IsNew client_view x → AllBacked look client_view x
+  new_holds client_view x (opened, untold, is_open) =
+      subst (λ (o : ExecutorView D). IsBacked look o x client_view.reported) (sym opened)
+      (subst (λ (ss : List SentItem). IsBacked look x x ss) (sym untold) (none_holds look x x [] refl nothing))
 
   -- messages of an executor that went on by calls
-  pub after_sent : (client_view client_view' : ClientView D) (x y : ExecutorView D) (items : List SentItem) → AllStand look client_view x → StandsBehind look x y items
-      → IsSent client_view client_view' items → AllStand look client_view' y
-  after_sent client_view client_view' x y items stands more reported =
-      subst (λ (o : ExecutorView D). StandsBehind look o y client_view'.reported) (sym reported.0)
-      (subst (λ (ss : List SentItem). StandsBehind look client_view.opened y ss) (sym reported.1)
-      (both_stand look client_view.opened x y client_view.reported items stands more))
+  pub after_sent : (client_view client_view' : ClientView D) (x y : ExecutorView D) (items : List SentItem) → AllBacked look client_view x → IsBacked look x y items
+      → IsSent client_view client_view' items → AllBacked look client_view' y
+  after_sent client_view client_view' x y items holds more reported =
+      subst (λ (o : ExecutorView D). IsBacked look o y client_view'.reported) (sym reported.0)
+      (subst (λ (ss : List SentItem). IsBacked look client_view.opened y ss) (sym reported.1)
+      (both_hold look client_view.opened x y client_view.reported items holds more))
 
   -- the report of an opening acknowledges nothing that was recorded since
   opening_report : (ns : List Notice) → Behind (map Reported ns) []
   opening_report [] = nothing
   opening_report (n ∷ ns) = states_else (Reported n) (map Reported ns) [] refl (opening_report ns)
 
-  pub reported_stand : (x : ExecutorView D) (ns : List Notice) → StandsBehind look x x (map Reported ns)
-  reported_stand x ns = none_stands look x x (map Reported ns) refl (opening_report ns)
+  pub reported_hold : (x : ExecutorView D) (ns : List Notice) → IsBacked look x x (map Reported ns)
+  reported_hold x ns = none_holds look x x (map Reported ns) refl (opening_report ns)

@@ -6,7 +6,7 @@ use Rattle.ocf_types.specs.declared.reply.TurnEnd.TheVariants.{Disk}
 use Rattle.disk_model.specs.View.{View}
 use Rattle.executor.specs.ExecutorView.{ExecutorView}
 use Rattle.executor.specs.TurnCalls.{FinishesTurn, TakesTurn, with_empty_book}
-use Rattle.exec_client.specs.MaySend.{AllStand}
+use Rattle.exec_client.specs.MaySend.{AllBacked}
 use Rattle.exec_client.specs.SentItem.{answered}
 use Rattle.exec_client.specs.Sends.{noticed}
 use Rattle.exec_trace.specs.Edges.{EdgeView, noting, rested}
@@ -48,8 +48,8 @@ module _ {D : Type 0} where
 
   module _ (look : D → View) where
     -- all that was sent is recorded, with the messages since
-    pub stands_part : (x : ExecutorView D) (e : EdgeView D) (p : Position D) → at_of x e ≡ p → AllStand look e.client_view x → AllStand look p.at.client_view p.at.executor
-    stands_part x e p is stands = whole (λ (P : Position D). AllStand look P.at.client_view P.at.executor) x e p is stands
+    pub holds_part : (x : ExecutorView D) (e : EdgeView D) (p : Position D) → at_of x e ≡ p → AllBacked look e.client_view x → AllBacked look p.at.client_view p.at.executor
+    holds_part x e p is holds = whole (λ (P : Position D). AllBacked look P.at.client_view P.at.executor) x e p is holds
 
   module _ (sends_so : Sending D) (look : D → View) where
     pub turn_heard : (rules : Rules) (now : ℕ) (x c m y : ExecutorView D) (e : EdgeView D) (p : Position D) (q : Spot D) (end : TurnEnd)

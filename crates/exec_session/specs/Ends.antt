@@ -5,7 +5,7 @@ use Rattle.child_model.specs.Children.{ChildrenView, given_up}
 use Rattle.executor.specs.ExecutorView.{ExecutorView}
 use Rattle.executor.specs.declared.report.Report.{Report}
 use Rattle.exec_client.specs.ClientView.{ClientView}
-use Rattle.exec_client.specs.MaySend.{StandsBehind}
+use Rattle.exec_client.specs.MaySend.{IsBacked}
 use Rattle.exec_trace.specs.Edges.{EdgeView}
 use Rattle.exec_faults.specs.declared.fault.Fault.{Fault}
 use Rattle.exec_faults.specs.declared.fault.Fault.TheVariants.{Disk, InputOrOutput, ReplyMemory}
@@ -49,7 +49,7 @@ pub record Ended {D C N : Type 0} (look : D → View) (tend : C → ChildrenView
 -- backed by what they recorded. This disk and these agents are those that it gave back.
 pub record ClosesByCalls {D : Type 0} (look : D → View) (opened : ExecutorView D) (client_view : ClientView D) (disk : D) (children : ChildrenView) : Type 0 where
   pub last : ExecutorView D
-  pub stands : StandsBehind look opened last client_view.reported
+  pub holds : IsBacked look opened last client_view.reported
   pub is_closed : last.is_open ≡ false
   pub disk_is : disk ≡ last.disk
   pub children_are : children ≡ last.children

@@ -9,7 +9,7 @@ use Rattle.ocf_types.specs.declared.refusal.Refusal.{Refusal}
 use Rattle.ocf_types.specs.declared.reply.TurnEnd.{TurnEnd}
 use Rattle.ocf_types.specs.declared.reply.TurnEnd.TheVariants.{Disk, Done}
 use Rattle.exec_client.specs.ClientView.{ClientView, IsSent}
-use Rattle.exec_client.specs.MaySend.{StandsBehind}
+use Rattle.exec_client.specs.MaySend.{IsBacked}
 use Rattle.exec_client.specs.SentItem.{SentItem}
 use Rattle.exec_session.specs.declared.context.Way.{Way}
 use Rattle.exec_session.specs.declared.context.Way.TheVariants.{Run, Serve}
@@ -211,4 +211,4 @@ Finishes look source rules p q =
 pub record GoesByCalls {D : Type 0} (look : D → View) (p q : Spot D) : Type 0 where
   pub items : List SentItem
   pub reported : IsSent p.client_view q.client_view items
-  pub stands : StandsBehind look p.executor q.executor items
+  pub holds : IsBacked look p.executor q.executor items

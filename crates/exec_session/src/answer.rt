@@ -7,7 +7,7 @@ ghost use Rattle.executor.specs.Commands.{Serves};
 ghost use Rattle.executor.specs.CommandBatches.{TakesCommands};
 ghost use Rattle.exec_commands.specs.declared.line.Line.TheVariants as line;
 ghost use Rattle.exec_commands.specs.declared.reply.LineReply.TheVariants as answer;
-ghost use Rattle.exec_client.specs.MaySend.{MayAnswer, StandsBehind};
+ghost use Rattle.exec_client.specs.MaySend.{MayAnswer, IsBacked};
 ghost use Rattle.exec_client.specs.SentItem.{Answered, answered};
 ghost use Rattle.exec_session.specs.Answers.{IsClosedReply, IsMetaReply, IsStatusReply, TidiesNow};
 ghost use Rattle.exec_session.specs.Answers.{closed_drain, closed_tidy, refused};
@@ -101,7 +101,7 @@ fn request_reply<D: Disk + Drop, C: Children + Drop>(
     request: Request,
     now: u64,
 ) -> Reply
-    ensures stands { StandsBehind D.view executor.old executor.new (answered result ∷ []) }
+    ensures holds { IsBacked D.view executor.old executor.new (answered result ∷ []) }
     ensures says { MayAnswer executor.new result }
     ensures serves { executor.old.is_open ≡ true
         → Serves D.view now request executor.old executor.new result }
@@ -135,7 +135,7 @@ fn serve_gathered<D: Disk + Drop, C: Children + Drop>(
     gathered: &mut Gathered,
     now: u64,
 )
-    ensures stands { StandsBehind D.view executor.old executor.new
+    ensures holds { IsBacked D.view executor.old executor.new
         (map answered (replied gathered.new)) }
     ensures says { AllByRecursion (MayAnswer executor.new) (replied gathered.new) }
     ensures takes { executor.old.is_open ≡ true → TakesCommands D.view now

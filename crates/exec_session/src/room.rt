@@ -2,7 +2,7 @@
 ghost use Rattle.std.specs.Prelude.{◌≡◌, ◌≤◌, ◌+◌, ◌/◌, ◌^◌, [], true};
 ghost use Rattle.exec_journal.specs.Tidying.{tidied_tail};
 ghost use Rattle.executor.specs.TidyCalls.{TidiesWhile};
-ghost use Rattle.exec_client.specs.MaySend.{StandsBehind};
+ghost use Rattle.exec_client.specs.MaySend.{IsBacked};
 ghost use Rattle.exec_session.specs.Rules.{MakesRoom, is_at_leisure, is_monitor_due, is_tidy_due, rules_of};
 
 use crate::context::RunContext;
@@ -108,7 +108,7 @@ pub fn make_room<D: Disk + Drop, C: Children + Drop, K: Clock, M>(
     now: u64,
 ) -> bool
     requires open { executor.old.is_open ≡ true }
-    ensures stands { StandsBehind D.view executor.old executor.new [] }
+    ensures holds { IsBacked D.view executor.old executor.new [] }
     ensures makes { MakesRoom D.view (rules_of context.now) now executor.old executor.new }
     ensures value { result ≡ executor.new.is_open }
 {

@@ -1,7 +1,7 @@
 //! Messages that acknowledge no command, the report of an opening, and the line that a session is ready.
 ghost use Rattle.std.specs.Prelude.{◌≡◌, [], ◌∷◌, false};
 ghost use Rattle.exec_client.specs.Behind.{claims};
-ghost use Rattle.exec_client.specs.MaySend.{MayReply, IsOfView, StandsBehind};
+ghost use Rattle.exec_client.specs.MaySend.{MayReply, IsOfView, IsBacked};
 ghost use Rattle.exec_client.specs.SentItem.{Answered, sent_in};
 ghost use Rattle.exec_session.specs.Reports.{IsReportOf, ReadyBreaks, ReportBreaks, SendsReady, SendsReport, counts_of, ended};
 ghost use Rattle.exec_session.specs.Steps.{Sends, Steps};
@@ -28,7 +28,7 @@ impl<'a, R: Input, D: Disk + Drop, C: Children + Drop, T: Client<D, C>, K: Clock
 > {
     /// Sends a message that acknowledges no command and reports no new result; notices in this form.
     pub fn send(&mut self, form: NoticeForm, what: &Message) -> Result<(), Failed>
-        requires stands { StandsBehind D.view self.old.at.executor self.old.at.executor
+        requires holds { IsBacked D.view self.old.at.executor self.old.at.executor
             (sent_in what.now) }
         requires says { IsOfView self.old.at.executor what.now }
         ensures sends { Sends form.entry (sent_in what.now) self.old self.new result }

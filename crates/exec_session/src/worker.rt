@@ -5,7 +5,7 @@ ghost use Rattle.ocf_types.specs.Numbers.{IsMoment};
 ghost use Rattle.recurring.specs.Monitors.{IsFirstMoment};
 ghost use Rattle.exec_state.specs.Store.{all_pairs};
 ghost use Rattle.exec_turn.specs.Actives.{any_running};
-ghost use Rattle.exec_client.specs.MaySend.{AllStand};
+ghost use Rattle.exec_client.specs.MaySend.{AllBacked};
 ghost use Rattle.exec_lines.specs.Buffer.{line_bytes};
 ghost use Rattle.exec_lines.specs.Pieces.{IsMidLine, IsNext};
 ghost use Rattle.exec_session.specs.Pausing.{IsQuietSince};
@@ -37,7 +37,7 @@ pub struct Worker<'a, R: Input, D: Disk + Drop, C: Children + Drop, T: Client<D,
 
 impl<'a, R: Input, D: Disk + Drop, C: Children + Drop, T: Client<D, C>, K: Clock> Model
     for Worker<'a, R, D, C, T, K> {
-    ghost use Rattle.exec_client.specs.MaySend.{AllStand};
+    ghost use Rattle.exec_client.specs.MaySend.{AllBacked};
     ghost use Rattle.exec_session.specs.Spots.{Position, at_of};
     ghost use Rattle.serde_json.specs.contracts.value.Value as json_value;
     ghost use Rattle.std.specs.Coded.{codes};
@@ -48,7 +48,7 @@ impl<'a, R: Input, D: Disk + Drop, C: Children + Drop, T: Client<D, C>, K: Clock
 
     ghost view = { λ w. at_of w.executor w.edge };
 
-    ghost invariant = { λ w. AllStand D.view w.edge.client_view w.executor };
+    ghost invariant = { λ w. AllBacked D.view w.edge.client_view w.executor };
 }
 
 impl<'a, R: Input, D: Disk + Drop, C: Children + Drop, T: Client<D, C>, K: Clock> Worker<
@@ -60,7 +60,7 @@ impl<'a, R: Input, D: Disk + Drop, C: Children + Drop, T: Client<D, C>, K: Clock
     K,
 > {
     /// An executor that was just opened, and a client that was sent nothing yet.
-    #[tactic(auto, using(crate::proofs::SendLemmas::new_stands))]
+    #[tactic(auto, using(crate::proofs::SendLemmas::new_holds))]
     pub fn new(edge: Edge<'a, R, D, C, T, K>, executor: Executor<D, C>) -> Worker<'a, R, D, C, T, K>
         requires fresh { IsNew edge.client_view executor }
         ensures { result ≡ at_of executor edge.entry }
@@ -71,7 +71,7 @@ impl<'a, R: Input, D: Disk + Drop, C: Children + Drop, T: Client<D, C>, K: Clock
     /// The edge and the executor.
     pub fn into_parts(self) -> (Edge<'a, R, D, C, T, K>, Executor<D, C>)
         ensures parts { at_of result.1 result.0 ≡ self.entry }
-        ensures stands { AllStand D.view result.0.client_view result.1 }
+        ensures holds { AllBacked D.view result.0.client_view result.1 }
     {
         let Worker { edge, executor } = self;
         (edge, executor)

@@ -53,12 +53,12 @@ then_started look old new s t at clock bs xs lawful same each leaves = record {
     begins = subst (λ (l : List Active). HasBegin run (begins at l)) each found.1;
     counted = found.0 ∙ same;
     before = subst (λ (l : List Event). CrashesTo (look old) (look new) (Prefix s l)) (append-nil (begins at bs)) leaves.crash;
-    stands = stands;
-    behind = started (look new) (Prefix (after_all s (begins at bs)) []) (λ h c now. ([], [], refl, stands h c now)) lawful;
+    holds = holds;
+    behind = started (look new) (Prefix (after_all s (begins at bs)) []) (λ h c now. ([], [], refl, holds h c now)) lawful;
   };
   reserved = leaves.reserved;
 }
   where
-    stands : (look new).honest → (c : Image) → (look new).now c → FoundAs (after_all s (begins at bs)) c
-    stands h c now = subst (λ (x : State). FoundAs x c) leaves.state
+    holds : (look new).honest → (c : Image) → (look new).now c → FoundAs (after_all s (begins at bs)) c
+    holds h c now = subst (λ (x : State). FoundAs x c) leaves.state
         (settles look old new s t (record { entries = []; events = begins at bs; pending = [] }) refl leaves h c now)

@@ -10,7 +10,7 @@ use crate::buffers::TurnBuffers;
 use crate::turn::record_polls;
 use child_model::Children;
 use disk_model::{Disk, DiskFault};
-use exec_journal::laws::what_stands;
+use exec_journal::laws::lemma_journal_holds;
 use exec_ledger::Ledger;
 use exec_state::State;
 use growth::Grows;
@@ -53,7 +53,7 @@ pub fn finish_turn<D: Disk + Drop, C: Children, A: Grows>(
     ensures closes { ledger.new.is_open ≡ false ↔ (result ≡ TurnEnd.Disk) }
     ensures matched { result ≢ TurnEnd.Disk → ChildrenMatch ledger.new.state (C.view children.new) }
 {
-    what_stands();
+    lemma_journal_holds();
     ledger.known();
     let state = ledger.state();
     if children.room() / 2 < state.len() {

@@ -11,7 +11,7 @@ as_calls (i ∷ is) (r ∷ rs) = Took i r ∷ as_calls is rs
 as_calls _ _ = []
 
 -- A machine agrees with another: it has its resource, the due moments of its monitors, and numbers that are not above its.
-pub record StandsAt (x y : Isolated) : Type 0 where
+pub record SameIsolated (x y : Isolated) : Type 0 where
   pub resource : x.resource ≡ y.resource
   pub due : (call : ℕ) → has_monitor y.resource call ≡ true → x.due call ≡ y.due call
   pub calls : x.next_call ≤ y.next_call

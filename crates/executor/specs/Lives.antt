@@ -140,7 +140,7 @@ boots s now = option_to_list (boot_event s (moment s now))
 
 -- The events of an incarnation that remain after its crash: a prefix of them that has all events that the returned calls recorded,
 -- and the begin of each start that was asked before the crash.
-pub record Stands {D : Type 0} (x : Service D) (p : List Event) : Type 0 where
+pub record Survives {D : Type 0} (x : Service D) (p : List Event) : Type 0 where
   pub others : List Event
   pub prefix : p ++ others ≡ (followed_by x.done x.under_way).events ++ (followed_by x.done x.under_way).pending
   pub later : List Event
@@ -154,13 +154,13 @@ Lived start [] zs = zs ≡ []
 Lived {D} start (InOpening old new now end ∷ older) zs =
     (ys : List Event) × Lived start older ys × ((zs ≡ ys) ⊎ (MayBoot end × (zs ≡ ys ++ boots (after_all start ys) now)))
 Lived {D} start (InService x ∷ older) zs =
-    (ys : List Event) × (p : List Event) × Lived start older ys × Stands x p × (zs ≡ ys ++ (boots (after_all start ys) x.now ++ p))
+    (ys : List Event) × (p : List Event) × Lived start older ys × Survives x p × (zs ≡ ys ++ (boots (after_all start ys) x.now ++ p))
 
 -- An opening after a history gives this state and this report: the state after the events that remain and the boot; the actions that
 -- ran there are reported as interrupted, those that were queued as dropped.
 pub record OpensBehind {D : Type 0} (start : State) (life : List (Sitting D)) (now : ℕ) (t : State) (was_running was_queued : List Notice) : Type 0 where
-  pub stands : List Event
-  pub lived : Lived start life stands
-  pub state : t ≡ booted (after_all start stands) now
-  pub ran : was_running ≡ interrupted (after_all start stands) (moment (after_all start stands) now)
-  pub queued : was_queued ≡ dropped (after_all start stands) (moment (after_all start stands) now)
+  pub holds : List Event
+  pub lived : Lived start life holds
+  pub state : t ≡ booted (after_all start holds) now
+  pub ran : was_running ≡ interrupted (after_all start holds) (moment (after_all start holds) now)
+  pub queued : was_queued ≡ dropped (after_all start holds) (moment (after_all start holds) now)

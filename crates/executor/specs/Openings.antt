@@ -11,7 +11,7 @@ use Rattle.disk_model.specs.View.{Increased, Unwritten, View}
 use Rattle.child_model.specs.Children.{ChildrenView, given_up}
 use Rattle.gated_slots.specs.declared.append.SlotFault.{SlotFault}
 use Rattle.gated_slots.specs.declared.append.SlotFault.TheVariants as slot
-use Rattle.exec_journal.specs.Found.{FoundAs, HasDamage, IsToWrite, StandsAt}
+use Rattle.exec_journal.specs.Found.{FoundAs, HasDamage, IsToWrite, JournalAt}
 use Rattle.exec_journal.specs.Opening.{OpensLike}
 use Rattle.exec_journal.specs.Place.{Place}
 use Rattle.exec_journal.specs.Reserve.{AllHaveReserve, PairHasReserve}
@@ -42,7 +42,7 @@ StartsLike old now c = OpensLike old c ⊎ ((s : State) × FoundAs s old.reads �
 pub record LacksReserve (c : Image) : Type 0 where
   pub place : Place
   pub state : State
-  pub stands : StandsAt place state c
+  pub holds : JournalAt place state c
   pub lacks : LacksBoot place.tail state
 
 -- these parts hold a journal of the second layout in which nothing is queued or running, or a damaged one of either

@@ -37,8 +37,8 @@ opened_on s now refuses =
     record { is_open = true; state = booted s now; due = due_at (booted s now) (moment s now); refuses = refuses }
 
 -- the events of calls that remain after a crash: all that were recorded when a call returned, and a prefix of the others
-abbrev pub StandsOf : Effects → Effects → List Event → Type 0
-StandsOf returned under_way p = (later : List Event) × (others : List Event) × (p ≡ returned.events ++ later)
+abbrev pub SurvivesOf : Effects → Effects → List Event → Type 0
+SurvivesOf returned under_way p = (later : List Event) × (others : List Event) × (p ≡ returned.events ++ later)
     × (p ++ others ≡ (followed_by returned under_way).events ++ (followed_by returned under_way).pending)
 
 -- the answers of agent processes in an incarnation
@@ -59,7 +59,7 @@ pub record Remains (x : SeenService) (s : State) (p : List Event) : Type 0 where
   pub under_way : Effects
   pub moves : MovesAll x.calls (opened_on s x.now x.refuses) returned done
   pub goes_on : MovesAll x.begun returned last under_way
-  pub stands : StandsOf done under_way p
+  pub holds : SurvivesOf done under_way p
   pub begins : HasBegins x p
 
 -- the events that remain of an incarnation

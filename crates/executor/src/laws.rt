@@ -13,7 +13,7 @@ ghost use Rattle.exec_journal.specs.Found.{FoundAs, IsFirstPart, IsFreshPair};
 ghost use Rattle.exec_journal.specs.Opening.{Opens};
 ghost use Rattle.exec_journal.specs.Reserve.{PairHasReserve};
 ghost use Rattle.exec_turn.specs.AgentsLive.{AgentsLive};
-ghost use Rattle.executor.specs.Joins.{StandsAt, as_calls};
+ghost use Rattle.executor.specs.Joins.{SameIsolated, as_calls};
 ghost use Rattle.executor.specs.Lives.{BeginsAs, Calls, Does, Exchange, GoesOnFrom, InOpening, IsLife, LifeLeaves, Lived, OpensBehind, Batch, Sat, Sitting};
 ghost use Rattle.executor.specs.Machine.{LacksMemory};
 ghost use Rattle.executor.specs.Openings.{NotOpened, Opened};
@@ -31,7 +31,7 @@ ghost use Rattle.executor.specs.declared.opening.OpenError.{OpenError};
 ghost use Rattle.executor.specs.declared.opening.OpenError.TheVariants as why;
 
 use disk_model::Disk;
-use exec_journal::laws::{found_once, what_stands};
+use exec_journal::laws::{found_once, lemma_journal_holds};
 use ocf_types::laws::{lawful_states, layouts};
 
 /// Each resource's part of any calls is a behaviour of the machine that has this resource alone, whatever the children answered
@@ -51,7 +51,7 @@ pub fn each_alone<D: Disk>()
     ensures ends { (x z : ExecutorView D) (calls : List Exchange) (d : Effects) (id : List ℕ)
         → Calls D.view x calls z d
         → AllByRecursion IsAnswered (part id calls) → AreRising x.state.clock calls
-        → StandsAt (isolated_after_all (isolated_of x id) (events_of id d.events))
+        → SameIsolated (isolated_after_all (isolated_of x id) (events_of id d.events))
         (isolated_of z id) }
     // the same of a session, whose calls are its inputs with their replies
     ensures session { (x z : ExecutorView D) (inputs : List Input) (replies : List Reply) (d : Effects)
@@ -76,7 +76,7 @@ pub fn each_alone<D: Disk>()
 /// that has this resource alone.
 pub fn parts_join()
     ensures { (id : List ℕ) (x y : Isolated) (is js : List Exchange) (es fs : List Entry) (vs us : List Event) → Alone id x is es vs
-        → StandsAt (isolated_after_all x vs) y → Alone id y js fs us
+        → SameIsolated (isolated_after_all x vs) y → Alone id y js fs us
         → Alone id x (is ++ js) (es ++ fs) (vs ++ us) }
 {}
 
@@ -129,7 +129,7 @@ pub fn promise<D: Disk>()
         × IsKept start (seen D.view start life is) zs }
 {
     found_once();
-    what_stands();
+    lemma_journal_holds();
     lawful_states();
     layouts();
 }
@@ -150,7 +150,7 @@ pub fn whole_life<D: Disk>()
     ensures fresh { (c : Image) → IsFreshPair c → BeginsAs empty c }
     ensures first { (start : State) (c : Image) → FoundAs start c → IsFirstPart c
         → BeginsAs start c }
-    ensures stands { (start : State) (life : List (Sitting D)) → IsLife D.view start life
+    ensures holds { (start : State) (life : List (Sitting D)) → IsLife D.view start life
         → (c : Image) → LifeLeaves D.view start life c
         → (zs : List Event) × Lived start life zs × FoundAs (after_all start zs) c }
     ensures reserved { (start : State) (life : List (Sitting D)) → IsLife D.view start life
@@ -175,5 +175,5 @@ pub fn whole_life<D: Disk>()
         → Sat D.view (InOpening old new now end) }
 {
     found_once();
-    what_stands();
+    lemma_journal_holds();
 }

@@ -7,7 +7,7 @@ ghost use Rattle.executor.specs.Sessions.{Sits, TakesWhile};
 use crate::Executor;
 use child_model::Children;
 use disk_model::Disk;
-use exec_journal::laws::what_stands;
+use exec_journal::laws::lemma_journal_holds;
 use growth::Grows;
 use ocf_types::{Params, Reply, ReplyOf, RequestOf};
 use std::alloc::Global;
@@ -55,7 +55,7 @@ impl<D: Disk + Drop, C: Children + Drop, A: Grows> Executor<D, C, A> {
             × (replies.new.items ≡ replies.old.items)) }
         ensures memory { OnErr result (IsTrue A.refuses) }
     {
-        what_stands();
+        lemma_journal_holds();
         self.known();
         let Ok(()) = A::reserve_for(replies, inputs.as_slice()) else {
             return Err(inputs);

@@ -89,7 +89,7 @@ impl<A: Allocator + Copy> ExecutorView<A> {
     }
 
     // Whether the file still begins as it was read: then no tidy has renewed the part meanwhile.
-    fn stands(&self) -> io::Result<bool> {
+    fn holds(&self) -> io::Result<bool> {
         let Some(file) = &self.file else {
             return Ok(true);
         };
@@ -142,9 +142,9 @@ fn look<R: Files<File = File>, A: Allocator + Copy>(
 {
     let a = ExecutorView::of(rt, alloc, dir, Part::A)?;
     let b = ExecutorView::of(rt, alloc, dir, Part::B)?;
-    let a_stands = of_part(Part::A, a.stands())?;
-    let b_stands = of_part(Part::B, b.stands())?;
-    if !(a_stands && b_stands) {
+    let a_holds = of_part(Part::A, a.holds())?;
+    let b_holds = of_part(Part::B, b.holds())?;
+    if !(a_holds && b_holds) {
         return Ok(None);
     }
     refuse_lost(&a, &b)?;

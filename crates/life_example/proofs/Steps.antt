@@ -89,7 +89,7 @@ module _ {M : Type 0} where
       → IsHistory (λ (x : MemDisk M). view_of x) older old → IsHistory (λ (x : MemDisk M). view_of x) (calls ∷ older) left
   goes_on calls older old planned new left call same sat is since fresh h =
       let stopped : call - 1 ≡ (view_of new).clock = omega (arith, is) in
-      let stands : (view_of new).since (view_of new).clock (view_of left).reads =
+      let holds : (view_of new).since (view_of new).clock (view_of left).reads =
       subst (λ (t : ℕ). (view_of new).since t (view_of left).reads) stopped since in
       record {
         life = sat.sitting ∷ h.life;
@@ -101,7 +101,7 @@ module _ {M : Type 0} where
         );
         made = ap₂ (λ (x : List Exchange) (xs : List (List Exchange)). x ∷ xs) sat.made h.made;
         goes_on = λ c now. sat.leaves tt c
-            (subst (λ (k : Image). (view_of new).since (view_of new).clock k) (sym (fresh.now c now)) stands);
+            (subst (λ (k : Image). (view_of new).since (view_of new).clock k) (sym (fresh.now c now)) holds);
       }
 
   -- the promise holds for such a history

@@ -24,7 +24,7 @@ use Rattle.executor.specs.Lives.{Exchange, Batch, Took}
 use Rattle.executor.specs.Parts.{IsAnswered, IsPlain, commanded, events_of, part_of}
 use Rattle.executor.specs.Isolated.{Alone, Follows, Isolated, IsolatedCommand, IsolatedTakes, cut, isolated_after_all}
 use Rattle.executor.specs.declared.session.InputOf.TheVariants as input
-use Rattle.executor.proofs.Isolation.Changes.{AreFresh, Stands, stands_all}
+use Rattle.executor.proofs.Isolation.Changes.{AreFresh, IsolatedAs, holds_all}
 use Rattle.executor.proofs.Isolation.Lists.{filter_alike}
 use Rattle.executor.proofs.Isolation.Replies.{isolated_command}
 use Rattle.executor.proofs.Isolation.Requests.{AllKeep, Commands, Does, Seen, added, seen_behind}
@@ -63,16 +63,16 @@ named_so b id c es about names = filter_alike (names_it id) b es
 -- the machine takes a command that is about it
 pub own_command : (b : Bool) (id : List ℕ) (y : Isolated) (now : ℕ) (c : Command) (old new : Seen) (r : Reply) (effects : Effects)
     → bytes_eq id (commanded c) ≡ b → old.state.clock ≤ cut now
-    → (b ≡ true → IsPlain r) → Stands y old.state old.due id → Commands now c old new r effects
+    → (b ≡ true → IsPlain r) → IsolatedAs y old.state old.due id → Commands now c old new r effects
     → IsStep b id y (Took (input.Request now (asked.Command c)) r) [] (events_of id effects.events)
-own_command true id y now c old new r effects about clock plain stands did =
+own_command true id y now c old new r effects about clock plain holds did =
     let is : id ≡ commanded c = (bytes_eq-Decides id (commanded c)).0 about in (
       refl,
       subst (λ (l : List Event). IsolatedCommand (cut now) y c r l) (sym (named_so true id c effects.events about did.names))
-          (isolated_command y old.state now c r effects.events (stands.resource ∙ ap (resource_at old.state) is) stands.calls clock
+          (isolated_command y old.state now c r effects.events (holds.resource ∙ ap (resource_at old.state) is) holds.calls clock
           (plain refl) (did.follows (plain refl))),
     )
-own_command false id y now c old new r effects about clock plain stands did =
+own_command false id y now c old new r effects about clock plain holds did =
     (refl, named_so false id c effects.events about did.names)
 
 -- commands begin nothing
@@ -162,24 +162,24 @@ module _ (now : ℕ) (id : List ℕ) where
 
   -- the machine takes its commands of a batch; where each reply is a refusal none of them had an event
   pub batch_alone : (y : Isolated) (x : Seen) (cs : List Command) (rs ms : List Reply) (es : List Event) → x.state.clock ≤ cut now
-      → AllByRecursion IsAnswered (part_of id (Batch now cs rs)) → Stands y x.state x.due id → Answered now x.state cs ms es → AreReportedOf rs ms
+      → AllByRecursion IsAnswered (part_of id (Batch now cs rs)) → IsolatedAs y x.state x.due id → Answered now x.state cs ms es → AreReportedOf rs ms
       → Alone id y (part_of id (Batch now cs rs)) [] (events_of id es) × (AllRefused rs → events_of id es ≡ [])
-  batch_alone y x [] [] [] es clock plain stands is reported = ((refl, ap (events_of id) is), λ refused. ap (events_of id) is)
-  batch_alone y x [] [] (m ∷ ms) es clock plain stands bad reported = absurd bad
-  batch_alone y x [] (r ∷ rs) [] es clock plain stands is bad = absurd bad
-  batch_alone y x [] (r ∷ rs) (m ∷ ms) es clock plain stands bad reported = absurd bad
-  batch_alone y x (c ∷ cs) [] [] es clock plain stands bad reported = absurd bad
-  batch_alone y x (c ∷ cs) [] (m ∷ ms) es clock plain stands is bad = absurd bad
-  batch_alone y x (c ∷ cs) (r ∷ rs) [] es clock plain stands bad reported = absurd bad
-  batch_alone y x (c ∷ cs) (r ∷ rs) (m ∷ ms) es clock plain stands (first, later, adds, rest, all) reported =
+  batch_alone y x [] [] [] es clock plain holds is reported = ((refl, ap (events_of id) is), λ refused. ap (events_of id) is)
+  batch_alone y x [] [] (m ∷ ms) es clock plain holds bad reported = absurd bad
+  batch_alone y x [] (r ∷ rs) [] es clock plain holds is bad = absurd bad
+  batch_alone y x [] (r ∷ rs) (m ∷ ms) es clock plain holds bad reported = absurd bad
+  batch_alone y x (c ∷ cs) [] [] es clock plain holds bad reported = absurd bad
+  batch_alone y x (c ∷ cs) [] (m ∷ ms) es clock plain holds is bad = absurd bad
+  batch_alone y x (c ∷ cs) (r ∷ rs) [] es clock plain holds bad reported = absurd bad
+  batch_alone y x (c ∷ cs) (r ∷ rs) (m ∷ ms) es clock plain holds (first, later, adds, rest, all) reported =
       let b = bytes_eq id (commanded c) in
       let e = Took (input.Request now (asked.Command c)) r in
       let parts = part_of id (Batch now cs rs) in
       let plain2 = plain_first b e parts plain in
       let did = reported_commands now c x (seen_behind x first) r m (batch_effects true first) reported.0 (added now c x m first clock adds) in
       let behind = batch_alone (isolated_after_all y (events_of id first)) (seen_behind x first) cs rs ms later did.does.clock plain2.1
-      (stands_all y x.state x.due id first stands did.does.next) rest reported.1 in
-      let step = own_command b id y now c x (seen_behind x first) r (batch_effects true first) refl clock plain2.0 stands did in
+      (holds_all y x.state x.due id first holds did.does.next) rest reported.1 in
+      let step = own_command b id y now c x (seen_behind x first) r (batch_effects true first) refl clock plain2.0 holds did in
       let split = ap (events_of id) all ∙ filter-append (names_it id) first later in (
         subst (λ (l : List Event). Alone id y (cond b (e ∷ parts) parts) [] l) (sym split)
             (step_on b id y e parts [] [] (events_of id first) (events_of id later) step behind.0),

@@ -15,7 +15,7 @@ use Rattle.exec_ledger.specs.Actives.{active}
 use Rattle.exec_ledger.specs.Laws.{same_entries, same_events}
 use Rattle.exec_ledger.specs.Pieces.{Effects, no_effects, batch_effects}
 use Rattle.exec_ledger.specs.Together.{Answered, batch_replies}
-use Rattle.executor.specs.Joins.{StandsAt, as_calls}
+use Rattle.executor.specs.Joins.{SameIsolated, as_calls}
 use Rattle.executor.specs.FinishCalls.{FinishedWhile}
 use Rattle.executor.specs.Lives.{Abandoned, Calls, Cleared, Exchange, Finished, Batch, Tidied, Took}
 use Rattle.executor.specs.Lives.{Does as Called}
@@ -25,9 +25,9 @@ use Rattle.executor.specs.ExecutorView.{ExecutorView, due_in}
 use Rattle.executor.specs.Isolated.{Alone, Isolated, IsolatedPoll, cut, isolated_after_all, isolated_of, running_in}
 use Rattle.executor.specs.declared.session.InputOf.TheVariants as input
 use Rattle.executor.proofs.Isolation.Batches.{AllRefused, AreReportedOf, IsStep, failed_reported, own_command, plain_first, batch_alone, sent_so}
-use Rattle.executor.proofs.Isolation.Changes.{AreFresh, Stands, single-append, stands_all}
+use Rattle.executor.proofs.Isolation.Changes.{AreFresh, IsolatedAs, single-append, holds_all}
 use Rattle.executor.proofs.Isolation.Finishes.{finish_done, finish_isolated}
-use Rattle.executor.proofs.Isolation.Joins.{parts_join, stands_self}
+use Rattle.executor.proofs.Isolation.Joins.{parts_join, holds_self}
 use Rattle.executor.proofs.Isolation.Lists.{each_first, each_last}
 use Rattle.executor.proofs.Isolation.Replies.{isolated_question}
 use Rattle.executor.proofs.Isolation.Requests.{commands, seen}
@@ -50,32 +50,32 @@ module _ {D : Type 0} (look : D → View) (mine : ℕ → Bool) (id : List ℕ) 
   no_events effects none = ap (λ (x : Effects). events_of id x.events) none
 
   -- the machine agrees with the executor after a call
-  stands_behind : (at : ℕ) (y : Isolated) (old new : ExecutorView D) (es : List Event) → Went mine id at old new es
-      → Stands y old.state (due_in old) id → Stands (isolated_after_all y (events_of id es)) new.state (due_in new) id
-  stands_behind at y old new es went stands =
+  holds_behind : (at : ℕ) (y : Isolated) (old new : ExecutorView D) (es : List Event) → Went mine id at old new es
+      → IsolatedAs y old.state (due_in old) id → IsolatedAs (isolated_after_all y (events_of id es)) new.state (due_in new) id
+  holds_behind at y old new es went holds =
       let own : events_of id (es ++ went.more) ≡ events_of id es = filter-append (names_it id) es went.more
       ∙ ap (λ (l : List Event). events_of id es ++ l) went.others ∙ append-nil (events_of id es) in
-      subst (λ (l : List Event). Stands (isolated_after_all y l) new.state (due_in new) id) own
-      (subst (λ (s : State). Stands (isolated_after_all y (events_of id (es ++ went.more))) s (due_in new) id) (sym went.does.state)
-      (subst (λ (u : Due). Stands (isolated_after_all y (events_of id (es ++ went.more))) (after_all old.state (es ++ went.more)) u id)
-      (sym went.does.due) (stands_all y old.state (due_in old) id (es ++ went.more) stands went.does.next)))
+      subst (λ (l : List Event). IsolatedAs (isolated_after_all y l) new.state (due_in new) id) own
+      (subst (λ (s : State). IsolatedAs (isolated_after_all y (events_of id (es ++ went.more))) s (due_in new) id) (sym went.does.state)
+      (subst (λ (u : Due). IsolatedAs (isolated_after_all y (events_of id (es ++ went.more))) (after_all old.state (es ++ went.more)) u id)
+      (sym went.does.due) (holds_all y old.state (due_in old) id (es ++ went.more) holds went.does.next)))
 
   -- the machine takes its part of a request, and of any call
   request_alone : (open_now b : Bool) (y : Isolated) (now : ℕ) (old new : ExecutorView D) (r : Reply) (d : Effects) (request : Request)
-      → is_about id request ≡ b → old.state.clock ≤ cut now → (b ≡ true → IsPlain r) → Stands y old.state (due_in old) id
+      → is_about id request ≡ b → old.state.clock ≤ cut now → (b ≡ true → IsPlain r) → IsolatedAs y old.state (due_in old) id
       → TakesWhile open_now look (input.Request now request) old new r d
       → IsStep b id y (Took (input.Request now request) r) (own_entries d.entries) (events_of id d.events)
   unfolding own_entries
-  request_alone false true y now old new r d request about clock plain stands takes =
+  request_alone false true y now old new r d request about clock plain holds takes =
       absurd (closed_plain (input.Request now request) r takes.0 (plain refl))
-  request_alone false false y now old new r d request about clock plain stands takes = (no_entries d takes.2, no_events d takes.2)
-  request_alone true b y now old new r d (asked.Command c) about clock plain stands takes =
+  request_alone false false y now old new r d request about clock plain holds takes = (no_entries d takes.2, no_events d takes.2)
+  request_alone true b y now old new r d (asked.Command c) about clock plain holds takes =
       let did = commands look now c old new r d clock takes in
       subst (λ (l : List Entry). IsStep b id y (Took (input.Request now (asked.Command c)) r) l (events_of id d.events))
-      (sym (ap own_entries did.no_entries)) (own_command b id y now c (seen old) (seen new) r d about clock plain stands did)
-  request_alone true true y now old new r d (asked.Question q) about clock plain stands takes =
-      (no_entries d takes.does, no_events d takes.does, isolated_question y.resource old.state id q r stands.resource about takes.serves.0 (plain refl))
-  request_alone true false y now old new r d (asked.Question q) about clock plain stands takes = (no_entries d takes.does, no_events d takes.does)
+      (sym (ap own_entries did.no_entries)) (own_command b id y now c (seen old) (seen new) r d about clock plain holds did)
+  request_alone true true y now old new r d (asked.Question q) about clock plain holds takes =
+      (no_entries d takes.does, no_events d takes.does, isolated_question y.resource old.state id q r holds.resource about takes.serves.0 (plain refl))
+  request_alone true false y now old new r d (asked.Question q) about clock plain holds takes = (no_entries d takes.does, no_events d takes.does)
 
   one_alone : (b : Bool) (y : Isolated) (e : Exchange) (es : List Entry) (vs : List Event) → IsStep b id y e es vs
       → Alone id y (cond b (e ∷ []) []) es vs
@@ -83,48 +83,48 @@ module _ {D : Type 0} (look : D → View) (mine : ℕ → Bool) (id : List ℕ) 
   one_alone false y e es vs step = step
 
   turn_alone : (open_now : Bool) (y : Isolated) (now : ℕ) (old new : ExecutorView D) (r : Reply) (d : Effects) → old.state.clock ≤ cut now
-      → IsPlain r → Stands y old.state (due_in old) id → AreApart old.state → AreOwn mine id (active old.state) → AllBeginOwn mine id d.events
+      → IsPlain r → IsolatedAs y old.state (due_in old) id → AreApart old.state → AreOwn mine id (active old.state) → AllBeginOwn mine id d.events
       → TakesWhile open_now look (input.Turn now) old new r d
       → IsStep true id y (Took (input.Turn now) r) (own_entries d.entries) (events_of id d.events)
   unfolding own_entries
-  turn_alone true y now old new r d clock plain stands apart own begins takes =
-      turn_isolated now old new r d (turn_done look now old new r d clock plain takes) mine id y stands apart own begins
-  turn_alone false y now old new r d clock plain stands apart own begins takes = absurd (closed_plain (input.Turn now) r takes.0 plain)
+  turn_alone true y now old new r d clock plain holds apart own begins takes =
+      turn_isolated now old new r d (turn_done look now old new r d clock plain takes) mine id y holds apart own begins
+  turn_alone false y now old new r d clock plain holds apart own begins takes = absurd (closed_plain (input.Turn now) r takes.0 plain)
 
   finish_alone : (open_now : Bool) (y : Isolated) (now : ℕ) (end : TurnEnd) (old new : ExecutorView D) (d : Effects) → old.state.clock ≤ cut now
-      → end ≡ turn_end.Done → Stands y old.state (due_in old) id → AreApart old.state → AreOwn mine id (active old.state)
+      → end ≡ turn_end.Done → IsolatedAs y old.state (due_in old) id → AreApart old.state → AreOwn mine id (active old.state)
       → FinishedWhile open_now look now old new end d
       → IsStep true id y (Finished now end) (own_entries d.entries) (events_of id d.events)
   unfolding own_entries
-  finish_alone true y now end old new d clock done stands apart own (takes, did) =
+  finish_alone true y now end old new d clock done holds apart own (takes, did) =
       let finish = finish_done look now old new end takes clock done in (
         done,
         subst (λ (x : Effects). IsolatedPoll id (cut now) (running_in y) (own_entries x.entries) (events_of id x.events)) (sym did)
-            (finish_isolated now old new takes.turns.effects finish mine id y stands apart own),
+            (finish_isolated now old new takes.turns.effects finish mine id y holds apart own),
       )
-  finish_alone false y now end old new d clock done stands apart own takes =
+  finish_alone false y now end old new d clock done holds apart own takes =
       absurd (let bad : turn_end.Closed ≡ turn_end.Done = sym takes.0 ∙ done in cc)
 
   call_alone : (at : ℕ) (y : Isolated) (e : Exchange) (old new : ExecutorView D) (d : Effects) → old.state.clock ≤ moment_in at e
-      → AllByRecursion IsAnswered (part_of id e) → Stands y old.state (due_in old) id → AreApart old.state
+      → AllByRecursion IsAnswered (part_of id e) → IsolatedAs y old.state (due_in old) id → AreApart old.state
       → AreOwn mine id (active old.state) → AllBeginOwn mine id d.events → Called look e old new d
       → Alone id y (part_of id e) (own_entries d.entries) (events_of id d.events)
   unfolding own_entries
-  call_alone at y (Took (input.Request now request) r) old new d clock plain stands apart own begins does =
+  call_alone at y (Took (input.Request now request) r) old new d clock plain holds apart own begins does =
       let e = Took (input.Request now request) r in
       one_alone (is_about id request) y e (own_entries d.entries) (events_of id d.events)
-      (request_alone old.is_open (is_about id request) y now old new r d request refl clock (plain_first (is_about id request) e [] plain).0 stands does)
-  call_alone at y (Took (input.Turn now) r) old new d clock plain stands apart own begins does =
+      (request_alone old.is_open (is_about id request) y now old new r d request refl clock (plain_first (is_about id request) e [] plain).0 holds does)
+  call_alone at y (Took (input.Turn now) r) old new d clock plain holds apart own begins does =
       one_alone true y (Took (input.Turn now) r) (own_entries d.entries) (events_of id d.events)
-      (turn_alone old.is_open y now old new r d clock plain.0 stands apart own begins does)
-  call_alone at y (Batch now cs rs) old new d clock plain stands apart own begins batch =
+      (turn_alone old.is_open y now old new r d clock plain.0 holds apart own begins does)
+  call_alone at y (Batch now cs rs) old new d clock plain holds apart own begins batch =
       let entries : own_entries d.entries ≡ [] = ap own_entries (same_entries batch.does) in
       subst (λ (l : List Entry). Alone id y (part_of id (Batch now cs rs)) l (events_of id d.events)) (sym entries)
       (by new.is_open refl batch.takes.reported (same_events batch.does))
     where
       takes : AreReportedOf rs batch.takes.meant → Alone id y (part_of id (Batch now cs rs)) [] (events_of id batch.takes.events)
           × (AllRefused rs → events_of id batch.takes.events ≡ [])
-      takes reported = batch_alone now id y (seen old) cs rs batch.takes.meant batch.takes.events clock plain stands batch.takes.answered reported
+      takes reported = batch_alone now id y (seen old) cs rs batch.takes.meant batch.takes.events clock plain holds batch.takes.answered reported
 
       by : (b : Bool) → new.is_open ≡ b → rs ≡ batch_replies b batch.takes.meant → d.events ≡ (batch_effects b batch.takes.events).events
           → Alone id y (part_of id (Batch now cs rs)) [] (events_of id d.events)
@@ -135,12 +135,12 @@ module _ {D : Type 0} (look : D → View) (mine : ℕ → Bool) (id : List ℕ) 
           let both = takes (subst (λ (l : List Reply). AreReportedOf l batch.takes.meant) (sym reported) bad.0) in
           subst (λ (l : List Event). Alone id y (part_of id (Batch now cs rs)) [] l)
           (both.1 (subst AllRefused (sym reported) bad.1) ∙ sym (ap (events_of id) events)) both.0
-  call_alone at y (Finished now end) old new d clock plain stands apart own begins does =
+  call_alone at y (Finished now end) old new d clock plain holds apart own begins does =
       one_alone true y (Finished now end) (own_entries d.entries) (events_of id d.events)
-      (finish_alone old.is_open y now end old new d clock plain.0 stands apart own does)
-  call_alone at y (Tidied end) old new d clock plain stands apart own begins does = (no_entries d does.1, no_events d does.1)
-  call_alone at y Cleared old new d clock plain stands apart own begins does = (no_entries d does.1, no_events d does.1)
-  call_alone at y Abandoned old new d clock plain stands apart own begins does = (no_entries d does.1, no_events d does.1)
+      (finish_alone old.is_open y now end old new d clock plain.0 holds apart own does)
+  call_alone at y (Tidied end) old new d clock plain holds apart own begins does = (no_entries d does.1, no_events d does.1)
+  call_alone at y Cleared old new d clock plain holds apart own begins does = (no_entries d does.1, no_events d does.1)
+  call_alone at y Abandoned old new d clock plain holds apart own begins does = (no_entries d does.1, no_events d does.1)
 
   -- the events of calls are new
   calls_fresh : (at : ℕ) (es : List Exchange) (x z : ExecutorView D) (d : Effects) → x.state.clock ≤ at → AreRising at es
@@ -164,29 +164,29 @@ module _ {D : Type 0} (look : D → View) (mine : ℕ → Bool) (id : List ℕ) 
           (subst (AreFresh x.state) (sym (append-nil first.events)) new_first)
 
   -- the machine after calls
-  calls_stand : (at : ℕ) (es : List Exchange) (y : Isolated) (x z : ExecutorView D) (d : Effects) → x.state.clock ≤ at → AreRising at es
-      → AllByRecursion IsAnswered (part id es) → Stands y x.state (due_in x) id → Calls look x es z d
-      → Stands (isolated_after_all y (events_of id d.events)) z.state (due_in z) id
-  calls_stand at [] y x z d clock rises plain stands calls =
-      subst (λ (k : Effects). Stands (isolated_after_all y (events_of id k.events)) z.state (due_in z) id) (sym calls.1)
-      (subst (λ (w : ExecutorView D). Stands y w.state (due_in w) id) (sym calls.0) stands)
-  calls_stand at (e ∷ es) y x z d clock rises plain stands (mid, first, later, does, rest, all) =
+  calls_hold : (at : ℕ) (es : List Exchange) (y : Isolated) (x z : ExecutorView D) (d : Effects) → x.state.clock ≤ at → AreRising at es
+      → AllByRecursion IsAnswered (part id es) → IsolatedAs y x.state (due_in x) id → Calls look x es z d
+      → IsolatedAs (isolated_after_all y (events_of id d.events)) z.state (due_in z) id
+  calls_hold at [] y x z d clock rises plain holds calls =
+      subst (λ (k : Effects). IsolatedAs (isolated_after_all y (events_of id k.events)) z.state (due_in z) id) (sym calls.1)
+      (subst (λ (w : ExecutorView D). IsolatedAs y w.state (due_in w) id) (sym calls.0) holds)
+  calls_hold at (e ∷ es) y x z d clock rises plain holds (mid, first, later, does, rest, all) =
       let went = call_went look mine id at e x mid first (le_trans clock rises.0) (each_first IsAnswered (part_of id e) (part id es) plain) does in
       let y2 = isolated_after_all y (events_of id first.events) in
-      let there = calls_stand (moment_in at e) es y2 mid z later went.does.clock rises.1
-      (each_last IsAnswered (part_of id e) (part id es) plain) (stands_behind (moment_in at e) y x mid first.events went stands) rest in
-      subst (λ (v : Isolated). Stands v z.state (due_in z) id)
+      let there = calls_hold (moment_in at e) es y2 mid z later went.does.clock rises.1
+      (each_last IsAnswered (part_of id e) (part id es) plain) (holds_behind (moment_in at e) y x mid first.events went holds) rest in
+      subst (λ (v : Isolated). IsolatedAs v z.state (due_in z) id)
       (sym (ap (λ (k : Effects). isolated_after_all y (events_of id k.events)) all
       ∙ ap (isolated_after_all y) (filter-append (names_it id) first.events later.events)
       ∙ single-append y (events_of id first.events) (events_of id later.events))) there
 
   -- its part of calls is a behaviour of the machine
   alone : (at : ℕ) (es : List Exchange) (y : Isolated) (x z : ExecutorView D) (d : Effects) → x.state.clock ≤ at → AreRising at es
-      → AllByRecursion IsAnswered (part id es) → Stands y x.state (due_in x) id → AreApart x.state → AreOwn mine id (active x.state)
+      → AllByRecursion IsAnswered (part id es) → IsolatedAs y x.state (due_in x) id → AreApart x.state → AreOwn mine id (active x.state)
       → AllBeginOwn mine id d.events → Calls look x es z d → Alone id y (part id es) (own_entries d.entries) (events_of id d.events)
   unfolding own_entries
-  alone at [] y x z d clock rises plain stands apart own begins calls = (no_entries d calls.1, no_events d calls.1)
-  alone at (e ∷ es) y x z d clock rises plain stands apart own begins (mid, first, later, does, rest, all) =
+  alone at [] y x z d clock rises plain holds apart own begins calls = (no_entries d calls.1, no_events d calls.1)
+  alone at (e ∷ es) y x z d clock rises plain holds apart own begins (mid, first, later, does, rest, all) =
       let now : x.state.clock ≤ moment_in at e = le_trans clock rises.0 in
       let plain_here = each_first IsAnswered (part_of id e) (part id es) plain in
       let went = call_went look mine id at e x mid first now plain_here does in
@@ -195,9 +195,9 @@ module _ {D : Type 0} (look : D → View) (mine : ℕ → Bool) (id : List ℕ) 
       let begins_later = each_last (λ e. BeginsOwn mine id e.change) first.events later.events all_begin in
       let done = first.events ++ went.more in
       let y2 = isolated_after_all y (events_of id first.events) in
-      let one = call_alone at y e x mid first now plain_here stands apart own begins_first does in
+      let one = call_alone at y e x mid first now plain_here holds apart own begins_first does in
       let behind = alone (moment_in at e) es y2 mid z later went.does.clock rises.1
-      (each_last IsAnswered (part_of id e) (part id es) plain) (stands_behind (moment_in at e) y x mid first.events went stands)
+      (each_last IsAnswered (part_of id e) (part id es) plain) (holds_behind (moment_in at e) y x mid first.events went holds)
       (subst AreApart (sym went.does.state) (ids_stay x.state done went.does.next apart))
       (subst (λ (s : State). AreOwn mine id (active s)) (sym went.does.state)
       (own_stays mine id x.state done went.does.next (own_append mine id first.events went.more begins_first went.begins) own))
@@ -208,7 +208,7 @@ module _ {D : Type 0} (look : D → View) (mine : ℕ → Bool) (id : List ℕ) 
       (subst (λ (l : List Event). Alone id y (part id (e ∷ es)) (own_entries first.entries ++ own_entries later.entries) l)
       (sym (filter-append (names_it id) first.events later.events))
       (parts_join id y y2 (part_of id e) (part id es) (own_entries first.entries) (own_entries later.entries) (events_of id first.events)
-      (events_of id later.events) one (stands_self y2) behind)))
+      (events_of id later.events) one (holds_self y2) behind)))
 
 module _ {D : Type 0} (look : D → View) (x z : ExecutorView D) where
   -- the law
@@ -225,9 +225,9 @@ module _ {D : Type 0} (look : D → View) (x z : ExecutorView D) where
   -- and it agrees with the executor after the calls
   pub alone_ends : (es : List Exchange) (d : Effects) (id : List ℕ) → Calls look x es z d
       → AllByRecursion IsAnswered (part id es) → AreRising x.state.clock es
-      → StandsAt (isolated_after_all (isolated_of x id) (events_of id d.events)) (isolated_of z id)
+      → SameIsolated (isolated_after_all (isolated_of x id) (events_of id d.events)) (isolated_of z id)
   alone_ends es d id calls plain rises =
-      let there = calls_stand look (λ run. false) id x.state.clock es (isolated_of x id) x z d (le_refl x.state.clock) rises plain (here x id) calls in
+      let there = calls_hold look (λ run. false) id x.state.clock es (isolated_of x id) x z d (le_refl x.state.clock) rises plain (here x id) calls in
       record { resource = there.resource; due = there.due; calls = there.calls; runs = there.runs }
 
   -- the law of a session

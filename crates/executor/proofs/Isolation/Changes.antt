@@ -134,7 +134,7 @@ monitor_before at change.Boot was call h none = h
 
 -- The machine of a resource in a state with these due moments: it has the resource, the moments of the monitors that are there, and
 -- numbers that are not above the next ones.
-pub record Stands (y : Isolated) (s : State) (moments : Due) (id : List ℕ) : Type 0 where
+pub record IsolatedAs (y : Isolated) (s : State) (moments : Due) (id : List ℕ) : Type 0 where
   pub resource : y.resource ≡ resource_at s id
   pub due : (call : ℕ) → has_monitor (resource_at s id) call ≡ true → y.due call ≡ moments id call
   pub calls : y.next_call ≤ s.next_call
@@ -154,49 +154,49 @@ or_else_alike None a b h = h refl
 or_else_alike (Some n) a b h = refl
 
 -- an event that names it
-stands_own : (y : Isolated) (s : State) (moments : Due) (id : List ℕ) (e : Event) → Stands y s moments id → named e.change ≡ Some id
+holds_own : (y : Isolated) (s : State) (moments : Due) (id : List ℕ) (e : Event) → IsolatedAs y s moments id → named e.change ≡ Some id
     → IsFresh s e.change
-    → Stands (isolated_after y e) (after s e) (due_after s moments e) id
-stands_own y s moments id e stands n next =
+    → IsolatedAs (isolated_after y e) (after s e) (due_after s moments e) id
+holds_own y s moments id e holds n next =
     let is : resource_at (after s e) id ≡ isolated_changed e.at e.change (resource_at s id) = own_changed e.at e.change s id n next in
     let has : (call : ℕ) → has_monitor (resource_at (after s e) id) call
     ≡ has_monitor (isolated_changed e.at e.change (resource_at s id)) call = λ call. ap (λ o. has_monitor o call) is in record {
-      resource = ap (isolated_changed e.at e.change) stands.resource ∙ sym is;
+      resource = ap (isolated_changed e.at e.change) holds.resource ∙ sym is;
       due = λ call there.
           let there2 : has_monitor (isolated_changed e.at e.change (resource_at s id)) call ≡ true = sym (has call) ∙ there in
-          rw (stands.resource, there2, there, own_sets e.at e.change s id call n)
+          rw (holds.resource, there2, there, own_sets e.at e.change s id call n)
           (or_else_alike (isolated_sets e.at e.change (resource_at s id) call) (y.due call) (moments id call)
-          (λ none. stands.due call (monitor_before e.at e.change (resource_at s id) call there2 none)));
-      calls = calls_above s e.change y.next_call next stands.calls;
-      runs = runs_above s e.change y.next_run next stands.runs;
+          (λ none. holds.due call (monitor_before e.at e.change (resource_at s id) call there2 none)));
+      calls = calls_above s e.change y.next_call next holds.calls;
+      runs = runs_above s e.change y.next_run next holds.runs;
     }
 
 -- one that names another
-stands_other : (y : Isolated) (s : State) (moments : Due) (id other : List ℕ) (e : Event) → Stands y s moments id
+holds_other : (y : Isolated) (s : State) (moments : Due) (id other : List ℕ) (e : Event) → IsolatedAs y s moments id
     → named e.change ≡ Some other → other ≢ id
-    → Stands y (after s e) (due_after s moments e) id
-stands_other y s moments id other e stands n differs =
+    → IsolatedAs y (after s e) (due_after s moments e) id
+holds_other y s moments id other e holds n differs =
     let is : resource_at (after s e) id ≡ resource_at s id = other_stays e.at e.change s.resources other id n differs in record {
-      resource = stands.resource ∙ sym is;
+      resource = holds.resource ∙ sym is;
       due = λ call there.
           let was : has_monitor (resource_at s id) call ≡ true = sym (ap (λ o. has_monitor o call) is) ∙ there in
-          rw (there, other_sets e.at e.change s id other call n differs) (stands.due call was);
-      calls = omega (arith, stands.calls);
-      runs = omega (arith, stands.runs);
+          rw (there, other_sets e.at e.change s id other call n differs) (holds.due call was);
+      calls = omega (arith, holds.calls);
+      runs = omega (arith, holds.runs);
     }
 
 -- an event
-pub stands_on : (y : Isolated) (s : State) (moments : Due) (id : List ℕ) (e : Event) → Stands y s moments id → IsFresh s e.change
-    → Stands (isolated_after_all y (events_of id (e ∷ []))) (after s e) (due_after s moments e) id
-stands_on y s moments id e stands next = by_name e.change refl
+pub holds_on : (y : Isolated) (s : State) (moments : Due) (id : List ℕ) (e : Event) → IsolatedAs y s moments id → IsFresh s e.change
+    → IsolatedAs (isolated_after_all y (events_of id (e ∷ []))) (after s e) (due_after s moments e) id
+holds_on y s moments id e holds next = by_name e.change refl
   where
     goal : Bool → Type 0
-    goal b = Stands (isolated_after_all y (cond b (e ∷ []) [])) (after s e) (due_after s moments e) id
+    goal b = IsolatedAs (isolated_after_all y (cond b (e ∷ []) [])) (after s e) (due_after s moments e) id
 
     by_own : (other : List ℕ) (b : Bool) → named e.change ≡ Some other → bytes_eq id other ≡ b → goal b
-    by_own other true n same = stands_own y s moments id e stands (n ∙ ap Some (sym ((bytes_eq-Decides id other).0 same))) next
+    by_own other true n same = holds_own y s moments id e holds (n ∙ ap Some (sym ((bytes_eq-Decides id other).0 same))) next
     by_own other false n differs =
-        stands_other y s moments id other e stands n (λ is. both_ways (bytes_eq id other) differs ((bytes_eq-Decides id other).1 (sym is)))
+        holds_other y s moments id other e holds n (λ is. both_ways (bytes_eq id other) differs ((bytes_eq-Decides id other).1 (sym is)))
 
     by_name : (c : Change) → e.change ≡ c → goal (option_map_or (bytes_eq id) (named c) false)
     by_name (change.Register r) is = by_own r.id (bytes_eq id r.id) (ap named is) refl
@@ -209,13 +209,13 @@ single-append y [] fs = refl
 single-append y (e ∷ es) fs = single-append (isolated_after y e) es fs
 
 -- events, each of which names one resource
-pub stands_all : (y : Isolated) (s : State) (moments : Due) (id : List ℕ) (es : List Event) → Stands y s moments id → AreFresh s es
-    → Stands (isolated_after_all y (events_of id es)) (after_all s es) (due_after_all s moments es) id
-stands_all y s moments id [] stands next = stands
-stands_all y s moments id (e ∷ es) stands next =
+pub holds_all : (y : Isolated) (s : State) (moments : Due) (id : List ℕ) (es : List Event) → IsolatedAs y s moments id → AreFresh s es
+    → IsolatedAs (isolated_after_all y (events_of id es)) (after_all s es) (due_after_all s moments es) id
+holds_all y s moments id [] holds next = holds
+holds_all y s moments id (e ∷ es) holds next =
     let one = events_of id (e ∷ []) in
     let split : isolated_after_all y (events_of id (e ∷ es)) ≡ isolated_after_all (isolated_after_all y one) (events_of id es) =
     ap (isolated_after_all y) (filter-append (λ f. option_map_or (bytes_eq id) (named f.change) false) (e ∷ []) es)
     ∙ single-append y one (events_of id es) in
-    subst (λ (z : Isolated). Stands z (after_all (after s e) es) (due_after_all (after s e) (due_after s moments e) es) id) (sym split)
-    (stands_all (isolated_after_all y one) (after s e) (due_after s moments e) id es (stands_on y s moments id e stands next.0) next.1)
+    subst (λ (z : Isolated). IsolatedAs z (after_all (after s e) es) (due_after_all (after s e) (due_after s moments e) es) id) (sym split)
+    (holds_all (isolated_after_all y one) (after s e) (due_after s moments e) id es (holds_on y s moments id e holds next.0) next.1)

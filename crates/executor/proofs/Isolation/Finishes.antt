@@ -18,7 +18,7 @@ use Rattle.executor.specs.Isolated.{Isolated, IsolatedPoll, cut, running_in}
 use Rattle.executor.specs.Parts.{events_of}
 use Rattle.executor.specs.ExecutorView.{ExecutorView, due_in}
 use Rattle.executor.specs.TurnCalls.{FinishesTurn}
-use Rattle.executor.proofs.Isolation.Changes.{Stands}
+use Rattle.executor.proofs.Isolation.Changes.{IsolatedAs}
 use Rattle.executor.proofs.Isolation.Requests.{Does, moment_is, seen}
 use Rattle.executor.proofs.Isolation.CommandBatches.{AreOwn, IsEnd, ends_fresh, results_end}
 use Rattle.executor.proofs.Isolation.Turns.{AreApart, clock_behind, ends_at, own_polls}
@@ -65,12 +65,12 @@ module _ {D : Type 0} (now : ℕ) (old new : ExecutorView D) (effects : Effects)
       }
 
   -- the machine makes its part of it
-  pub finish_isolated : (mine : ℕ → Bool) (id : List ℕ) (y : Isolated) → Stands y old.state (due_in old) id → AreApart old.state
+  pub finish_isolated : (mine : ℕ → Bool) (id : List ℕ) (y : Isolated) → IsolatedAs y old.state (due_in old) id → AreApart old.state
       → AreOwn mine id (active old.state)
       → IsolatedPoll id (cut now) (running_in y) (filter (λ e. mine e.run) effects.entries) (events_of id effects.events)
-  finish_isolated mine id y stands apart runs =
+  finish_isolated mine id y holds apart runs =
       subst (λ (l : List Entry). IsolatedPoll id (cut now) (running_in y) (filter (λ e. mine e.run) l) (events_of id effects.events))
       (sym finish.entries)
       (subst (λ (l : List Event). IsolatedPoll id (cut now) (running_in y) (filter (λ e. mine e.run) (polls (cut now) finish.polled)) (events_of id l))
       (sym finish.events)
-      (own_polls mine id (cut now) y old.state finish.polled finish.each_polled.each finish.each_polled.bytes apart runs stands.resource))
+      (own_polls mine id (cut now) y old.state finish.polled finish.each_polled.each finish.each_polled.bytes apart runs holds.resource))

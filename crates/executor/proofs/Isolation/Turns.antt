@@ -34,7 +34,7 @@ use Rattle.exec_ledger.specs.Pieces.{Effects}
 use Rattle.executor.specs.Sessions.{TakesATurn}
 use Rattle.executor.specs.ExecutorView.{ExecutorView, due_in}
 use Rattle.executor.specs.Isolated.{Isolated, IsolatedPoll, IsolatedTurn, cut, running_in, isolated_after_all}
-use Rattle.executor.proofs.Isolation.Changes.{AreFresh, IsFresh, Stands, stands_all}
+use Rattle.executor.proofs.Isolation.Changes.{AreFresh, IsFresh, IsolatedAs, holds_all}
 use Rattle.executor.proofs.Isolation.Lists.{each_first, each_last, each_map, each_of_all, each_unmap, filter-map}
 use Rattle.executor.proofs.Isolation.Begins.{isolated_begins}
 use Rattle.executor.proofs.Isolation.Picks.{begins_fresh, chosen, own_of}
@@ -180,11 +180,11 @@ module _ {D : Type 0} (now : ℕ) (old new : ExecutorView D) (given : Reply) (ef
     own_started = filter (λ x. bytes_eq id x.what.id) turn.t.started
 
     -- the machine makes its part of the turn
-    pub turn_isolated : Stands y old.state (due_in old) id → AreApart old.state → AreOwn mine id (active old.state)
+    pub turn_isolated : IsolatedAs y old.state (due_in old) id → AreApart old.state → AreOwn mine id (active old.state)
         → AllBeginOwn mine id effects.events
         → IsolatedTurn id (cut now) y given (filter (λ e. mine e.run) effects.entries) (events_of id effects.events)
     unfolding at mid moments behind own_begun own_started
-    turn_isolated stands apart runs own =
+    turn_isolated holds apart runs own =
         let test : Entry → Bool = λ e. mine e.run in
         let polled : List Entry = polls at turn.t.polled in
         let batch : List Event = results at turn.t.polled in
@@ -196,8 +196,8 @@ module _ {D : Type 0} (now : ℕ) (old new : ExecutorView D) (given : Reply) (ef
         let started_own : AreOwn mine id (map (λ x. x.what) turn.t.started) = subst (AreOwn mine id) (sym turn.t.each_started) begun_own in
         let what : map (λ x. x.what) own_started ≡ own_begun = sym (filter-map (λ a. bytes_eq id a.id) (λ x. x.what) turn.t.started)
         ∙ ap (own_of id) turn.t.each_started in
-        let there : Stands (isolated_after_all y (events_of id batch)) mid moments id =
-        stands_all y old.state (due_in old) id batch stands results_new in record {
+        let there : IsolatedAs (isolated_after_all y (events_of id batch)) mid moments id =
+        holds_all y old.state (due_in old) id batch holds results_new in record {
           done = turn.done;
           polled = filter test polled;
           started = starts turn.t.clock own_started;
@@ -209,7 +209,7 @@ module _ {D : Type 0} (now : ℕ) (old new : ExecutorView D) (given : Reply) (ef
               ap (events_of id) turn.events ∙ filter-append (names_it id) batch later
               ∙ ap (λ (l : List Event). events_of id batch ++ l) (filter-append (names_it id) (begins at turn.t.begun) (refusals at turn.t.started)
               ∙ ap₂ (λ (a b : List Event). a ++ b) (begins_kept id at turn.t.begun) (refusals_kept id at turn.t.started));
-          polls = own_polls mine id at y old.state turn.t.polled turn.t.each_polled.each turn.t.each_polled.bytes apart runs stands.resource;
+          polls = own_polls mine id at y old.state turn.t.polled turn.t.each_polled.each turn.t.each_polled.bytes apart runs holds.resource;
           goes_on =
               isolated_begins (isolated_after_all y (events_of id batch)) id at turn.t.clock mid.next_run moments
               (resource_at mid id) own_begun own_started there.resource there.due there.runs

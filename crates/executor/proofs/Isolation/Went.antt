@@ -25,7 +25,7 @@ use Rattle.executor.specs.TidyCalls.{TidiesWhile}
 use Rattle.executor.specs.Isolated.{cut, isolated_of}
 use Rattle.executor.specs.declared.session.InputOf.TheVariants as input
 use Rattle.executor.proofs.Isolation.Batches.{AllRefused, AreReportedOf, failed_reported, keep_own, batch_alone, batch_does}
-use Rattle.executor.proofs.Isolation.Changes.{AreFresh, Stands}
+use Rattle.executor.proofs.Isolation.Changes.{AreFresh, IsolatedAs}
 use Rattle.executor.proofs.Isolation.Finishes.{finish_does, finish_done}
 use Rattle.executor.proofs.Isolation.Requests.{AllKeep, Does, Seen, commands, rested, seen, seen_behind}
 use Rattle.executor.proofs.Isolation.Turns.{AllBeginOwn, turn_does, turn_done}
@@ -46,7 +46,7 @@ own_append mine id [] fs one two = two
 own_append mine id (e ∷ es) fs one two = (one.0, own_append mine id es fs one.1 two)
 
 -- each resource by itself, as it is in an executor
-pub here : {D : Type 0} (x : ExecutorView D) (id : List ℕ) → Stands (isolated_of x id) x.state (due_in x) id
+pub here : {D : Type 0} (x : ExecutorView D) (id : List ℕ) → IsolatedAs (isolated_of x id) x.state (due_in x) id
 here x id = record { resource = refl; due = λ call there. refl; calls = le_refl x.state.next_call; runs = le_refl x.state.next_run }
 
 -- The effects of a call on one resource: the state and the due moments are those after its events, and after events of others that a

@@ -14,7 +14,7 @@ use Rattle.two_parts.specs.declared.choice.Choice.TheVariants.{Broken, Current, 
 use Rattle.exec_journal.specs.Found.{FoundAs, LeadsTo}
 use Rattle.exec_journal.specs.PartPrefix.{AllApplyIn}
 use Rattle.executor.specs.Lives.{InOpening, InService, IsLife, LifeLeaves, Sitting}
-use Rattle.exec_ledger.specs.Laws.{WhatStands}
+use Rattle.exec_ledger.specs.Laws.{JournalLemmas}
 use Rattle.executor.proofs.Lives.Services.{whole_leads}
 
 -- the model's laws of lawful states
@@ -51,7 +51,7 @@ module _ (laws : LawfulLaws) where
           (in_second whole.layout (after_all_in whole.layout prefix.first (flat_map (λ es. es) prefix.batches))
           (all_stay whole.layout prefix.first (flat_map (λ es. es) prefix.batches) prefix.lawful prefix.apply))
 
-  module _ {D : Type 0} (look : D → View) (law : WhatStands) (lawful : (d : D) → (look d).honest → Lawful (look d)) (start : State) where
+  module _ {D : Type 0} (look : D → View) (law : JournalLemmas) (lawful : (d : D) → (look d).honest → Lawful (look d)) (start : State) where
     -- so is the first state of a history that may leave something
     pub start_lawful : (life : List (Sitting D)) → IsLife look start life → (c : Image) → LifeLeaves look start life c → IsLawfulState start
     start_lawful [] is c left = found_lawful start c left.0

@@ -9,9 +9,9 @@ use Rattle.disk_model.specs.View.{Lawful, View}
 use Rattle.exec_journal.specs.Found.{FoundAs}
 use Rattle.exec_journal.specs.Reserve.{PairHasReserve}
 use Rattle.exec_journal.specs.Batches.{EitherSide}
-use Rattle.executor.specs.Lives.{Serves, Service, Stands}
+use Rattle.executor.specs.Lives.{Serves, Service, Survives}
 use Rattle.exec_ledger.specs.Pieces.{Effects, followed_by, no_effects}
-use Rattle.exec_ledger.specs.Laws.{WhatStands}
+use Rattle.exec_ledger.specs.Laws.{JournalLemmas}
 use Rattle.executor.proofs.Lives.Calls.{calls_closed, calls_more}
 use Rattle.executor.proofs.Lives.Prefixes.{EachBegun, PrefixOf, GoesOn, all_begun, begin_among}
 use Rattle.executor.proofs.Sessions.Growing.{Onward, leads_start, leads_still, onward}
@@ -20,7 +20,7 @@ use Rattle.executor.proofs.Sessions.Growing.{Onward, leads_start, leads_still, o
 abbrev all_of : Effects → List Event
 all_of d = d.events ++ d.pending
 
-module _ {D : Type 0} (look : D → View) (law : WhatStands) (lawful : (d : D) → (look d).honest → Lawful (look d)) where
+module _ {D : Type 0} (look : D → View) (law : JournalLemmas) (lawful : (d : D) → (look d).honest → Lawful (look d)) where
   module _ (x : Service D) (serves : Serves look x) where
     opened_leads : Onward look x.opened x.opened no_effects
     opened_leads =
@@ -53,18 +53,18 @@ module _ {D : Type 0} (look : D → View) (law : WhatStands) (lawful : (d : D) �
           (leads_still look x.opened x.returned x.done (lawful x.returned.disk) is_open returned_leads)) in
           let d = x.done.events in
           let u = x.under_way in
-          let stands = going.crash.crash.from_start honest c (from_earlier (look x.returned.disk).clock serves.behind) in
-          let q = stands.0 in
+          let holds = going.crash.crash.from_start honest c (from_earlier (look x.returned.disk).clock serves.behind) in
+          let q = holds.0 in
           let none : x.done.pending ≡ [] = returned_leads.whole is_open in (
             d ++ q,
             record {
-              others = stands.1;
+              others = holds.1;
               prefix =
-                  append_assoc d q stands.1 ∙ ap (λ (l : List Event). d ++ l) stands.2 ∙ sym (append_assoc d u.events u.pending)
+                  append_assoc d q holds.1 ∙ ap (λ (l : List Event). d ++ l) holds.2 ∙ sym (append_assoc d u.events u.pending)
                   ∙ ap (λ (l : List Event). (d ++ u.events) ++ (l ++ u.pending)) (sym none);
               found =
                   subst (λ (t : State). FoundAs t c)
-                  (ap (λ (s : State). after_all s q) (returned_leads.state is_open) ∙ sym (after_all-append x.opened.state d q)) stands.3;
+                  (ap (λ (s : State). after_all s q) (returned_leads.state is_open) ∙ sym (after_all-append x.opened.state d q)) holds.3;
             },
             (q, refl),
           )
@@ -118,23 +118,23 @@ module _ {D : Type 0} (look : D → View) (law : WhatStands) (lawful : (d : D) �
       each_begun : EachBegun x.opened.state (all_of (followed_by x.done x.under_way)) c x.stop (followed_by x.done x.under_way).entries
       each_begun run clock asked le =
           let begun = whole_leads.crash.starts run clock asked in
-          let stands = begun.behind.from_start honest c
+          let holds = begun.behind.from_start honest c
           (from_earlier (look begun.disk).clock (subst (λ (n : ℕ). n ≤ x.stop) begun.counted le)) in
-          let q = stands.0 in (
+          let q = holds.0 in (
             begun.first ++ q,
             record {
-              others = stands.1;
+              others = holds.1;
               prefix =
-                  append_assoc begun.first q stands.1 ∙ ap (λ (l : List Event). begun.first ++ l) stands.2 ∙ begun.split;
+                  append_assoc begun.first q holds.1 ∙ ap (λ (l : List Event). begun.first ++ l) holds.2 ∙ begun.split;
               found =
-                  subst (λ (t : State). FoundAs t c) (sym (after_all-append x.opened.state begun.first q)) stands.3;
+                  subst (λ (t : State). FoundAs t c) (sym (after_all-append x.opened.state begun.first q)) holds.3;
             },
             begin_among run begun.first (begun.first ++ q) (q, refl) begun.begins,
           )
 
       -- the events that remain of it
-      pub service_stands : (p : List Event) × Stands x p × FoundAs (after_all x.opened.state p) c
-      service_stands =
+      pub service_holds : (p : List Event) × Survives x p × FoundAs (after_all x.opened.state p) c
+      service_holds =
           let base = base_of x.returned.is_open refl in
           let all = all_begun x.opened.state (all_of (followed_by x.done x.under_way)) c x.stop (followed_by x.done x.under_way).entries each_begun
           base.0 base.1 in (

@@ -23,8 +23,8 @@ use Rattle.executor.specs.ExecutorView.{ExecutorView}
 use Rattle.executor.specs.declared.opening.OpenError.{OpenError}
 use Rattle.executor.specs.declared.opening.OpenError.TheVariants as why
 use Rattle.executor.proofs.Openings.Ends.{read_only}
-use Rattle.exec_ledger.specs.Laws.{WhatStands}
-use Rattle.executor.proofs.Lives.Services.{uptime_reserved, service_stands, whole_leads}
+use Rattle.exec_ledger.specs.Laws.{JournalLemmas}
+use Rattle.executor.proofs.Lives.Services.{uptime_reserved, service_holds, whole_leads}
 
 -- one state is found on a pair of parts
 pub record OneFinding : Type 0 where
@@ -43,12 +43,12 @@ boots_is s now = by (any_busy s)
     by false = refl
 
 -- a history begins on a fresh pair, and on one of the first layout
-module _ (law : WhatStands) where
+module _ (law : JournalLemmas) where
   fresh_found : (c : Image) → IsFreshPair c → FoundAs empty c
   fresh_found c fresh = subst (λ (h : Choice). LeadsTo h c empty) (sym fresh) refl
 
   pub written_begins : (s : State) (c : Image) → FoundAs s c → IsToWrite c → BeginsAs s c
-  written_begins s c found to_write = (found, λ p t stands. absurd (law.stays p t c stands to_write))
+  written_begins s c found to_write = (found, λ p t holds. absurd (law.stays p t c holds to_write))
 
   pub fresh_begins : (c : Image) → IsFreshPair c → BeginsAs empty c
   fresh_begins c fresh = written_begins empty c (fresh_found c fresh) (inl fresh)
@@ -56,7 +56,7 @@ module _ (law : WhatStands) where
   pub first_begins : (s : State) (c : Image) → FoundAs s c → IsFirstPart c → BeginsAs s c
   first_begins s c found first = written_begins s c found (inr (first, (s, found)))
 
-module _ {D : Type 0} (look : D → View) (law : WhatStands) (once : OneFinding) (lawful : (d : D) → (look d).honest → Lawful (look d))
+module _ {D : Type 0} (look : D → View) (law : JournalLemmas) (once : OneFinding) (lawful : (d : D) → (look d).honest → Lawful (look d))
     (start : State) where
   pub one_state : (s t : State) (c : Image) → FoundAs s c → FoundAs t c → s ≡ t
   one_state s t c here there = once.state c s t here there
@@ -130,14 +130,14 @@ module _ {D : Type 0} (look : D → View) (law : WhatStands) (once : OneFinding)
       let before = (life_leaves older is (look x.disk).reads (from (look x.disk).reads (lawful x.disk was_honest).reads_now)).0 in
       let ys = before.0 in
       let same = one_state starts.state (after_all start ys) (look x.disk).reads starts.found before.2 in
-      let stands = service_stands look law lawful x serves honest c left in
+      let holds = service_holds look law lawful x serves honest c left in
       let b = boots (after_all start ys) x.now in
-      let p = stands.0 in
+      let p = holds.0 in
       let opened : after_all start (ys ++ b) ≡ x.opened.state = behind_boots ys starts.state x.now same ∙ sym starts.boot in
       let all : after_all start (ys ++ (b ++ p)) ≡ after_all x.opened.state p =
       ap (λ (l : List Event). after_all start l) (sym (append_assoc ys b p)) ∙ after_all-append start (ys ++ b) p
       ∙ ap (λ (s : State). after_all s p) opened in (
-        (ys ++ (b ++ p), (ys, p, before.1, stands.1, refl), subst (λ (t : State). FoundAs t c) (sym all) stands.2),
+        (ys ++ (b ++ p), (ys, p, before.1, holds.1, refl), subst (λ (t : State). FoundAs t c) (sym all) holds.2),
         uptime_reserved look law lawful x serves honest c left,
       )
 
@@ -151,7 +151,7 @@ module _ {D : Type 0} (look : D → View) (law : WhatStands) (once : OneFinding)
       let before = (life_leaves life is reads (goes_on reads (lawful old (opens.did.crash.passed.honest honest)).reads_now)).0 in
       let same = one_state starts.state (after_all start before.0) reads starts.found before.2 in
       record {
-        stands = before.0;
+        holds = before.0;
         lived = before.1;
         state = starts.boot ∙ ap (λ (s : State). booted s now) same;
         ran = starts.ran ∙ ap (λ (s : State). interrupted s (moment s now)) same;

@@ -238,7 +238,7 @@ service_recorded x s p r =
     let cs = flat_map claims_of x.calls in
     let first = all_claims x.calls (opened_on s x.now x.refuses) r.returned r.done r.moves in
     let here : AllRecorded (booted s x.now) cs p =
-    subst (AllRecorded (booted s x.now) cs) (sym r.stands.2) (recorded_more (booted s x.now) cs r.done.events r.stands.0 first) in
+    subst (AllRecorded (booted s x.now) cs) (sym r.holds.2) (recorded_more (booted s x.now) cs r.done.events r.holds.0 first) in
     recorded_later s cs (boots s x.now) p (subst (λ (t : State). AllRecorded t cs p) (sym (boots_is s x.now)) here)
 
 pub runs_recorded : (start : State) (xs : List Seen) (zs : List Event) → Runs start xs zs → AllRecorded start (claimed xs) zs

@@ -13,7 +13,7 @@ use Rattle.child_model.specs.Children.{Asked}
 use Rattle.child_model.specs.declared.answer.Entry.{Entry}
 use Rattle.exec_journal.specs.Found.{FoundAs}
 use Rattle.exec_journal.specs.Opening.{OpensLike}
-use Rattle.executor.specs.Lives.{EndsOpening, InOpening, InService, IsLife, LifeLeaves, Lived, MayBoot, Serves, Service, Sitting, Stands, boots}
+use Rattle.executor.specs.Lives.{EndsOpening, InOpening, InService, IsLife, LifeLeaves, Lived, MayBoot, Serves, Service, Sitting, Survives, boots}
 use Rattle.executor.specs.Machine.{Label, Machine, MovesAll}
 use Rattle.executor.specs.Runs.{Opening, Remains, Runs, Seen, SeenService, answers_in, opened_on}
 use Rattle.executor.specs.Openings.{StartsLike}
@@ -24,12 +24,12 @@ use Rattle.exec_ledger.specs.Pieces.{followed_by}
 use Rattle.executor.specs.ExecutorView.{due_in}
 use Rattle.executor.specs.declared.opening.OpenError.{OpenError}
 use Rattle.executor.specs.declared.opening.OpenError.TheVariants as why
-use Rattle.exec_ledger.specs.Laws.{WhatStands}
-use Rattle.executor.proofs.Lives.Services.{service_stands, whole_leads}
+use Rattle.exec_ledger.specs.Laws.{JournalLemmas}
+use Rattle.executor.proofs.Lives.Services.{service_holds, whole_leads}
 use Rattle.executor.proofs.Lives.Whole.{OneFinding, behind_boots, one_state}
 use Rattle.executor.proofs.Machines.Calls.{labels_answers, machine_of, moves_all, same_machine}
 
-module _ {D : Type 0} (look : D → View) (law : WhatStands) (once : OneFinding) (lawful : (d : D) → (look d).honest → Lawful (look d))
+module _ {D : Type 0} (look : D → View) (law : JournalLemmas) (once : OneFinding) (lawful : (d : D) → (look d).honest → Lawful (look d))
     (start : State) where
   -- the pair after a behaviour
   abbrev Behind : List (Sitting D) → List Seen → Image → Type 0
@@ -111,8 +111,8 @@ module _ {D : Type 0} (look : D → View) (law : WhatStands) (once : OneFinding)
 
   -- the events that remain of it
   remains_so : (x : Service D) (s : Serves look x) (t : State) (p : List Event) → s.was_running ≡ interrupted t (moment t x.now)
-      → s.was_queued ≡ dropped t (moment t x.now) → machine_of x.opened ≡ opened_on t x.now x.opened.refuses → Stands x p → Remains (view_of x s) t p
-  remains_so x s t p ran queued machine stands = record {
+      → s.was_queued ≡ dropped t (moment t x.now) → machine_of x.opened ≡ opened_on t x.now x.opened.refuses → Survives x p → Remains (view_of x s) t p
+  remains_so x s t p ran queued machine holds = record {
     ran = ran;
     queued = queued;
     returned = machine_of x.returned;
@@ -122,9 +122,9 @@ module _ {D : Type 0} (look : D → View) (law : WhatStands) (once : OneFinding)
     moves = subst (λ (m : Machine). MovesAll (view_of x s).calls m (machine_of x.returned) x.done) machine
         (moves_all look s.calls x.opened x.returned x.done s.returns);
     goes_on = moves_all look s.begun x.returned x.last x.under_way s.goes_on;
-    stands = (stands.later, stands.others, stands.acknowledged, stands.prefix);
+    holds = (holds.later, holds.others, holds.acknowledged, holds.prefix);
     begins = λ run clock asked le.
-        stands.begins run clock (subst (λ (es : List Entry). Asked es run clock) (answers_are x s) asked) le;
+        holds.begins run clock (subst (λ (es : List Entry). Asked es run clock) (answers_are x s) asked) le;
   }
 
   -- every pair that a history may leave is found after a behaviour of the machine
@@ -143,9 +143,9 @@ module _ {D : Type 0} (look : D → View) (law : WhatStands) (once : OneFinding)
       let ys = before.0 in
       let s = after_all start ys in
       let same = same_state starts.state s (look x.disk).reads starts.found before.3 in
-      let stands = service_stands look law lawful x serves honest c left in
+      let holds = service_holds look law lawful x serves honest c left in
       let b = boots s x.now in
-      let p = stands.0 in
+      let p = holds.0 in
       let opened : after_all start (ys ++ b) ≡ x.opened.state =
       behind_boots look law once lawful start ys starts.state x.now same ∙ sym starts.boot in
       let all : after_all start (ys ++ (b ++ p)) ≡ after_all x.opened.state p =
@@ -154,9 +154,9 @@ module _ {D : Type 0} (look : D → View) (law : WhatStands) (once : OneFinding)
       let machine = opened_so x serves s (starts.boot ∙ ap (λ (t : State). booted t x.now) same)
       (starts.due_is ∙ ap (λ (t : State). due_at x.opened.state (moment t x.now)) same) in
       let remains = remains_so x serves s p (starts.ran ∙ ap (λ (t : State). interrupted t (moment t x.now)) same)
-      (starts.queued ∙ ap (λ (t : State). dropped t (moment t x.now)) same) machine stands.1 in (
+      (starts.queued ∙ ap (λ (t : State). dropped t (moment t x.now)) same) machine holds.1 in (
         ys ++ (b ++ p),
         (ys, b ++ p, before.1, (p, remains, refl), refl),
-        (ys, p, before.2, stands.1, refl),
-        subst (λ (t : State). FoundAs t c) (sym all) stands.2,
+        (ys, p, before.2, holds.1, refl),
+        subst (λ (t : State). FoundAs t c) (sym all) holds.2,
       )

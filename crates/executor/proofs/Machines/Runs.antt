@@ -333,7 +333,7 @@ sits_follow (Serving x) s zs fine (p, r, is) =
     (moves_all_so x.begun r.returned r.last r.under_way r.goes_on) in
     let all = went.follow refl fine2 in
     let first : Follow (booted s x.now) p =
-    follow_first (booted s x.now) p r.stands.1 (subst (Follow (booted s x.now)) (sym r.stands.3) all) in
+    follow_first (booted s x.now) p r.holds.1 (subst (Follow (booted s x.now)) (sym r.holds.3) all) in
     subst (Follow s) (sym is) (follow_both s (boots s x.now) p boot (subst (λ (t : State). Follow t p) (sym open_state) first))
 
 pub runs_follow : (start : State) (xs : List Seen) (zs : List Event) → Fine start → Runs start xs zs → Follow start zs

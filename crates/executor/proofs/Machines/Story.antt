@@ -141,7 +141,7 @@ module _ (p : Place) (fits : IsTooLong p.tail (begins_at 10 (begun ∷ [])) → 
     under_way = left_by (answer ∷ []) (begins 1 1);
     moves = (with_action, left_by [] (exec_event 1), no_effects, ask_moves, (refl, refl), refl);
     goes_on = (with_run, left_by (answer ∷ []) (begins 1 1), no_effects, turn_moves, (refl, refl), refl);
-    stands = (begins 1 1 ∷ [], [], refl, refl);
+    holds = (begins 1 1 ∷ [], [], refl, refl);
     begins = has_begin;
   }
 
@@ -167,7 +167,7 @@ module _ (p : Place) (fits : IsTooLong p.tail (begins_at 10 (begun ∷ [])) → 
     under_way = no_effects;
     moves = (refl, refl);
     goes_on = (refl, refl);
-    stands = ([], [], refl, refl);
+    holds = ([], [], refl, refl);
     begins = λ run clock h le. absurd (omega (arith, h.2.1));
   }
 

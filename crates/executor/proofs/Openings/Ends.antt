@@ -13,7 +13,7 @@ use Rattle.disk_model.specs.Runs.{CrashesTo}
 use Rattle.disk_model.specs.View.{Passed, Unwritten, View}
 use Rattle.gated_slots.specs.declared.append.SlotFault.{SlotFault}
 use Rattle.gated_slots.specs.declared.append.SlotFault.TheVariants as slot
-use Rattle.exec_journal.specs.Found.{FoundAs, IsToWrite, StandsAt}
+use Rattle.exec_journal.specs.Found.{FoundAs, IsToWrite, JournalAt}
 use Rattle.exec_journal.specs.Opening.{FailsToOpen, Opens, OpensAt, OpensLike}
 use Rattle.exec_journal.specs.Place.{Place}
 use Rattle.exec_journal.specs.Reserve.{AllHaveReserve, HasReserve, PairHasReserve}
@@ -31,7 +31,7 @@ use Rattle.executor.specs.ExecutorView.{ExecutorView, due_in, ledger_of}
 use Rattle.exec_turn.specs.Turns.{ChildrenMatch}
 use Rattle.exec_ledger.proofs.Booting.{boot_quiet}
 use Rattle.executor.proofs.Keeping.{quiet_matched}
-use Rattle.exec_ledger.specs.Laws.{WhatStands}
+use Rattle.exec_ledger.specs.Laws.{JournalLemmas}
 
 boot_next : (s : State) (m : ℕ) → (boot s m).next_run ≡ s.next_run
 boot_next s m = by (any_busy s)
@@ -153,7 +153,7 @@ unready once old new p s from to now fault opens is = elim is.either [
       (λ h. own_children once old.reads s from (opens.found h) kids.1))
 ]
 
-module _ {D : Type 0} (look : D → View) (law : WhatStands) (once : (c : Image) (s t : State) → FoundAs s c → FoundAs t c → s ≡ t)
+module _ {D : Type 0} (look : D → View) (law : JournalLemmas) (once : (c : Image) (s t : State) → FoundAs s c → FoundAs t c → s ≡ t)
     (old : View) (from : ChildrenView) (now : ℕ) (mid : ExecutorView D) (over : IsOver from mid)
     (opens : OpensAt mid.place mid.state old (look mid.disk)) where
   -- memory was refused before the boot
@@ -196,9 +196,9 @@ module _ {D : Type 0} (look : D → View) (law : WhatStands) (once : (c : Image)
             }
 
     -- where nothing was written, the same is found
-    stands_before : (look mid.disk).honest → (IsToWrite old.reads → ⊥) → StandsAt mid.place mid.state old.reads
-    stands_before h unwritten =
-        subst (λ (c : Image). StandsAt mid.place mid.state c) ((opens.opens.unwritten (λ _. unwritten)).same h) (opens.settled h).stands
+    holds_before : (look mid.disk).honest → (IsToWrite old.reads → ⊥) → JournalAt mid.place mid.state old.reads
+    holds_before h unwritten =
+        subst (λ (c : Image). JournalAt mid.place mid.state c) ((opens.opens.unwritten (λ _. unwritten)).same h) (opens.settled h).holds
 
     -- and nothing was written where a boot does not fit
     lacks_unwritten : (look mid.disk).honest → LacksBoot mid.place.tail mid.state → IsToWrite old.reads → ⊥
@@ -209,14 +209,14 @@ module _ {D : Type 0} (look : D → View) (law : WhatStands) (once : (c : Image)
 
     lacks_reserve : (look mid.disk).honest → LacksBoot mid.place.tail mid.state → LacksReserve old.reads
     lacks_reserve h lacks =
-        record { place = mid.place; state = mid.state; stands = stands_before h (lacks_unwritten h lacks); lacks = lacks }
+        record { place = mid.place; state = mid.state; holds = holds_before h (lacks_unwritten h lacks); lacks = lacks }
 
     lacks_boot : (look mid.disk).honest → LacksReserve old.reads → LacksBoot mid.place.tail mid.state
     lacks_boot h lacks =
-        let same = once old.reads lacks.state mid.state (law.found lacks.place lacks.state old.reads lacks.stands) (opens.found h) in
+        let same = once old.reads lacks.state mid.state (law.found lacks.place lacks.state old.reads lacks.holds) (opens.found h) in
         let here = subst (λ (s : State). LacksBoot lacks.place.tail s) same lacks.lacks in
-        let at = (law.once lacks.place mid.place lacks.state mid.state old.reads lacks.stands
-        (stands_before h (law.stays lacks.place lacks.state old.reads lacks.stands))).0 in
+        let at = (law.once lacks.place mid.place lacks.state mid.state old.reads lacks.holds
+        (holds_before h (law.stays lacks.place lacks.state old.reads lacks.holds))).0 in
         subst (λ p. LacksBoot p.tail mid.state) at here
 
     pub opened : (x : Unit) (final : ExecutorView D) (ran queued : List Notice) → Boots look now (ledger_of mid) new (Ok x) → final.is_open ≡ true

@@ -19,7 +19,7 @@ use Rattle.ocf_types.specs.declared.refusal.Refusal.{Refusal}
 use Rattle.disk_model.specs.Laws.{left_now, started}
 use Rattle.child_model.specs.Children.{ChildrenView}
 use Rattle.exec_journal.specs.Reserve.{PairHasReserve}
-use Rattle.exec_ledger.specs.Laws.{WhatStands, due_after_all-append, joined, settled_leaves, settles, whole as no_call}
+use Rattle.exec_ledger.specs.Laws.{JournalLemmas, due_after_all-append, joined, settled_leaves, settles, whole as no_call}
 use Rattle.exec_ledger.specs.Pieces.{Effects, Leaves, followed_by, no_effects}
 use Rattle.exec_ledger.specs.Commands.{Obeys}
 use Rattle.executor.specs.Commands.{ServesOpen}
@@ -55,7 +55,7 @@ session_more look x y z (j ∷ is) (q ∷ rs) i r a b (m, first, later, takes, r
 )
 
 -- without effects a crash leaves what it might have left before
-pub leads_start : {D : Type 0} (look : D → View) (law : WhatStands) (x : ExecutorView D) → ((look x.disk).honest → Lawful (look x.disk))
+pub leads_start : {D : Type 0} (look : D → View) (law : JournalLemmas) (x : ExecutorView D) → ((look x.disk).honest → Lawful (look x.disk))
     → ExecutorKeeps look x → Leads look x x no_effects
 leads_start look law x lawful keeps = record {
   crash = settled_leaves law x.place x.state look x.disk lawful keeps.journal keeps.room;
@@ -208,7 +208,7 @@ sits_more look x y z is rs i r b lawful sits takes = record {
   leads = λ was_open. leads_more y.is_open look i x y z r sits.effects b refl lawful takes (sits.leads was_open);
 }
 
-pub sits_start : {D : Type 0} (look : D → View) (law : WhatStands) (x : ExecutorView D) → ((look x.disk).honest → Lawful (look x.disk))
+pub sits_start : {D : Type 0} (look : D → View) (law : JournalLemmas) (x : ExecutorView D) → ((look x.disk).honest → Lawful (look x.disk))
     → ExecutorInvariant look x → Sits look [] x x []
 sits_start look law x lawful sound =
     record { effects = no_effects; each = (refl, refl); leads = λ is_open. leads_start look law x lawful (sound is_open) }

@@ -54,7 +54,7 @@ returns-in-Ok-open-clause-runs g c = inl (record {
   ran = c.run_lines-run.result.ended;
   last_disk = c.run_lines-run.result.disk;
   last_agents = c.run_lines-run.result.children;
-  stands = record { logs = search rules; fresh = search rules; waited = c.in_ok-disk.ensures.waits; shown = c.moment.ensures };
+  holds = record { logs = search rules; fresh = search rules; waited = c.in_ok-disk.ensures.waits; shown = c.moment.ensures };
   opened = c.in-Ok-open.ensures.opened;
   at_site = c.in-Ok-open.ensures.site ∙ c.in-Ok-prepared.ensures.sites.0;
   of_site = subst (λ (x : SiteView). (g.H.Host.asked c.args.host.now).source x c.source-source.result) c.in-Ok-prepared.ensures.sites.1 c.source-source.ensures;
@@ -86,7 +86,7 @@ returns-in-Err-clause-runs g c = inr (inl (record {
   lives = c.in_ok-disk.left.items;
   now = c.moment.result;
   why = c.in-Err.fault.why;
-  stands = record { logs = search rules; fresh = search rules; waited = c.in_ok-disk.ensures.waits; shown = c.moment.ensures };
+  holds = record { logs = search rules; fresh = search rules; waited = c.in_ok-disk.ensures.waits; shown = c.moment.ensures };
   refused = search rules;
   ends = c.reported.ensures ∙ ap Err c.opening_fault.ensures;
 }))

@@ -1,20 +1,20 @@
 use Rattle.std.proofs.Common.{[], refl, sym}
 use Rattle.exec_client.specs.Behind.{nothing}
-use Rattle.exec_client.proofs.Growing.{none_stands}
-use Rattle.exec_session.proofs.SendLemmas.{one_more, request_states, request_stands}
+use Rattle.exec_client.proofs.Growing.{none_holds}
+use Rattle.exec_session.proofs.SendLemmas.{one_more, request_states, request_holds}
 use Rattle.exec_session.proofs.answer.request_reply.Goals as goal
 
-pub returns-then-not-is_open-clause-stands : goal.returns-then-not-is_open-clause-stands
-returns-then-not-is_open-clause-stands g c =
+pub returns-then-not-is_open-clause-holds : goal.returns-then-not-is_open-clause-holds
+returns-then-not-is_open-clause-holds g c =
     let x = c.args.executor.now in
-    one_more g.D.Disk.view x x _ refl (none_stands g.D.Disk.view x x [] refl nothing)
+    one_more g.D.Disk.view x x _ refl (none_holds g.D.Disk.view x x [] refl nothing)
 
-pub returns-clause-stands : goal.returns-clause-stands
-returns-clause-stands g c =
+pub returns-clause-holds : goal.returns-clause-holds
+returns-clause-holds g c =
     let x = c.args.executor.now in
     let is_open = sym c.if-not-is_open.ensures.value in
-    request_stands g.D.Disk.view c.args.now c.args.request x x c.command.new.self c.command.result
-    (none_stands g.D.Disk.view x x [] refl nothing) c.command.ensures.serves (c.command.ensures.closes is_open)
+    request_holds g.D.Disk.view c.args.now c.args.request x x c.command.new.self c.command.result
+    (none_holds g.D.Disk.view x x [] refl nothing) c.command.ensures.serves (c.command.ensures.closes is_open)
 
 pub returns-clause-says : goal.returns-clause-says
 returns-clause-says g c =

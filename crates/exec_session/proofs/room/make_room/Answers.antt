@@ -1,12 +1,12 @@
 use Rattle.std.proofs.Common.{[], refl, subst, sym, true≢false, ◌∙◌}
 use Rattle.executor.specs.TidyCalls.{TidiesWhile}
 use Rattle.exec_client.specs.Behind.{nothing}
-use Rattle.exec_client.proofs.Growing.{none_stands, tidied_stands}
+use Rattle.exec_client.proofs.Growing.{none_holds, tidied_holds}
 use Rattle.exec_session.proofs.room.make_room.Goals as goal
 
-pub returns-then-not-is_tidy_due-clause-stands : goal.returns-then-not-is_tidy_due-clause-stands
-returns-then-not-is_tidy_due-clause-stands g c =
-    none_stands g.D.Disk.view c.args.executor.now c.args.executor.now [] refl nothing
+pub returns-then-not-is_tidy_due-clause-holds : goal.returns-then-not-is_tidy_due-clause-holds
+returns-then-not-is_tidy_due-clause-holds g c =
+    none_holds g.D.Disk.view c.args.executor.now c.args.executor.now [] refl nothing
 
 pub returns-then-not-is_tidy_due-clause-makes : goal.returns-then-not-is_tidy_due-clause-makes
 returns-then-not-is_tidy_due-clause-makes g c =
@@ -17,9 +17,9 @@ returns-then-not-is_tidy_due-clause-makes g c =
       none = λ _. refl;
     }
 
-pub returns-clause-stands : goal.returns-clause-stands
-returns-clause-stands g c =
-    tidied_stands g.D.Disk.view c.args.executor.now c.tidy_timed.new.executor c.tidy_timed.result c.tidy_timed.ensures.tidies
+pub returns-clause-holds : goal.returns-clause-holds
+returns-clause-holds g c =
+    tidied_holds g.D.Disk.view c.args.executor.now c.tidy_timed.new.executor c.tidy_timed.result c.tidy_timed.ensures.tidies
 
 pub returns-clause-makes : goal.returns-clause-makes
 returns-clause-makes g c =

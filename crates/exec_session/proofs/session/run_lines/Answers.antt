@@ -1,7 +1,7 @@
 use Rattle.std.proofs.Common.{ap, subst, sym, ◌∙◌}
 use Rattle.executor.specs.ExecutorView.{ExecutorView}
-use Rattle.exec_client.proofs.Growing.{abandoned_stands, all_still_stand}
-use Rattle.exec_client.specs.MaySend.{StandsBehind}
+use Rattle.exec_client.proofs.Growing.{abandoned_holds, all_still_hold}
+use Rattle.exec_client.specs.MaySend.{IsBacked}
 use Rattle.exec_session.specs.Rules.{rules_of}
 use Rattle.exec_session.specs.Spots.{Position}
 use Rattle.exec_session.proofs.BreakLemmas.{ends_from}
@@ -35,13 +35,13 @@ returns-clause-reported g c =
     let look = g.D.Disk.view in
     let (edge, executor) = c.into_parts-edge.result in
     let last = c.abandon.new.self in
-    let stands = all_still_stand look edge.client_view executor last c.into_parts-edge.ensures.stands
-    (abandoned_stands look executor last c.abandon.ensures.abandoned) in
+    let holds = all_still_hold look edge.client_view executor last c.into_parts-edge.ensures.holds
+    (abandoned_holds look executor last c.abandon.ensures.abandoned) in
     let opened = ap (λ (w : Position _). w.at.client_view.opened) c.into_parts-edge.ensures.parts ∙ c.answer_lines-ended.ensures.lasts.opened
     ∙ ap (λ (w : Position _). w.at.client_view.opened) c.new-session.ensures.place ∙ c.requires.fresh.0 in
     record {
       last = last;
-      stands = subst (λ (o : ExecutorView g.row.D.Denot). StandsBehind look o last edge.client_view.reported) opened stands;
+      holds = subst (λ (o : ExecutorView g.row.D.Denot). IsBacked look o last edge.client_view.reported) opened holds;
       is_closed = ap (λ (x : ExecutorView g.row.D.Denot). x.is_open) c.abandon.ensures.abandoned;
       disk_is = c.close-disk.ensures.disk;
       children_are = c.close-disk.ensures.children;

@@ -1,4 +1,4 @@
-use Rattle.exec_ledger.specs.Laws.{WhatStands}
+use Rattle.exec_ledger.specs.Laws.{JournalLemmas}
 use Rattle.executor.specs.SeenLives.{seen}
 use Rattle.executor.proofs.Lives.Lawful.{LawfulLaws, start_lawful}
 use Rattle.executor.proofs.Lives.Whole.{OneFinding}
@@ -8,8 +8,8 @@ use Rattle.executor.proofs.laws.promise.Goals as goal
 
 pub returns : goal.returns
 returns g c =
-    let law : WhatStands =
-    record { found = c.what_stands.ensures.found; once = c.what_stands.ensures.once; fresh = c.what_stands.ensures.fresh; stays = c.what_stands.ensures.stays } in
+    let law : JournalLemmas =
+    record { found = c.lemma_journal_holds.ensures.found; once = c.lemma_journal_holds.ensures.once; fresh = c.lemma_journal_holds.ensures.fresh; stays = c.lemma_journal_holds.ensures.stays } in
     let once : OneFinding = record { state = c.found_once.ensures.state; either = c.found_once.ensures.either } in
     let laws : LawfulLaws =
     record { empty = c.lawful_states.ensures.empty; after = c.lawful_states.ensures.after; stays = c.layouts.ensures.stays; carried = c.layouts.ensures.lawful } in

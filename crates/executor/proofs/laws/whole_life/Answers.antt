@@ -1,16 +1,16 @@
-use Rattle.exec_ledger.specs.Laws.{WhatStands}
+use Rattle.exec_ledger.specs.Laws.{JournalLemmas}
 use Rattle.executor.proofs.Lives.Whole.{OneFinding, first_begins, fresh_begins, life_leaves, opened_behind, opens_behind, looked_sits, refused_sits}
 use Rattle.executor.proofs.laws.whole_life.Goals as goal
 
 pub returns : goal.returns
 returns g c =
-    let law : WhatStands =
-    record { found = c.what_stands.ensures.found; once = c.what_stands.ensures.once; fresh = c.what_stands.ensures.fresh; stays = c.what_stands.ensures.stays } in
+    let law : JournalLemmas =
+    record { found = c.lemma_journal_holds.ensures.found; once = c.lemma_journal_holds.ensures.once; fresh = c.lemma_journal_holds.ensures.fresh; stays = c.lemma_journal_holds.ensures.stays } in
     let once : OneFinding = record { state = c.found_once.ensures.state; either = c.found_once.ensures.either } in
     record {
       fresh = fresh_begins law;
       first = first_begins law;
-      stands = λ start life is image left. (life_leaves g.D.Disk.view law once g.met.D.Disk.lawful start life is image left).0;
+      holds = λ start life is image left. (life_leaves g.D.Disk.view law once g.met.D.Disk.lawful start life is image left).0;
       reserved = λ start life is image left. (life_leaves g.D.Disk.view law once g.met.D.Disk.lawful start life is image left).1;
       opened = opened_behind g.D.Disk.view law once g.met.D.Disk.lawful;
       not_refused = opens_behind g.D.Disk.view law once g.met.D.Disk.lawful;

@@ -2,9 +2,9 @@ use Rattle.std.proofs.Common.{[], List, map, refl, sym, subst, ◌∙◌}
 use Rattle.std.specs.Prelude.{is_ok}
 use Rattle.std.specs.List.{AllByRecursion}
 use Rattle.ocf_types.specs.Kinds.{Reply}
-use Rattle.exec_client.specs.MaySend.{MayAnswer, StandsBehind}
+use Rattle.exec_client.specs.MaySend.{MayAnswer, IsBacked}
 use Rattle.exec_client.specs.SentItem.{answered}
-use Rattle.exec_client.proofs.Growing.{both_stand, may_send}
+use Rattle.exec_client.proofs.Growing.{both_hold, may_send}
 use Rattle.exec_session.specs.Gathered.{waiting}
 use Rattle.exec_session.specs.Spots.{SendsAll, SendsPart, spot}
 use Rattle.exec_session.proofs.EventLemmas.{both_keep, err_map, ok_map, here_keeps, send_cause, send_keeps, sends, sends_part, was_noted}
@@ -28,8 +28,8 @@ send-requires g c =
     let is = sym c.replies.ensures in record {
       may_send =
           may_send look c.self.inside.edge.client_view x y _ c.self.invariant
-          (subst (λ (rs : List Reply). StandsBehind look x y (map answered rs)) is
-          (both_stand look x r y [] _ c.make_room.ensures.stands c.serve_gathered.ensures.stands))
+          (subst (λ (rs : List Reply). IsBacked look x y (map answered rs)) is
+          (both_hold look x r y [] _ c.make_room.ensures.holds c.serve_gathered.ensures.holds))
           (subst (λ (rs : List Reply). AllByRecursion (MayAnswer y) rs) is c.serve_gathered.ensures.says);
     }
 
@@ -40,8 +40,8 @@ invariant_of-self g c =
     let r = c.make_room.new.executor in
     let y = c.serve_gathered.new.executor in
     after_sent look c.self.inside.edge.client_view c.send.new.self.client_view x y _ c.self.invariant
-    (subst (λ (rs : List Reply). StandsBehind look x y (map answered rs)) (sym c.replies.ensures)
-    (both_stand look x r y [] _ c.make_room.ensures.stands c.serve_gathered.ensures.stands))
+    (subst (λ (rs : List Reply). IsBacked look x y (map answered rs)) (sym c.replies.ensures)
+    (both_hold look x r y [] _ c.make_room.ensures.holds c.serve_gathered.ensures.holds))
     c.send.ensures.reported
 
 pub returns-clause-answers : goal.returns-clause-answers

@@ -1,7 +1,7 @@
 use Rattle.std.proofs.Common.{[], ◌∷◌}
 use Rattle.std.specs.Prelude.{is_ok}
 use Rattle.exec_client.specs.SentItem.{answered}
-use Rattle.exec_client.proofs.Growing.{both_stand, may_send}
+use Rattle.exec_client.proofs.Growing.{both_hold, may_send}
 use Rattle.exec_session.specs.Spots.{SendsAll, SendsPart, spot}
 use Rattle.exec_session.proofs.AnswerLemmas.{request_answered}
 use Rattle.exec_session.proofs.EventLemmas.{both_keep, err_map, ok_map, send_cause, send_keeps, sends, sends_part, was_noted}
@@ -20,8 +20,8 @@ send-requires g c =
     let x = c.self.inside.executor in
     let r = c.make_room.new.executor in
     let y = c.request_reply.new.executor in
-    let stands = both_stand look x r y [] (answered c.request_reply.result ∷ []) c.make_room.ensures.stands c.request_reply.ensures.stands in
-    record { may_send = may_send look c.self.inside.edge.client_view x y _ c.self.invariant stands c.request_reply.ensures.says }
+    let holds = both_hold look x r y [] (answered c.request_reply.result ∷ []) c.make_room.ensures.holds c.request_reply.ensures.holds in
+    record { may_send = may_send look c.self.inside.edge.client_view x y _ c.self.invariant holds c.request_reply.ensures.says }
 
 pub invariant_of-self : goal.invariant_of-self
 invariant_of-self g c =
@@ -29,8 +29,8 @@ invariant_of-self g c =
     let x = c.self.inside.executor in
     let r = c.make_room.new.executor in
     let y = c.request_reply.new.executor in
-    let stands = both_stand look x r y [] (answered c.request_reply.result ∷ []) c.make_room.ensures.stands c.request_reply.ensures.stands in
-    after_sent look c.self.inside.edge.client_view c.send.new.self.client_view x y _ c.self.invariant stands c.send.ensures.reported
+    let holds = both_hold look x r y [] (answered c.request_reply.result ∷ []) c.make_room.ensures.holds c.request_reply.ensures.holds in
+    after_sent look c.self.inside.edge.client_view c.send.new.self.client_view x y _ c.self.invariant holds c.send.ensures.reported
 
 pub returns : goal.returns
 returns g c = record {

@@ -1,6 +1,6 @@
 use Rattle.std.proofs.Common.{[], List, refl, sym, subst}
 use Rattle.std.specs.Prelude.{is_ok}
-use Rattle.exec_client.specs.MaySend.{StandsBehind}
+use Rattle.exec_client.specs.MaySend.{IsBacked}
 use Rattle.exec_client.specs.SentItem.{SentItem}
 use Rattle.executor.specs.TurnCalls.{with_empty_book}
 use Rattle.exec_client.proofs.Growing.{may_send}
@@ -23,7 +23,7 @@ send-requires g c =
     let reported = finish_sent look now old (with_empty_book old) last c.finish.result refl is_open takes in record {
       may_send =
           may_send look c.self.inside.edge.client_view old last _ c.self.invariant
-          (subst (λ (items : List SentItem). StandsBehind look old last items) (sym c.of_executor-turn.ensures.items) reported) tt;
+          (subst (λ (items : List SentItem). IsBacked look old last items) (sym c.of_executor-turn.ensures.items) reported) tt;
     }
 
 pub invariant_of-self : goal.invariant_of-self
@@ -37,7 +37,7 @@ invariant_of-self g c =
     c.finish.ensures.finishes in
     let reported = finish_sent look now old (with_empty_book old) last c.finish.result refl is_open takes in
     after_sent look c.self.inside.edge.client_view c.send.new.self.client_view old last _ c.self.invariant
-    (subst (λ (items : List SentItem). StandsBehind look old last items) (sym c.of_executor-turn.ensures.items) reported)
+    (subst (λ (items : List SentItem). IsBacked look old last items) (sym c.of_executor-turn.ensures.items) reported)
     c.send.ensures.reported
 
 pub returns : goal.returns

@@ -2,9 +2,9 @@ use Rattle.std.proofs.Common.{◌≡◌, true, [], List, refl, sym, subst}
 use Rattle.std.specs.Prelude.{is_ok}
 use Rattle.executor.specs.ExecutorView.{ExecutorView}
 use Rattle.executor.specs.TurnCalls.{TurnsWhile}
-use Rattle.exec_client.specs.MaySend.{StandsBehind}
+use Rattle.exec_client.specs.MaySend.{IsBacked}
 use Rattle.exec_client.specs.SentItem.{SentItem}
-use Rattle.exec_client.proofs.Growing.{all_still_stand, may_send}
+use Rattle.exec_client.proofs.Growing.{all_still_hold, may_send}
 use Rattle.exec_session.specs.Spots.{Position, SendsAll, SendsPart, spot}
 use Rattle.exec_session.proofs.EventLemmas.{moved_keeps, send_keeps, unsent}
 use Rattle.exec_session.proofs.StepLemmas.{step_to_fails}
@@ -25,8 +25,8 @@ invariant_of-self g c =
     let look = g.D.Disk.view in
     let x = c.self.inside.executor in
     let middle = c.make_room.new.executor in
-    all_still_stand look c.self.inside.edge.client_view x middle c.self.invariant
-    (cleared_room look x c.clear_book.new.self middle c.clear_book.ensures.cleared c.make_room.ensures.stands)
+    all_still_hold look c.self.inside.edge.client_view x middle c.self.invariant
+    (cleared_room look x c.clear_book.new.self middle c.clear_book.ensures.cleared c.make_room.ensures.holds)
 
 pub send-requires : goal.send-requires
 send-requires g c =
@@ -36,11 +36,11 @@ send-requires g c =
     let middle = c.make_room.new.executor in
     let last = c.turn-end.new.self in
     let takes = subst (λ b. TurnsWhile b look c.args.now middle last c.turn-end.result) is_open c.turn-end.ensures.turns in
-    let room = cleared_room look old c.clear_book.new.self middle c.clear_book.ensures.cleared c.make_room.ensures.stands in
+    let room = cleared_room look old c.clear_book.new.self middle c.clear_book.ensures.cleared c.make_room.ensures.holds in
     let reported = turn_behind_room look c.args.now old middle last c.turn-end.result room is_open takes in record {
       may_send =
           may_send look c.self.inside.edge.client_view old last _ c.self.invariant
-          (subst (λ (items : List SentItem). StandsBehind look old last items) (sym c.of_executor-turn.ensures.items) reported) tt;
+          (subst (λ (items : List SentItem). IsBacked look old last items) (sym c.of_executor-turn.ensures.items) reported) tt;
     }
 
 pub invariant_of-self-2 : goal.invariant_of-self-2
@@ -51,10 +51,10 @@ invariant_of-self-2 g c =
     let middle = c.make_room.new.executor in
     let last = c.turn-end.new.self in
     let takes = subst (λ b. TurnsWhile b look c.args.now middle last c.turn-end.result) is_open c.turn-end.ensures.turns in
-    let room = cleared_room look old c.clear_book.new.self middle c.clear_book.ensures.cleared c.make_room.ensures.stands in
+    let room = cleared_room look old c.clear_book.new.self middle c.clear_book.ensures.cleared c.make_room.ensures.holds in
     let reported = turn_behind_room look c.args.now old middle last c.turn-end.result room is_open takes in
     after_sent look c.self.inside.edge.client_view c.send.new.self.client_view old last _ c.self.invariant
-    (subst (λ (items : List SentItem). StandsBehind look old last items) (sym c.of_executor-turn.ensures.items) reported)
+    (subst (λ (items : List SentItem). IsBacked look old last items) (sym c.of_executor-turn.ensures.items) reported)
     c.send.ensures.reported
 
 pub invariant_of-self-in_err-send : goal.invariant_of-self-in_err-send
@@ -65,10 +65,10 @@ invariant_of-self-in_err-send g c =
     let middle = c.make_room.new.executor in
     let last = c.turn-end.new.self in
     let takes = subst (λ b. TurnsWhile b look c.args.now middle last c.turn-end.result) is_open c.turn-end.ensures.turns in
-    let room = cleared_room look old c.clear_book.new.self middle c.clear_book.ensures.cleared c.make_room.ensures.stands in
+    let room = cleared_room look old c.clear_book.new.self middle c.clear_book.ensures.cleared c.make_room.ensures.holds in
     let reported = turn_behind_room look c.args.now old middle last c.turn-end.result room is_open takes in
     after_sent look c.self.inside.edge.client_view c.send.new.self.client_view old last _ c.self.invariant
-    (subst (λ (items : List SentItem). StandsBehind look old last items) (sym c.of_executor-turn.ensures.items) reported)
+    (subst (λ (items : List SentItem). IsBacked look old last items) (sym c.of_executor-turn.ensures.items) reported)
     c.send.ensures.reported
 
 pub returns-then-not-make_room : goal.returns-then-not-make_room

@@ -1,6 +1,6 @@
 use Rattle.std.proofs.Common.{OnErr, OnOk}
 use Rattle.std.specs.Prelude.{is_ok}
-use Rattle.exec_client.specs.MaySend.{IsOfView, StandsBehind}
+use Rattle.exec_client.specs.MaySend.{IsOfView, IsBacked}
 use Rattle.exec_client.specs.SentItem.{sent_in}
 use Rattle.exec_client.proofs.Growing.{may_send}
 use Rattle.exec_session.specs.Spots.{Position, SendsAll, SendsPart, at_of}
@@ -18,7 +18,7 @@ send-requires g c =
     let items = sent_in c.args.what.now in record {
       may_send =
           may_send look e.client_view x x _ c.self.invariant
-          (parts (λ (P : Position _). StandsBehind look P.at.executor P.at.executor items) x e p c.self.view_is c.requires.stands)
+          (parts (λ (P : Position _). IsBacked look P.at.executor P.at.executor items) x e p c.self.view_is c.requires.holds)
           (parts (λ (P : Position _). IsOfView P.at.executor c.args.what.now) x e p c.self.view_is c.requires.says);
     }
 
@@ -29,7 +29,7 @@ invariant_of-self g c =
     let e = c.self.inside.edge in
     let items = sent_in c.args.what.now in
     after_sent look e.client_view c.send.new.self.client_view x x items c.self.invariant
-    (parts (λ (P : Position _). StandsBehind look P.at.executor P.at.executor items) x e c.args.self.now c.self.view_is c.requires.stands)
+    (parts (λ (P : Position _). IsBacked look P.at.executor P.at.executor items) x e c.args.self.now c.self.view_is c.requires.holds)
     c.send.ensures.reported
 
 pub returns : goal.returns

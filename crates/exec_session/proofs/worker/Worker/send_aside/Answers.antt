@@ -1,12 +1,12 @@
 use Rattle.std.proofs.Common.{refl}
 use Rattle.exec_client.specs.SentItem.{Answered}
 use Rattle.exec_client.proofs.Behinds.{states_nothing}
-use Rattle.exec_client.proofs.Growing.{none_stands}
+use Rattle.exec_client.proofs.Growing.{none_holds}
 use Rattle.exec_session.proofs.worker.Worker.send_aside.Goals as goal
 
 pub send-requires : goal.send-requires
 send-requires g c =
     let x = c.args.self.now.at.executor in record {
-      stands = none_stands g.D.Disk.view x x _ refl (states_nothing (Answered c.args.news.now) c.requires.plain);
+      holds = none_holds g.D.Disk.view x x _ refl (states_nothing (Answered c.args.news.now) c.requires.plain);
       says = c.requires.says;
     }

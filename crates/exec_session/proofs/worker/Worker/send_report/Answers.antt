@@ -4,7 +4,7 @@ use Rattle.executor.specs.Reports.{ReportView}
 use Rattle.exec_client.specs.SentItem.{Reported}
 use Rattle.exec_session.specs.Spots.{SendsAll, SendsPart}
 use Rattle.exec_session.proofs.StepLemmas.{step_after, step_fails}
-use Rattle.exec_session.proofs.SendLemmas.{reported_stand}
+use Rattle.exec_session.proofs.SendLemmas.{reported_hold}
 use Rattle.exec_session.proofs.worker.Worker.send_report.Goals as goal
 
 pub send-requires : goal.send-requires
@@ -12,12 +12,12 @@ send-requires g c =
     let x = c.args.self.now.at.executor in
     let same : x.opening_report.interrupted ≡ c.args.report.now.interrupted.items = ap (λ (r : ReportView). r.interrupted) c.requires.opening_report in
     record {
-      stands = reported_stand g.D.Disk.view x c.as_slice.result.now;
+      holds = reported_hold g.D.Disk.view x c.as_slice.result.now;
       says = inl (c.as_slice.ensures.value ∙ sym same);
     }
 
-pub send-requires-2-clause-stands : goal.send-requires-2-clause-stands
-send-requires-2-clause-stands g c = reported_stand g.D.Disk.view c.send.new.self.at.executor c.as_slice-2.result.now
+pub send-requires-2-clause-holds : goal.send-requires-2-clause-holds
+send-requires-2-clause-holds g c = reported_hold g.D.Disk.view c.send.new.self.at.executor c.as_slice-2.result.now
 
 pub returns : goal.returns
 returns g c = record {

@@ -1,4 +1,4 @@
-use Rattle.exec_client.proofs.Growing.{all_still_stand, tidied_stands}
+use Rattle.exec_client.proofs.Growing.{all_still_hold, tidied_holds}
 use Rattle.exec_session.proofs.worker.Worker.tidy.Goals as goal
 
 pub invariant_of-self : goal.invariant_of-self
@@ -6,5 +6,5 @@ invariant_of-self g c =
     let look = g.D.Disk.view in
     let x = c.self.inside.executor in
     let y = c.tidy_timed.new.executor in
-    all_still_stand look c.self.inside.edge.client_view x y c.self.invariant
-    (tidied_stands look x y c.tidy_timed.result c.tidy_timed.ensures.tidies)
+    all_still_hold look c.self.inside.edge.client_view x y c.self.invariant
+    (tidied_holds look x y c.tidy_timed.result c.tidy_timed.ensures.tidies)

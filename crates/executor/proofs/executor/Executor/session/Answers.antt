@@ -4,15 +4,15 @@ use Rattle.std.specs.Vec.{vec_len}
 use Rattle.std.specs.Vec.Iter.{into_iter_items}
 use Rattle.ocf_types.specs.Kinds.{Reply}
 use Rattle.executor.specs.Sessions.{Input, Sits}
-use Rattle.exec_ledger.specs.Laws.{WhatStands}
+use Rattle.exec_ledger.specs.Laws.{JournalLemmas}
 use Rattle.executor.proofs.Sessions.Growing.{sits_more, sits_start}
 use Rattle.executor.proofs.executor.Executor.session.Goals as goal
 
 pub loop-input-init : goal.loop-input-init
 loop-input-init g c =
     let x = c.args.self.now in
-    let law : WhatStands =
-    record { found = c.what_stands.ensures.found; once = c.what_stands.ensures.once; fresh = c.what_stands.ensures.fresh; stays = c.what_stands.ensures.stays } in
+    let law : JournalLemmas =
+    record { found = c.lemma_journal_holds.ensures.found; once = c.lemma_journal_holds.ensures.once; fresh = c.lemma_journal_holds.ensures.fresh; stays = c.lemma_journal_holds.ensures.stays } in
     let whole_len : vec_len c.args.inputs ≡ length c.args.inputs.items = search rules in
     let all = c.into_iter-input-iterator.ensures.into_iter_gives.0 in
     record {
