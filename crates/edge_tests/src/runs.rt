@@ -203,7 +203,7 @@ fn a_run_that_serves_states_that_it_is_ready_and_answers_as_a_run_does(rt: HostR
 
 // A start, then empty lines up to twice 64 lines in all, and a question: the second turn, before the question, reports the end of
 // the start.
-const BEHIND_A_TURN: &[u8] =
+const AFTER_A_TURN: &[u8] =
     b"{\"op\":\"register\",\"id\":\"r1\",\"provider\":\"p\",\"type\":\"t\"}\n{\"op\":\"exec\",\"id\":\"r1\",\"action\":\"start\"}\n\
     \n\n\n\n\n\n\n\n\n\n\n\n\n\n\n\n\n\n\n\n\n\n\n\n\n\n\n\n\n\n\n\n\n\n\n\n\n\n\n\n\n\n\
     \n\n\n\n\n\n\n\n\n\n\n\n\n\n\n\n\n\n\n\n\n\n\n\n\n\n\n\n\n\n\n\n\n\n\n\n\n\n\n\n\n\n\
@@ -219,7 +219,7 @@ const REPORTED_BETWEEN: &str =
 
 #[test]
 fn a_run_that_serves_makes_turns_between_lines(rt: HostRuntime) {
-    let run = served(rt.alloc(), &[Poll::Exited(7)], BEHIND_A_TURN).expect(&rt, "no run");
+    let run = served(rt.alloc(), &[Poll::Exited(7)], AFTER_A_TURN).expect(&rt, "no run");
     assert_eq!(rt; run.text(), REPORTED_BETWEEN);
     assert_eq!(rt; run.ended, Ok(()));
 }

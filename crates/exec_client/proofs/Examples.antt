@@ -7,7 +7,7 @@ use Rattle.executor.specs.Lives.{Took}
 use Rattle.executor.specs.Sessions.{Effects}
 use Rattle.executor.specs.ExecutorView.{ExecutorView}
 use Rattle.executor.specs.declared.session.InputOf.TheVariants as input
-use Rattle.exec_client.specs.Behind.{Behind, states_else, sends, untold}
+use Rattle.exec_client.specs.BackedBy.{BackedBy, states_else, sends, untold}
 use Rattle.exec_client.specs.SentItem.{SentItem, answered}
 use Rattle.exec_client.specs.Sends.{SendsCalls}
 
@@ -16,14 +16,14 @@ abbrev ok : SentItem
 ok = answered Done
 
 -- no recorded event backs it
-too_early : (ss : List SentItem) → Behind (ok ∷ ss) [] → ⊥
-too_early ss (states_else _ _ _ none behind) = true≢false none
+too_early : (ss : List SentItem) → BackedBy (ok ∷ ss) [] → ⊥
+too_early ss (states_else _ _ _ none backed) = true≢false none
 
 -- one event backs two of them
-twice : (e : Event) → Behind (ok ∷ ok ∷ []) (e ∷ []) → ⊥
-twice e (untold _ _ _ behind) = too_early (ok ∷ []) behind
-twice e (sends _ _ _ _ is behind) = too_early [] behind
-twice e (states_else _ _ _ none behind) = true≢false none
+twice : (e : Event) → BackedBy (ok ∷ ok ∷ []) (e ∷ []) → ⊥
+twice e (untold _ _ _ backed) = too_early (ok ∷ []) backed
+twice e (sends _ _ _ _ is backed) = too_early [] backed
+twice e (states_else _ _ _ none backed) = true≢false none
 
 module _ {D : Type 0} (look : D → View) (x y : ExecutorView D) (d : Effects) where
   -- no call was made

@@ -11,7 +11,7 @@ use Rattle.ocf_types.specs.declared.reply.ReplyOf.TheVariants as reply
 use Rattle.ocf_types.specs.declared.reply.TidyEnd.{TidyEnd}
 use Rattle.ocf_types.specs.declared.reply.TurnEnd.{TurnEnd}
 use Rattle.disk_model.specs.View.{View}
-use Rattle.executor.specs.CallLaws.{followed_by_none, calls_behind}
+use Rattle.executor.specs.CallLaws.{followed_by_none, calls_after}
 use Rattle.exec_ledger.specs.Commands.{Obeys}
 use Rattle.executor.specs.Commands.{Serves, ServesWhile}
 use Rattle.executor.specs.Lives.{Abandoned, Calls, Cleared, Does, Exchange, Finished, Batch, Tidied, Took}
@@ -27,45 +27,45 @@ use Rattle.executor.specs.TidyCalls.{Tidies, TidiesWhile}
 use Rattle.executor.specs.TurnCalls.{FinishesTurn, TakesTurn, abandoned, with_empty_book}
 use Rattle.executor.specs.declared.session.InputOf.TheVariants as input
 use Rattle.exec_ledger.proofs.Keeping.{command_keeps}
-use Rattle.exec_client.specs.Behind.{Behind, claims, nothing}
+use Rattle.exec_client.specs.BackedBy.{BackedBy, claims, nothing}
 use Rattle.exec_client.specs.ClientView.{ClientView}
 use Rattle.exec_client.specs.MaySend.{AllBacked, MayBeReplied, MayReply, IsOfView, MaySend, IsBacked}
 use Rattle.exec_client.specs.SentItem.{Answered, SentItem, answered, sent_in}
 use Rattle.exec_client.specs.Sends.{States, SendsCalls, noticed}
 use Rattle.exec_client.specs.declared.message.Message.{Message}
 use Rattle.exec_commands.specs.declared.reply.LineReply.{LineReply}
-use Rattle.exec_client.proofs.Behinds.{both_behind, failed_behind, finish_behind, reply_behind, batch_behind, states_nothing, turn_behind}
+use Rattle.exec_client.proofs.Behinds.{both_after, failed_after, finish_after, reply_after, batch_after, states_nothing, turn_after}
 use Rattle.exec_client.proofs.Saying.{no_claim}
 use Rattle.exec_client.proofs.CallsSent.{both_send, claims_nothing, commands_send, one_sends}
 
 -- a refusal
-refused_behind : (r : Reply) (why : Refusal) → r ≡ reply.Refused why → Behind (answered r ∷ []) []
-refused_behind r why is =
-    subst (λ (t : Reply). Behind (answered t ∷ []) []) (sym is) (states_nothing (answered (reply.Refused why)) refl)
+refused_after : (r : Reply) (why : Refusal) → r ≡ reply.Refused why → BackedBy (answered r ∷ []) []
+refused_after r why is =
+    subst (λ (t : Reply). BackedBy (answered t ∷ []) []) (sym is) (states_nothing (answered (reply.Refused why)) refl)
 
 -- events that are equal to these
-events_are : (ss : List SentItem) (d e : Effects) → d ≡ e → Behind ss e.events → Behind ss d.events
-events_are ss d e same behind = subst (λ (f : Effects). Behind ss f.events) (sym same) behind
+events_are : (ss : List SentItem) (d e : Effects) → d ≡ e → BackedBy ss e.events → BackedBy ss d.events
+events_are ss d e same backed = subst (λ (f : Effects). BackedBy ss f.events) (sym same) backed
 
 module _ {D : Type 0} (look : D → View) where
   -- no call, one call, and calls after others
-  pub none_holds : (x y : ExecutorView D) (items : List SentItem) → y ≡ x → Behind items [] → IsBacked look x y items
-  none_holds x y items same behind = record {
+  pub none_holds : (x y : ExecutorView D) (items : List SentItem) → y ≡ x → BackedBy items [] → IsBacked look x y items
+  none_holds x y items same backed = record {
     calls = [];
     effects = no_effects;
     leads = (same, refl);
-    sends = (same, refl, claims_nothing items behind);
-    behind = behind;
+    sends = (same, refl, claims_nothing items backed);
+    backed = backed;
   }
 
-  one_holds : (x y : ExecutorView D) (e : Exchange) (d : Effects) (items : List SentItem) → Does look e x y d → States e y items → Behind items d.events
+  one_holds : (x y : ExecutorView D) (e : Exchange) (d : Effects) (items : List SentItem) → Does look e x y d → States e y items → BackedBy items d.events
       → IsBacked look x y items
-  one_holds x y e d items does says behind = record {
+  one_holds x y e d items does says backed = record {
     calls = e ∷ [];
     effects = d;
     leads = (y, d, no_effects, does, (refl, refl), sym (followed_by_none d));
     sends = one_sends look x y e d items does says;
-    behind = behind;
+    backed = backed;
   }
 
   pub both_hold : (x y z : ExecutorView D) (ss ts : List SentItem) → IsBacked look x y ss → IsBacked look y z ts
@@ -73,9 +73,9 @@ module _ {D : Type 0} (look : D → View) where
   both_hold x y z ss ts one two = record {
     calls = one.calls ++ two.calls;
     effects = followed_by one.effects two.effects;
-    leads = calls_behind look x y z one.calls two.calls one.effects two.effects one.leads two.leads;
+    leads = calls_after look x y z one.calls two.calls one.effects two.effects one.leads two.leads;
     sends = both_send look x y z one.calls two.calls one.effects two.effects ss ts one.sends two.sends;
-    behind = both_behind ss one.effects.events ts two.effects.events one.behind two.behind;
+    backed = both_after ss one.effects.events ts two.effects.events one.backed two.backed;
   }
 
   -- nothing is sent of the later calls
@@ -84,15 +84,15 @@ module _ {D : Type 0} (look : D → View) where
       subst (λ (items : List SentItem). IsBacked look x z items) (append-nil ss) (both_hold x y z ss [] one two)
 
   -- a command
-  obeys_behind : (now : ℕ) (c : Command) (x y : ExecutorView D) (r : Reply) (found : Result Event Refusal) → event_of x.state now c ≡ found
-      → Obeys look found (ledger_of x) (ledger_of y) r → Behind (answered r ∷ []) (command_effects found r).events
-  obeys_behind now c x y r (Err why) is (refused, same) = refused_behind r why refused
-  obeys_behind now c x y r (Ok e) is records = reply_behind e r (command_keeps x.state now c e is) records.reported
+  obeys_after : (now : ℕ) (c : Command) (x y : ExecutorView D) (r : Reply) (found : Result Event Refusal) → event_of x.state now c ≡ found
+      → Obeys look found (ledger_of x) (ledger_of y) r → BackedBy (answered r ∷ []) (command_effects found r).events
+  obeys_after now c x y r (Err why) is (refused, same) = refused_after r why refused
+  obeys_after now c x y r (Ok e) is records = reply_after e r (command_keeps x.state now c e is) records.reported
 
   -- a request
   while_taken : (b : Bool) (now : ℕ) (request : Request) (x y : ExecutorView D) (r : Reply) → ServesWhile b look now request x y r
       → (b ≡ true → ((y.is_open ≡ false) ↔ (r ≡ reply.Refused Disk)))
-      → (d : Effects) × TakesWhile b look (input.Request now request) x y r d × Behind (answered r ∷ []) d.events
+      → (d : Effects) × TakesWhile b look (input.Request now request) x y r d × BackedBy (answered r ∷ []) d.events
   while_taken true now (asked.Question question) x y r serves closes = (
     no_effects,
     record { serves = serves; closes = closes refl; does = refl },
@@ -101,59 +101,59 @@ module _ {D : Type 0} (look : D → View) where
   while_taken true now (asked.Command c) x y r serves closes = (
     command_effects (event_of x.state now c) r,
     record { serves = serves; closes = closes refl; does = refl },
-    obeys_behind now c x y r (event_of x.state now c) refl serves.0,
+    obeys_after now c x y r (event_of x.state now c) refl serves.0,
   )
-  while_taken false now request x y r serves closes = (no_effects, (serves.0, serves.1, refl), refused_behind r _ serves.0)
+  while_taken false now request x y r serves closes = (no_effects, (serves.0, serves.1, refl), refused_after r _ serves.0)
 
   pub serves_holds : (now : ℕ) (request : Request) (x y : ExecutorView D) (r : Reply) → Serves look now request x y r
       → (x.is_open ≡ true → ((y.is_open ≡ false) ↔ (r ≡ reply.Refused Disk))) → IsBacked look x y (answered r ∷ [])
   serves_holds now request x y r serves closes =
-      let (d, takes, behind) = while_taken x.is_open now request x y r serves closes in
-      one_holds x y (Took (input.Request now request) r) d (answered r ∷ []) takes refl behind
+      let (d, takes, backed) = while_taken x.is_open now request x y r serves closes in
+      one_holds x y (Took (input.Request now request) r) d (answered r ∷ []) takes refl backed
 
   -- commands in a batch
   batch_holds : (now : ℕ) (cs : List Command) (x y : ExecutorView D) (rs : List Reply) (d : Effects) → TakesBatch look now cs x y rs d
-      → Behind (map answered rs) d.events
+      → BackedBy (map answered rs) d.events
   batch_holds now cs x y rs d takes = by y.is_open refl
     where
-      sent_so : (b : Bool) → y.is_open ≡ b → Behind (map answered (batch_replies b takes.takes.meant)) (batch_effects b takes.takes.events).events
-          → Behind (map answered rs) d.events
-      sent_so b is behind =
+      sent_so : (b : Bool) → y.is_open ≡ b → BackedBy (map answered (batch_replies b takes.takes.meant)) (batch_effects b takes.takes.events).events
+          → BackedBy (map answered rs) d.events
+      sent_so b is backed =
           events_are (map answered rs) d (batch_effects b takes.takes.events) (takes.does ∙ ap (λ (o : Bool). batch_effects o takes.takes.events) is)
-          (subst (λ (ts : List Reply). Behind (map answered ts) (batch_effects b takes.takes.events).events)
-          (sym (takes.takes.reported ∙ ap (λ (o : Bool). batch_replies o takes.takes.meant) is)) behind)
+          (subst (λ (ts : List Reply). BackedBy (map answered ts) (batch_effects b takes.takes.events).events)
+          (sym (takes.takes.reported ∙ ap (λ (o : Bool). batch_replies o takes.takes.meant) is)) backed)
 
-      by : (b : Bool) → y.is_open ≡ b → Behind (map answered rs) d.events
-      by true is = sent_so true is (batch_behind now x.state cs takes.takes.meant takes.takes.events takes.takes.answered)
-      by false is = sent_so false is (failed_behind takes.takes.meant)
+      by : (b : Bool) → y.is_open ≡ b → BackedBy (map answered rs) d.events
+      by true is = sent_so true is (batch_after now x.state cs takes.takes.meant takes.takes.events takes.takes.answered)
+      by false is = sent_so false is (failed_after takes.takes.meant)
 
   -- one of the calls by which commands are carried out
-  taken_behind : (b : Bool) (at : ℕ) (c : Command) (x y : ExecutorView D) (r : Reply) (d : Effects)
-      → TakesWhile b look (input.Request at (asked.Command c)) x y r d → Behind (answered r ∷ []) d.events
-  taken_behind true at c x y r d takes =
+  taken_after : (b : Bool) (at : ℕ) (c : Command) (x y : ExecutorView D) (r : Reply) (d : Effects)
+      → TakesWhile b look (input.Request at (asked.Command c)) x y r d → BackedBy (answered r ∷ []) d.events
+  taken_after true at c x y r d takes =
       events_are (answered r ∷ []) d (command_effects (event_of x.state at c) r) takes.does
-      (obeys_behind at c x y r (event_of x.state at c) refl takes.serves.0)
-  taken_behind false at c x y r d (refused, same, none) = events_are (answered r ∷ []) d no_effects none (refused_behind r _ refused)
+      (obeys_after at c x y r (event_of x.state at c) refl takes.serves.0)
+  taken_after false at c x y r d (refused, same, none) = events_are (answered r ∷ []) d no_effects none (refused_after r _ refused)
 
-  one_behind : (now : ℕ) (e : Exchange) (x y : ExecutorView D) (d : Effects) → IsAt now e → Does look e x y d
-      → Behind (map answered (replies_of e)) d.events
-  one_behind now (Took (input.Request at (asked.Command c)) r) x y d is does = taken_behind x.is_open at c x y r d does
-  one_behind now (Took (input.Request at (asked.Question q)) r) x y d is does = absurd is
-  one_behind now (Took (input.Turn at) r) x y d is does = absurd is
-  one_behind now (Batch at cs rs) x y d is does = batch_holds at cs x y rs d does
-  one_behind now (Finished at end) x y d is does = absurd is
-  one_behind now (Tidied end) x y d is does = absurd is
-  one_behind now Cleared x y d is does = absurd is
-  one_behind now Abandoned x y d is does = absurd is
+  one_after : (now : ℕ) (e : Exchange) (x y : ExecutorView D) (d : Effects) → IsAt now e → Does look e x y d
+      → BackedBy (map answered (replies_of e)) d.events
+  one_after now (Took (input.Request at (asked.Command c)) r) x y d is does = taken_after x.is_open at c x y r d does
+  one_after now (Took (input.Request at (asked.Question q)) r) x y d is does = absurd is
+  one_after now (Took (input.Turn at) r) x y d is does = absurd is
+  one_after now (Batch at cs rs) x y d is does = batch_holds at cs x y rs d does
+  one_after now (Finished at end) x y d is does = absurd is
+  one_after now (Tidied end) x y d is does = absurd is
+  one_after now Cleared x y d is does = absurd is
+  one_after now Abandoned x y d is does = absurd is
 
   calls_sent : (now : ℕ) (es : List Exchange) (x y : ExecutorView D) (d : Effects) → AllByRecursion (IsAt now) es → Calls look x es y d
-      → Behind (map answered (flat_map replies_of es)) d.events
+      → BackedBy (map answered (flat_map replies_of es)) d.events
   calls_sent now [] x y d at (same, none) = events_are [] d no_effects none nothing
   calls_sent now (e ∷ es) x y d at (mid, first, later, does, calls, is) =
-      subst (λ (ss : List SentItem). Behind ss d.events) (sym (map-append answered (replies_of e) (flat_map replies_of es)))
+      subst (λ (ss : List SentItem). BackedBy ss d.events) (sym (map-append answered (replies_of e) (flat_map replies_of es)))
       (events_are (map answered (replies_of e) ++ map answered (flat_map replies_of es)) d (followed_by first later) is
-      (both_behind (map answered (replies_of e)) first.events (map answered (flat_map replies_of es)) later.events
-      (one_behind now e x mid first at.0 does) (calls_sent now es mid y later at.1 calls)))
+      (both_after (map answered (replies_of e)) first.events (map answered (flat_map replies_of es)) later.events
+      (one_after now e x mid first at.0 does) (calls_sent now es mid y later at.1 calls)))
 
   pub commands_hold : (now : ℕ) (cs : List Command) (x y : ExecutorView D) (rs : List Reply) → TakesCommands look now cs x y rs
       → IsBacked look x y (map answered rs)
@@ -164,7 +164,7 @@ module _ {D : Type 0} (look : D → View) where
         leads = takes.calls;
         sends = subst (λ (ts : List Reply). SendsCalls look x takes.exchanges y takes.effects (map answered ts)) takes.answered
             (commands_send look now takes.exchanges x y takes.effects takes.at_once takes.calls);
-        behind = subst (λ (ts : List Reply). Behind (map answered ts) takes.effects.events) takes.answered
+        backed = subst (λ (ts : List Reply). BackedBy (map answered ts) takes.effects.events) takes.answered
             (calls_sent now takes.exchanges x y takes.effects takes.at_once takes.calls);
       }
 
@@ -174,13 +174,13 @@ module _ {D : Type 0} (look : D → View) where
   turn_holds now x y end is_open takes =
       one_holds x y (Took (input.Turn now) (reply.Turn end)) takes.turns.effects (noticed y)
       (while_open _ is_open (record { end = end; takes = takes; replies = refl; does = refl })) refl
-      (turn_behind y.children.book end _ takes.turns.effects y.reported takes.turns.does)
+      (turn_after y.children.book end _ takes.turns.effects y.reported takes.turns.does)
 
   pub finish_holds : (now : ℕ) (x y : ExecutorView D) (end : TurnEnd) → x.is_open ≡ true → FinishesTurn look now x y end
       → IsBacked look x y (noticed y)
   finish_holds now x y end is_open takes =
       one_holds x y (Finished now end) takes.turns.effects (noticed y) (while_open _ is_open (takes, refl)) refl
-      (finish_behind y.children.book end _ takes.turns.effects y.reported takes.turns.does)
+      (finish_after y.children.book end _ takes.turns.effects y.reported takes.turns.does)
 
   pub tidied_holds : (x y : ExecutorView D) (end : TidyEnd) → TidiesWhile x.is_open look x y end → IsBacked look x y []
   tidied_holds x y end tidies = one_holds x y (Tidied end) no_effects [] (tidies, refl) refl nothing

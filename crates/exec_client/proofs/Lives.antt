@@ -3,24 +3,24 @@ use Rattle.std.proofs.Common.{◌≡◌, inl, inr, List, [], ◌∷◌, ◌++◌
 use Rattle.ocf_types.specs.Kinds.{Event}
 use Rattle.ocf_types.specs.State.{State}
 use Rattle.executor.specs.Lives.{InOpening, InService, Lived, Sitting}
-use Rattle.exec_client.specs.Behind.{Behind, nothing}
+use Rattle.exec_client.specs.BackedBy.{BackedBy, nothing}
 use Rattle.exec_client.specs.Lives.{SentOver}
 use Rattle.exec_client.specs.SentItem.{SentItem}
-use Rattle.exec_client.proofs.Behinds.{behind_after, behind_more, both_behind}
+use Rattle.exec_client.proofs.Behinds.{after_after, after_more, both_after}
 
 -- by the equality of their arguments
-by_lists : (ss ts : List SentItem) (es fs : List Event) → ss ≡ ts → es ≡ fs → Behind ts fs → Behind ss es
+by_lists : (ss ts : List SentItem) (es fs : List Event) → ss ≡ ts → es ≡ fs → BackedBy ts fs → BackedBy ss es
 by_lists ss ts es fs same same2 b =
-    subst (λ (ns : List SentItem). Behind ns es) (sym same) (subst (λ (gs : List Event). Behind ts gs) (sym same2) b)
+    subst (λ (ns : List SentItem). BackedBy ns es) (sym same) (subst (λ (gs : List Event). BackedBy ts gs) (sym same2) b)
 
 pub sent_lives : {D : Type 0} (start : State) (life : List (Sitting D)) (reported : List SentItem) (zs : List Event) → SentOver life reported
-    → Lived start life zs → Behind reported zs
+    → Lived start life zs → BackedBy reported zs
 sent_lives start [] reported zs none same = by_lists reported [] zs [] none same nothing
 sent_lives start (InOpening old new now end ∷ older) reported zs over (ys, lived, inl same) =
     by_lists reported reported zs ys refl same (sent_lives start older reported ys over lived)
 sent_lives start (InOpening old new now end ∷ older) reported zs over (ys, lived, inr (may, is)) =
-    by_lists reported reported zs _ refl is (behind_more reported ys _ (sent_lives start older reported ys over lived))
-sent_lives start (InService x ∷ older) reported zs (before, later, over, behind, same) (ys, p, lived, holds, is) =
+    by_lists reported reported zs _ refl is (after_more reported ys _ (sent_lives start older reported ys over lived))
+sent_lives start (InService x ∷ older) reported zs (before, later, over, backed, same) (ys, p, lived, holds, is) =
     by_lists reported (before ++ later) zs _ same is
-    (both_behind before ys later _ (sent_lives start older before ys over lived)
-    (behind_after later _ p (by_lists later later p _ refl holds.acknowledged (behind_more later x.done.events holds.later behind))))
+    (both_after before ys later _ (sent_lives start older before ys over lived)
+    (after_after later _ p (by_lists later later p _ refl holds.acknowledged (after_more later x.done.events holds.later backed))))

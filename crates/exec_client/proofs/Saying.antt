@@ -11,7 +11,7 @@ use Rattle.ocf_types.specs.declared.refusal.Refusal.TheVariants.{Memory, Unknown
 use Rattle.ocf_types.specs.declared.reply.ReplyOf.TheVariants as reply
 use Rattle.exec_state.specs.Answers.{IsReplyOrMemory}
 use Rattle.executor.specs.ExecutorView.{ExecutorView}
-use Rattle.exec_client.specs.Behind.{claims}
+use Rattle.exec_client.specs.BackedBy.{claims}
 use Rattle.exec_client.specs.MaySend.{MayAnswer}
 use Rattle.exec_client.specs.SentItem.{answered}
 

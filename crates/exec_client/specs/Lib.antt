@@ -3,7 +3,7 @@ pub mod Tags
 pub mod Waiting
 pub mod SentItem
 pub mod MessageTags
-pub mod Behind
+pub mod BackedBy
 pub mod Sends
 pub mod ClientView
 pub mod MaySend

@@ -1,7 +1,7 @@
 -- What clients were sent over a history of incarnations.
 use Rattle.std.specs.Prelude.{◌≡◌, List, [], ◌∷◌, ◌++◌}
 use Rattle.executor.specs.Lives.{InOpening, InService, Sitting}
-use Rattle.exec_client.specs.Behind.{Behind}
+use Rattle.exec_client.specs.BackedBy.{BackedBy}
 use Rattle.exec_client.specs.SentItem.{SentItem}
 
 -- these messages were sent over these incarnations, the last one first: in each incarnation the messages are backed by what its calls had
@@ -10,4 +10,4 @@ abbrev pub SentOver : {D : Type 0} → List (Sitting D) → List SentItem → Ty
 SentOver [] reported = reported ≡ []
 SentOver (InOpening old new now end ∷ older) reported = SentOver older reported
 SentOver (InService x ∷ older) reported =
-    (before : List SentItem) × (later : List SentItem) × SentOver older before × Behind later x.done.events × (reported ≡ before ++ later)
+    (before : List SentItem) × (later : List SentItem) × SentOver older before × BackedBy later x.done.events × (reported ≡ before ++ later)

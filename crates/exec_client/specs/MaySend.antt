@@ -15,7 +15,7 @@ use Rattle.exec_commands.specs.declared.reply.LineReply.{LineReply}
 use Rattle.exec_commands.specs.declared.reply.LineReply.TheVariants as line
 use Rattle.exec_commands.specs.declared.service.Counts.{Counts}
 use Rattle.resource_status.specs.Statuses.{statuses_of}
-use Rattle.exec_client.specs.Behind.{Behind}
+use Rattle.exec_client.specs.BackedBy.{BackedBy}
 use Rattle.exec_client.specs.ClientView.{ClientView}
 use Rattle.exec_client.specs.SentItem.{Answered, SentItem, sent_in}
 use Rattle.exec_client.specs.Sends.{SendsCalls}
@@ -29,7 +29,7 @@ pub record IsBacked {D : Type 0} (look : D → View) (old new : ExecutorView D) 
   pub effects : Effects
   pub leads : Calls look old calls new effects
   pub sends : SendsCalls look old calls new effects items
-  pub behind : Behind items effects.events
+  pub backed : BackedBy items effects.events
 
 -- the reply is what an open executor answers to some question, from its state
 abbrev pub IsAnswer : {D : Type 0} → ExecutorView D → Reply → Type 0

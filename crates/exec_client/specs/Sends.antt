@@ -6,7 +6,7 @@ use Rattle.executor.specs.Lives.{Does, Exchange, Finished, Batch, Took}
 use Rattle.executor.specs.Sessions.{Effects, followed_by, no_effects}
 use Rattle.executor.specs.ExecutorView.{ExecutorView}
 use Rattle.executor.specs.declared.session.InputOf.TheVariants as input
-use Rattle.exec_client.specs.Behind.{claims}
+use Rattle.exec_client.specs.BackedBy.{claims}
 use Rattle.exec_client.specs.SentItem.{SentItem, answered, noticed_by}
 
 -- the notices of an executor's last turn, each with the signal that ended its run according to the book of answers of that turn

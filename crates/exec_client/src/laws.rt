@@ -11,7 +11,7 @@ ghost use Rattle.executor.specs.Lives.{IsLife, LifeLeaves, Lived, Sitting};
 ghost use Rattle.executor.specs.Promise.{IsKept};
 ghost use Rattle.executor.specs.Runs.{Runs};
 ghost use Rattle.executor.specs.SeenLives.{seen};
-ghost use Rattle.exec_client.specs.Behind.{Behind};
+ghost use Rattle.exec_client.specs.BackedBy.{BackedBy};
 ghost use Rattle.exec_client.specs.Lives.{SentOver};
 ghost use Rattle.exec_client.specs.SentItem.{SentItem};
 ghost use Rattle.exec_client.specs.Signals.{signal_of};
@@ -28,7 +28,7 @@ pub fn sent_holds<D: Disk>()
         → (c : Image) → LifeLeaves D.view start life c
         → (zs : List Event) × FoundAs (after_all start zs) c
         × Runs start (seen D.view start life is) zs × Lived start life zs
-        × IsKept start (seen D.view start life is) zs × Behind reported zs }
+        × IsKept start (seen D.view start life is) zs × BackedBy reported zs }
 {
     promise::<D>();
 }

@@ -250,13 +250,13 @@ served_data service (line.Ready counts) = ready_data service counts
 served_data service r = reply_data r
 
 -- what follows the line of a reply in a `run` session: metadata and a newline
-abbrev pub behind : LineReply → List ℕ
-behind (line.Meta (Ok metadata)) = metadata.items ++ 10 ∷ []
-behind _ = []
+abbrev pub following : LineReply → List ℕ
+following (line.Meta (Ok metadata)) = metadata.items ++ 10 ∷ []
+following _ = []
 
 -- the bytes of a reply in a `run` session: the compact text of its value, a newline, and what follows
 abbrev pub reply_line : LineReply → List ℕ
-reply_line reply = compact_text (reply_data reply) ++ 10 ∷ behind reply
+reply_line reply = compact_text (reply_data reply) ++ 10 ∷ following reply
 
 -- the line of a notice of a call that has this tag
 abbrev pub formed_line : NoticeForm → Option (List ℕ) → Option ℕ → Notice → List ℕ

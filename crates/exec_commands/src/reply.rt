@@ -4,7 +4,7 @@ ghost use Rattle.serde_json.specs.Data.{string};
 ghost use Rattle.serde_json.specs.View.{view};
 ghost use Rattle.serde_json.specs.Written.{compact_text, has_float};
 ghost use Rattle.exec_commands.specs.Replies.{refusal_data, done_data, accepted_data, list_data, history_data, length_data, request_data};
-ghost use Rattle.exec_commands.specs.Replies.{reply_data, reply_line, request_line, behind};
+ghost use Rattle.exec_commands.specs.Replies.{reply_data, reply_line, request_line, following};
 
 use crate::direct::Direct;
 use crate::ends::{DrainEnd, drain_word, end_value, fault_value, tidy_word, turn_word};
@@ -166,8 +166,8 @@ pub fn write_line(alloc: Global, value: &Value) -> Result<Vec<u8>, AllocError>
 }
 
 // Adds what follows the line of a reply: metadata, and a newline.
-fn push_behind(bytes: &mut Vec<u8>, reply: &LineReply) -> Result<(), AllocError>
-    ensures value { OnOk result (bytes.new.items ≡ bytes.old.items ++ behind reply.now) }
+fn push_after(bytes: &mut Vec<u8>, reply: &LineReply) -> Result<(), AllocError>
+    ensures value { OnOk result (bytes.new.items ≡ bytes.old.items ++ following reply.now) }
     ensures memory { OnErr result (IsTrue ⟦<Global as Grows>⟧.refuses) }
 {
     if let LineReply::Meta(Ok(metadata)) = reply {
@@ -190,7 +190,7 @@ pub fn write_reply(alloc: Global, reply: &LineReply) -> Result<Vec<u8>, AllocErr
     let Ok(mut bytes) = write_line(alloc, &value) else {
         return Err(AllocError);
     };
-    push_behind(&mut bytes, reply)?;
+    push_after(&mut bytes, reply)?;
     Ok(bytes)
 }
 

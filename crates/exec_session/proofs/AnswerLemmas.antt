@@ -22,7 +22,7 @@ use Rattle.exec_session.specs.declared.drain.Terms.{Terms}
 use Rattle.exec_commands.specs.declared.ends.DrainEnd.{DrainEnd}
 use Rattle.exec_session.specs.Progress.{Answers, AnswersSo}
 use Rattle.exec_session.specs.Rules.{MakesRoom, Rules}
-use Rattle.exec_session.specs.Spots.{Keeps, Position, Spot, Sending, SendsAll, SendsPart, at_of, behind, moved, noted, spot}
+use Rattle.exec_session.specs.Spots.{Keeps, Position, Spot, Sending, SendsAll, SendsPart, at_of, following, moved, noted, spot}
 use Rattle.exec_session.specs.Steps.{Sends, Steps}
 use Rattle.exec_session.proofs.EventLemmas.{here_keeps}
 use Rattle.exec_session.proofs.StepLemmas.{step_after}
@@ -109,7 +109,7 @@ module _ {D : Type 0} (look : D → View) (rules : Rules) (ends_idle : Bool) (li
     start,
     end,
     refl,
-    subst (λ (l : ℕ). Drains look rules (Held l) start (behind p.at (Shown start)) q.at end) same
+    subst (λ (l : ℕ). Drains look rules (Held l) start (following p.at (Shown start)) q.at end) same
         (subst (λ (P : Position D). Drains look rules (Held n) start P.at q.at end) is drains),
   )
 
@@ -117,6 +117,6 @@ module _ {D : Type 0} (look : D → View) (rules : Rules) (ends_idle : Bool) (li
       → DrainBreaksFor look ends_idle limit rules p.at q.at
   drain_breaks_for same is breaks = (
     start,
-    subst (λ (l : ℕ). DrainBreaks look rules (Held l) start (behind p.at (Shown start)) q.at) same
+    subst (λ (l : ℕ). DrainBreaks look rules (Held l) start (following p.at (Shown start)) q.at) same
         (subst (λ (P : Position D). DrainBreaks look rules (Held n) start P.at q.at) is breaks),
   )

@@ -18,7 +18,7 @@ use Rattle.exec_commands.specs.declared.line.Line.TheVariants as line
 use Rattle.exec_commands.specs.declared.notice.NoticeForm.{NoticeForm}
 use Rattle.exec_commands.specs.declared.reply.LineReply.{LineReply}
 use Rattle.exec_commands.specs.declared.reply.LineReply.TheVariants as answer
-use Rattle.exec_client.specs.Behind.{nothing}
+use Rattle.exec_client.specs.BackedBy.{nothing}
 use Rattle.exec_client.specs.ClientView.{ClientView, IsSent}
 use Rattle.exec_client.specs.MaySend.{IsBacked}
 use Rattle.exec_client.specs.SentItem.{Answered, SentItem, answered}
@@ -33,13 +33,13 @@ use Rattle.exec_session.specs.Rules.{Rules, MakesRoom, is_tidy_due}
 use Rattle.exec_session.specs.Progress.{Answers}
 use Rattle.exec_session.specs.Looks.{Lines}
 use Rattle.exec_session.specs.Runs.{GoesByCalls, MakesOwnTurn, NewsSo, OwnTurn, Reaches, answers, here, looks, news, no_news, passes, reads, batch, turn as one_turn, waits}
-use Rattle.exec_session.specs.Spots.{Pauses, Position, Spot, SendsAll, behind}
+use Rattle.exec_session.specs.Spots.{Pauses, Position, Spot, SendsAll, following}
 use Rattle.exec_session.specs.Together.{AnswersTogether}
 use Rattle.exec_session.specs.declared.drain.Terms.{Terms}
 use Rattle.exec_session.proofs.DrainLemmas.{closes, still_open}
 use Rattle.exec_session.proofs.LeaveLemmas.{finish_sent}
 use Rattle.exec_session.proofs.SendLemmas.{Plain, cleared_room, closed_plain, is_plain, refused_hold, request_holds, status_plain}
-use Rattle.exec_session.proofs.SendLemmas.{together_hold, turn_behind_room}
+use Rattle.exec_session.proofs.SendLemmas.{together_hold, turn_after_room}
 
 -- a tidy by a call, or none, and no message
 room_holds : {D : Type 0} (look : D → View) (rules : Rules) (now : ℕ) (x y : ExecutorView D) → x.is_open ≡ true
@@ -168,7 +168,7 @@ module _ {D : Type 0} (look : D → View) where
         by : (b : Bool) → made.middle.is_open ≡ b → Goes p q
         by true open_still =
             sent_go p q (noticed q.executor) (made.sends_all open_still).receives.reported
-            (turn_behind_room look now p.executor made.middle q.executor end room open_still (made.takes open_still))
+            (turn_after_room look now p.executor made.middle q.executor end room open_still (made.takes open_still))
         by false closed =
             let (ended, same) = made.fails closed in
             quiet_go p q (ap (λ (s : Spot D). s.client_view) same)
@@ -203,12 +203,12 @@ module _ {D : Type 0} (look : D → View) where
         sends_go rules.form p s q (Answered reply ∷ []) (ap (λ (t : Spot D). t.client_view) serves.shown)
         (request_goes request p s reply is_open serves) sends_all
     open_goes source p s q (Ok (line.Drain limit)) reply is_open (now, end, is, drains) sends_all =
-        both_go p s q (both_go p (behind p (Shown now)) s (unmoved p (behind p (Shown now)) refl refl)
-        (drain_goes _ _ (behind p (Shown now)) s end is_open drains))
+        both_go p s q (both_go p (following p (Shown now)) s (unmoved p (following p (Shown now)) refl refl)
+        (drain_goes _ _ (following p (Shown now)) s end is_open drains))
         (plain_go rules.form s q reply (is_plain s.executor reply (answer.Drain end) is (refl, tt)) sends_all)
     open_goes source p s q (Ok (line.Watch limit)) reply is_open (now, end, is, drains) sends_all =
-        both_go p s q (both_go p (behind p (Shown now)) s (unmoved p (behind p (Shown now)) refl refl)
-        (drain_goes _ _ (behind p (Shown now)) s end is_open drains))
+        both_go p s q (both_go p (following p (Shown now)) s (unmoved p (following p (Shown now)) refl refl)
+        (drain_goes _ _ (following p (Shown now)) s end is_open drains))
         (plain_go rules.form s q reply (is_plain s.executor reply (answer.Drain end) is (refl, tt)) sends_all)
     open_goes source p s q (Ok line.Tidy) reply is_open (end, is, tidies, same) sends_all =
         both_go p s q (quiet_go p s (ap (λ (t : Spot D). t.client_view) same) (tidy_holds look p.executor s.executor end is_open tidies))
@@ -251,8 +251,8 @@ module _ {D : Type 0} (look : D → View) where
     own_turn_goes : (before : TurnEnd) (now : ℕ) (p q : Spot D) (end : TurnEnd) → p.executor.is_open ≡ true
         → MakesOwnTurn look rules before now p q end → Goes p q
     own_turn_goes before now p q end is_open own =
-        both_go p own.noticed q (both_go p (behind p (Shown now)) own.noticed (unmoved p (behind p (Shown now)) refl refl)
-        (turn_goes now (behind p (Shown now)) own.noticed end is_open own.made))
+        both_go p own.noticed q (both_go p (following p (Shown now)) own.noticed (unmoved p (following p (Shown now)) refl refl)
+        (turn_goes now (following p (Shown now)) own.noticed end is_open own.made))
         (news_go before end own.noticed q own.reported)
 
     -- line after line, and turns between them
@@ -260,9 +260,9 @@ module _ {D : Type 0} (look : D → View) where
         → Reaches look source rules p own n lines q → Goes p.at q.at
     lines_go source p _ _ _ _ here = here_still p.at
     lines_go source p _ _ _ _ (looks own n lines m event reaches is) =
-        both_go p.at m.at _ (lines_go source p own n lines m reaches) (unmoved m.at (behind m.at event) refl refl)
+        both_go p.at m.at _ (lines_go source p own n lines m reaches) (unmoved m.at (following m.at event) refl refl)
     lines_go source p _ _ _ _ (waits own n lines m event reaches goes_on rests is) =
-        both_go p.at m.at _ (lines_go source p own n lines m reaches) (unmoved m.at (behind m.at event) refl refl)
+        both_go p.at m.at _ (lines_go source p own n lines m reaches) (unmoved m.at (following m.at event) refl refl)
     lines_go source p _ _ _ _ (reads own n commands m left found reaches goes_on may read) =
         both_go p.at m.at _ (lines_go source p own n _ m reaches) (unmoved m.at _ refl refl)
     lines_go source p _ _ _ _ (passes own n m left reaches goes_on may passed) = lines_go source p own n [] m reaches

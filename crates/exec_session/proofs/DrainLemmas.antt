@@ -9,7 +9,7 @@ use Rattle.exec_commands.specs.declared.ends.DrainEnd.{DrainEnd}
 use Rattle.exec_trace.specs.Edges.{rest_events}
 use Rattle.exec_trace.specs.Events.{last_shown}
 use Rattle.exec_trace.specs.declared.event.IoEvent.TheVariants.{Asked, Shown}
-use Rattle.exec_session.specs.Drains.{MakesTurn, Rests, end_at, end_behind}
+use Rattle.exec_session.specs.Drains.{MakesTurn, Rests, end_at, end_after}
 use Rattle.exec_session.specs.Pausing.{IsShort}
 use Rattle.exec_session.specs.Rules.{Rules}
 use Rattle.exec_session.specs.Spots.{MayBreakOff, Pauses, Position, Spot, noted}
@@ -17,7 +17,7 @@ use Rattle.exec_session.specs.declared.drain.Terms.{Terms}
 use Rattle.exec_session.proofs.EventLemmas.{longer, shown_last, unasked}
 
 -- its last turn is done
-done : (t : Terms) (turns now : ℕ) (end : TurnEnd) (idle : Bool) → end_behind t turns now end idle ≡ None → end ≡ turn_end.Done
+done : (t : Terms) (turns now : ℕ) (end : TurnEnd) (idle : Bool) → end_after t turns now end idle ≡ None → end ≡ turn_end.Done
 done t turns now turn_end.Done idle e = refl
 done t turns now turn_end.Closed idle e = absurd cc
 done t turns now turn_end.BookFull idle e = absurd cc
@@ -28,7 +28,7 @@ done t turns now turn_end.Disk idle e = absurd cc
 
 -- the executor is open then
 pub still_open : (t : Terms) (turns now : ℕ) (end : TurnEnd) (idle is_open : Bool) → (is_open ≡ false ↔ (end ≡ turn_end.Disk))
-    → end_behind t turns now end idle ≡ None → is_open ≡ true
+    → end_after t turns now end idle ≡ None → is_open ≡ true
 still_open t turns now end idle true closes e = refl
 still_open t turns now end idle false closes e = let is = sym (done t turns now end idle e) ∙ closes.0 refl in absurd cc
 
@@ -44,8 +44,8 @@ closes {D} look rules now p q end made = by made.middle.is_open refl
 
 -- the end of a drain, by the executor's own answer whether it is idle
 pub sent_end : (t : Terms) (turns now : ℕ) (end : TurnEnd) (idle asked : Bool) (reported given : Option DrainEnd)
-    → reported ≡ end_behind t turns now end asked → asked ≡ idle → reported ≡ given → end_behind t turns now end idle ≡ given
-sent_end t turns now end idle asked reported given is was same = ap (λ b. end_behind t turns now end b) (sym was) ∙ sym is ∙ same
+    → reported ≡ end_after t turns now end asked → asked ≡ idle → reported ≡ given → end_after t turns now end idle ≡ given
+sent_end t turns now end idle asked reported given is was same = ap (λ b. end_after t turns now end b) (sym was) ∙ sym is ∙ same
 
 -- a pause that is short since one time is short since an earlier one
 pub short_since : (before since now micros : ℕ) → before ≤ since → IsShort since now micros → IsShort before now micros
@@ -103,7 +103,7 @@ module _ {D : Type 0} where
 
   -- the end of a drain is that of the executor after the turn
   pub sent_end_at : (t : Terms) (turns now : ℕ) (end : TurnEnd) (reported q : Spot D) (asked : Bool) (given found : Option DrainEnd)
-      → q.executor ≡ reported.executor → given ≡ end_behind t turns now end asked → asked ≡ not (any_busy q.executor.state) → given ≡ found
+      → q.executor ≡ reported.executor → given ≡ end_after t turns now end asked → asked ≡ not (any_busy q.executor.state) → given ≡ found
       → end_at t turns now end reported.executor ≡ found
   sent_end_at t turns now end reported q asked given found same is was so =
       sent_end t turns now end (not (any_busy reported.executor.state)) asked given found is

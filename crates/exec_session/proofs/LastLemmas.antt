@@ -4,7 +4,7 @@ use Rattle.std.proofs.lemmas.List.{append-nil}
 use Rattle.exec_trace.specs.declared.event.IoEvent.{IoEvent}
 use Rattle.exec_trace.specs.declared.event.IoEvent.TheVariants.{Looked, Read}
 use Rattle.exec_session.specs.Looks.{HasLooked, Lines, misses_in, misses_of, reads_in, reads_of}
-use Rattle.exec_session.specs.Spots.{Lasts, Position, Spot, behind, noted}
+use Rattle.exec_session.specs.Spots.{Lasts, Position, Spot, following, noted}
 
 -- reads and polls add up
 pub reads_join : (xs ys : List IoEvent) → reads_in (xs ++ ys) ≡ reads_in xs + reads_in ys
@@ -60,11 +60,11 @@ module _ {D : Type 0} where
           omega (arith, ap length grows, more)
 
   -- one more event
-  pub longer_event : (p q : Spot D) (event : IoEvent) → q ≡ behind p event → length p.events < length q.events
+  pub longer_event : (p q : Spot D) (event : IoEvent) → q ≡ following p event → length p.events < length q.events
   longer_event p q event same =
       subst (λ (s : Spot D). length p.events < length s.events) (sym same) (omega (arith, length-append p.events (event ∷ [])))
 
-  pub lasts_event : (p q : Spot D) (event : IoEvent) → q ≡ behind p event → Lasts p q
+  pub lasts_event : (p q : Spot D) (event : IoEvent) → q ≡ following p event → Lasts p q
   lasts_event p q event same = record {
     opened = ap (λ (s : Spot D). s.client_view.opened) same;
     later = event ∷ [];
@@ -75,7 +75,7 @@ module _ {D : Type 0} where
   lasts_noted p q event same = lasts_event p.at q.at event (ap (λ (w : Position D). w.at) same)
 
   -- one more read
-  pub one_read : (p q : Spot D) (done : Bool) → q ≡ behind p (Read done) → reads_in p.events < reads_in q.events
+  pub one_read : (p q : Spot D) (done : Bool) → q ≡ following p (Read done) → reads_in p.events < reads_in q.events
   one_read p q done same =
       let one : reads_in (Read done ∷ []) ≡ 1 = refl in
       let all = ap (λ (s : Spot D). reads_in s.events) same in

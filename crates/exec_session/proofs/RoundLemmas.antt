@@ -23,9 +23,9 @@ use Rattle.exec_session.specs.Pending.{IsClear}
 use Rattle.exec_session.specs.Rules.{Rules}
 use Rattle.exec_session.specs.Looks.{HasLooked, Lines, misses_in, reads_in}
 use Rattle.exec_session.specs.Runs.{IsWait, MakesOwnTurn, MakesTurns, MayGoOn, MayRest, MayTurn, OwnTurn, Reaches, ReachesFault, ReachesLeave, answers, of_command, turn, turned}
-use Rattle.exec_session.specs.Spots.{Lasts, MayBreakOff, Position, Spot, SendsPart, behind, noted, paused, position, spot}
+use Rattle.exec_session.specs.Spots.{Lasts, MayBreakOff, Position, Spot, SendsPart, following, noted, paused, position, spot}
 use Rattle.exec_session.specs.Progress.{Answers, AnswersSo}
-use Rattle.exec_session.specs.Waiting.{Comes, ComesOrEnds, GoesRound, HasCome, HasComeRound, IsReadTo, IsRound, IsSince, LooksOnce, MayBegin, MayTakeBehind, MayWait, Midway, Rounds, Stage, Waits, WaitsForThere, midway, more, still}
+use Rattle.exec_session.specs.Waiting.{Comes, ComesOrEnds, GoesRound, HasCome, HasComeRound, IsReadTo, IsRound, IsSince, LooksOnce, MayBegin, MayTakeAfter, MayWait, Midway, Rounds, Stage, Waits, WaitsForThere, midway, more, still}
 use Rattle.exec_session.specs.declared.context.Way.{Way}
 use Rattle.exec_session.specs.declared.context.Way.TheVariants.{Run, Serve}
 use Rattle.exec_session.specs.declared.held.Held.{Held}
@@ -117,7 +117,7 @@ module _ {D : Type 0} (since now : ℕ) where
   pub waits_last : (p q : Position D) → Waited p q → Lasts p.at q.at
   waits_last p _ still = lasts_same p.at p.at refl
   waits_last p _ (more m event waits is) =
-      lasts_both p.at m.at (behind m.at event) (waits_last p m waits) (lasts_event m.at (behind m.at event) event refl)
+      lasts_both p.at m.at (following m.at event) (waits_last p m waits) (lasts_event m.at (following m.at event) event refl)
 
   pub waits_executor : (p q : Position D) → Waited p q → q.at.executor ≡ p.at.executor
   waits_executor p _ still = refl
@@ -178,7 +178,7 @@ module _ {D : Type 0} (look : D → View) (source : Source) (rules : Rules) (p :
       → Come most place' commands held kept
   waits_come most commands held kept place _ none rests still come = come
   waits_come most commands held kept place _ none rests (more m event waits is) come =
-      waited look source rules p own most commands held kept m (position (behind m.at event) m.left) event none rests is refl
+      waited look source rules p own most commands held kept m (position (following m.at event) m.left) event none rests is refl
       (waits_come most commands held kept place m none rests waits come)
 
   -- the lines that are unanswered where no command waits
@@ -202,7 +202,7 @@ module _ {D : Type 0} (look : D → View) (source : Source) (rules : Rules) (p :
   }
 
   -- the line that is held was answered, or broke off
-  pub held_answered : rules.way ≡ Serve → (most : ℕ) → MayTakeBehind rules.way most → (commands : List Command) (held : Option Held)
+  pub held_answered : rules.way ≡ Serve → (most : ℕ) → MayTakeAfter rules.way most → (commands : List Command) (held : Option Held)
       (h : Held) (kept : List ℕ) (place place' : Position D) → commands ≡ [] → held ≡ Some h → place'.left ≡ place.left
       → Come most place commands held kept → Answers look source rules (Ok (asks h)) place.at place'.at
       → MayGoOn rules.way place'.at.executor → Come (most + 1) place' commands None kept

@@ -19,7 +19,7 @@ use Rattle.exec_commands.specs.declared.line.Line.{Line}
 use Rattle.exec_commands.specs.declared.line.Line.TheVariants as line
 use Rattle.exec_commands.specs.declared.reply.LineReply.{LineReply}
 use Rattle.exec_commands.specs.declared.reply.LineReply.TheVariants as answer
-use Rattle.exec_client.specs.Behind.{Behind, claims, nothing, states_else}
+use Rattle.exec_client.specs.BackedBy.{BackedBy, claims, nothing, states_else}
 use Rattle.exec_client.specs.ClientView.{ClientView, IsSent}
 use Rattle.exec_client.specs.MaySend.{AllBacked, MayAnswer, MayReply, IsBacked}
 use Rattle.exec_client.specs.SentItem.{Answered, Reported, SentItem, answered}
@@ -32,7 +32,7 @@ use Rattle.exec_session.specs.Answers.{IsClosedReply, IsStatusReply, Source}
 use Rattle.exec_session.specs.Runs.{IsNew}
 
 -- refusals for the disk
-each_refused : (n : ℕ) → Behind (map answered (replicate n (Refused Disk))) []
+each_refused : (n : ℕ) → BackedBy (map answered (replicate n (Refused Disk))) []
 each_refused zero = nothing
 each_refused (suc n) = states_else (answered (Refused Disk)) (map answered (replicate n (Refused Disk))) [] refl (each_refused n)
 
@@ -109,9 +109,9 @@ module _ {D : Type 0} (look : D → View) where
   pub cleared_room : (x c m : ExecutorView D) → c ≡ with_empty_book x → IsBacked look c m [] → IsBacked look x m []
   cleared_room x c m cleared room = both_hold look x c m [] [] (cleared_holds look x c cleared) room
 
-  pub turn_behind_room : (now : ℕ) (x m y : ExecutorView D) (end : TurnEnd) → IsBacked look x m [] → m.is_open ≡ true
+  pub turn_after_room : (now : ℕ) (x m y : ExecutorView D) (end : TurnEnd) → IsBacked look x m [] → m.is_open ≡ true
       → TakesTurn look now m y end → IsBacked look x y (noticed y)
-  turn_behind_room now x m y end room is_open takes =
+  turn_after_room now x m y end room is_open takes =
       both_hold look x m y [] (noticed y) room (turn_holds look now m y end is_open takes)
 
   -- nothing was sent yet
@@ -129,7 +129,7 @@ module _ {D : Type 0} (look : D → View) where
       (both_hold look client_view.opened x y client_view.reported items holds more))
 
   -- the report of an opening acknowledges nothing that was recorded since
-  opening_report : (ns : List Notice) → Behind (map Reported ns) []
+  opening_report : (ns : List Notice) → BackedBy (map Reported ns) []
   opening_report [] = nothing
   opening_report (n ∷ ns) = states_else (Reported n) (map Reported ns) [] refl (opening_report ns)
 

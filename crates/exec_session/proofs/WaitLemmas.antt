@@ -24,9 +24,9 @@ use Rattle.exec_session.specs.Rules.{Rules}
 use Rattle.exec_session.specs.Looks.{IsThere, Lines, MayRead}
 use Rattle.exec_session.specs.Runs.{IsLook, IsWait, MakesTurns, MayGoOn, MayRest, MayTake, OwnTurn, Reaches, ReachesFault, of_command, turned}
 use Rattle.exec_session.specs.Runs.{answers, here, looks, passes, reads, batch, waits}
-use Rattle.exec_session.specs.Spots.{MayBreakOff, Position, Spot, behind, noted, position}
+use Rattle.exec_session.specs.Spots.{MayBreakOff, Position, Spot, following, noted, position}
 use Rattle.exec_session.specs.Together.{AnswersAll}
-use Rattle.exec_session.specs.Waiting.{Comes, ComesOrEnds, HasCome, HasFound, IsFound, IsReadTo, IsTaken, MayStay, MayTakeBehind, MayWait, Midway, TakesFound, WaitsForThere, found_lines, midway}
+use Rattle.exec_session.specs.Waiting.{Comes, ComesOrEnds, HasCome, HasFound, IsFound, IsReadTo, IsTaken, MayStay, MayTakeAfter, MayWait, Midway, TakesFound, WaitsForThere, found_lines, midway}
 use Rattle.exec_session.specs.declared.context.Way.{Way}
 use Rattle.exec_session.specs.declared.context.Way.TheVariants.{Run, Serve}
 use Rattle.exec_session.specs.declared.held.Held.{Held}
@@ -37,11 +37,11 @@ use Rattle.exec_session.specs.declared.lines.Taken.TheVariants as taken
 use Rattle.exec_session.specs.declared.pending.Pending.{Pending}
 
 -- in `run` any line may be taken, in `serve` 64 after a turn
-pub may_run : (way : Way) (most : ℕ) → way ≡ Run → MayTakeBehind way most
+pub may_run : (way : Way) (most : ℕ) → way ≡ Run → MayTakeAfter way most
 may_run Run most is = λ n le. tt
 may_run Serve most is = absurd cc
 
-pub may_serve : (way : Way) (most : ℕ) → way ≡ Serve → most + 1 ≤ 64 → MayTakeBehind way most
+pub may_serve : (way : Way) (most : ℕ) → way ≡ Serve → most + 1 ≤ 64 → MayTakeAfter way most
 may_serve Run most is le = absurd cc
 may_serve Serve most is le = λ n few. omega (arith, le, few)
 
@@ -156,7 +156,7 @@ module _ {D : Type 0} (look : D → View) (source : Source) (rules : Rules) (p :
   -- a poll, and a wait
   pub looked : (most : ℕ) (commands : List Command) (held : Option Held) (kept : List ℕ) (place place' : Position D) (event : IoEvent)
       → IsLook rules.way (map of_command commands ++ held_lines held) place.at.events event
-      → place' ≡ position (behind place.at event) place.left → Come most place commands held kept
+      → place' ≡ position (following place.at event) place.left → Come most place commands held kept
       → Come most place' commands held kept
   looked most commands held kept place place' event is same come =
       subst (λ (w : Position D). Come most w commands held kept) (sym same) (record {
@@ -170,7 +170,7 @@ module _ {D : Type 0} (look : D → View) (source : Source) (rules : Rules) (p :
       })
 
   pub waited : (most : ℕ) (commands : List Command) (held : Option Held) (kept : List ℕ) (place place' : Position D) (event : IoEvent)
-      → commands ≡ [] → MayRest (held_lines held) → IsWait own.since own.now place.at event → place' ≡ position (behind place.at event) place.left
+      → commands ≡ [] → MayRest (held_lines held) → IsWait own.since own.now place.at event → place' ≡ position (following place.at event) place.left
       → Come most place commands held kept → Come most place' commands held kept
   waited most commands held kept place place' event none rests is same come =
       subst (λ (w : Position D). Come most w commands held kept) (sym same) (record {
@@ -186,7 +186,7 @@ module _ {D : Type 0} (look : D → View) (source : Source) (rules : Rules) (p :
 
   -- the last question failed, or the loops have gone round as often as they can
   pub event_breaks : (most : ℕ) (commands : List Command) (held : Option Held) (kept : List ℕ) (place : Position D) (q : Spot D)
-      (event : IoEvent) → is_failure event ≡ true → q ≡ behind place.at event → Come most place commands held kept
+      (event : IoEvent) → is_failure event ≡ true → q ≡ following place.at event → Come most place commands held kept
       → BreaksOff look source rules p q
   event_breaks most commands held kept place q event fails same come = record {
     own = own;
@@ -212,7 +212,7 @@ module _ {D : Type 0} (look : D → View) (source : Source) (rules : Rules) (p :
 
   -- a part of the next line was read
   pub read_part : (most : ℕ) (commands : List Command) (held : Option Held) (kept kept' : List ℕ) (place place' : Position D)
-      → held ≡ None → (commands ≢ [] → IsThere place.at.events) → place'.at ≡ behind place.at (Read true)
+      → held ≡ None → (commands ≢ [] → IsThere place.at.events) → place'.at ≡ following place.at (Read true)
       → (come : Come most place commands held kept) → IsMidLine come.left kept' place'.left → Come most place' commands held kept'
   read_part most commands held kept kept' place place' free there same come mid = record {
     count = come.count;
@@ -228,7 +228,7 @@ module _ {D : Type 0} (look : D → View) (source : Source) (rules : Rules) (p :
 
   -- what comes next was read
   pub found_next : (most : ℕ) (commands : List Command) (held : Option Held) (kept : List ℕ) (place place' : Position D) (what : Found)
-      → held ≡ None → (commands ≢ [] → IsThere place.at.events) → place'.at ≡ behind place.at (Read true)
+      → held ≡ None → (commands ≢ [] → IsThere place.at.events) → place'.at ≡ following place.at (Read true)
       → (come : Come most place commands held kept) → ReadsInput rules.way come.left place'.left what → Finds most commands what place'
   found_next most commands held kept place place' what free there same come input = by what input
     where
@@ -279,7 +279,7 @@ module _ {D : Type 0} (look : D → View) (source : Source) (rules : Rules) (p :
   -- then there was a poll
   pub found_looked : (most : ℕ) (commands : List Command) (what : Found) (q q' : Position D) (event : IoEvent)
       → IsLook rules.way (map of_command commands ++ found_lines what) q.at.events event
-      → q' ≡ position (behind q.at event) q.left → Finds most commands what q → Finds most commands what q'
+      → q' ≡ position (following q.at event) q.left → Finds most commands what q → Finds most commands what q'
   found_looked most commands what q q' event is same finds =
       subst (λ (w : Position D). Finds most commands what w) (sym same) (record {
         count = finds.count;
@@ -454,7 +454,7 @@ module _ {D : Type 0} (look : D → View) (source : Source) (rules : Rules) (p :
       found_closed most may commands what q q' is_open finds answered serves closed
 
   -- the line that was read was answered, or there was no line
-  pub found_taken : (E : Type 0) (most : ℕ) → MayTakeBehind rules.way most → (commands : List Command) (held : Option Held) (kept : List ℕ)
+  pub found_taken : (E : Type 0) (most : ℕ) → MayTakeAfter rules.way most → (commands : List Command) (held : Option Held) (kept : List ℕ)
       (what : Found) (q q' : Position D) (has_ended : Bool) (step : Taken) → commands ≡ [] → held ≡ None → kept ≡ []
       → q'.left ≡ q.left → Finds most [] what q → TakesFound {E = E} look source rules what q.at q'.at (Ok has_ended)
       → IsTaken rules.way q'.at.executor has_ended step

@@ -28,7 +28,7 @@ use Rattle.exec_client.specs.SentItem.{Answered}
 use Rattle.exec_trace.specs.declared.event.IoEvent.TheVariants.{Shown}
 use Rattle.exec_session.specs.Drains.{Drains}
 use Rattle.exec_session.specs.Rules.{Rules, MakesRoom}
-use Rattle.exec_session.specs.Spots.{Spot, Sending, behind, moved}
+use Rattle.exec_session.specs.Spots.{Spot, Sending, following, moved}
 use Rattle.exec_session.specs.declared.context.Way.{Way}
 use Rattle.exec_session.specs.declared.context.Way.TheVariants.{Run, Serve}
 
@@ -87,7 +87,7 @@ abbrev pub DrainsFor : {D : Type 0} → (D → View) → Bool → ℕ → Rules 
     → Spot D → LineReply → Type 0
 DrainsFor look ends_idle limit rules p q reply =
     (now : ℕ) × (end : DrainEnd) × (reply ≡ answer.Drain end)
-    × Drains look rules (record { ends_idle = ends_idle; until = now + limit; most = rules.most_turns }) now (behind p (Shown now)) q end
+    × Drains look rules (record { ends_idle = ends_idle; until = now + limit; most = rules.most_turns }) now (following p (Shown now)) q end
 
 -- A drain, and then a reply that says how it ended, which is sent like this.
 pub record DrainSent {D : Type 0} (sends_so : Sending D) (look : D → View) (ends_idle : Bool) (limit : ℕ) (rules : Rules)
@@ -105,7 +105,7 @@ pub record ServesNow {D : Type 0} (look : D → View) (rules : Rules) (request :
   pub middle : ExecutorView D
   pub given : Reply
   pub reported : reply ≡ answer.Request given
-  pub shown : q ≡ behind (moved p q.executor) (Shown now)
+  pub shown : q ≡ following (moved p q.executor) (Shown now)
   pub room : MakesRoom look rules now p.executor middle
   pub serves : middle.is_open ≡ true → Serves look now request middle q.executor given
   pub fails : middle.is_open ≡ false → (given ≡ Refused refusal.Disk) × (q.executor ≡ middle)

@@ -21,14 +21,14 @@ use Rattle.exec_session.specs.Reports.{ReadyBreaks, ReportBreaks, SendsReady, Se
 use Rattle.exec_session.specs.Rules.{Rules}
 use Rattle.exec_session.specs.Looks.{Lines}
 use Rattle.exec_session.specs.Runs.{Finishes, MakesTurns, MayGoOn, MayTurn, NewsSo, OwnTurn, Reaches, of_command}
-use Rattle.exec_session.specs.Spots.{MayBreakOff, Position, Spot, SendsPart, behind}
+use Rattle.exec_session.specs.Spots.{MayBreakOff, Position, Spot, SendsPart, following}
 use Rattle.exec_session.specs.Steps.{Steps}
 
 -- A session broke off in an own turn: the client received a prefix of its notices, or of the line that says how it ended.
 pub data OwnTurnBreaks {D : Type 0} (look : D → View) (rules : Rules) (before : TurnEnd) (p q : Spot D) : Type 0 where
-  in_notices : (now : ℕ) (end : TurnEnd) → TurnReceived (SendsPart rules.form) look rules now (behind p (Shown now)) q end
+  in_notices : (now : ℕ) (end : TurnEnd) → TurnReceived (SendsPart rules.form) look rules now (following p (Shown now)) q end
       → OwnTurnBreaks look rules before p q
-  in_end : (now : ℕ) (end : TurnEnd) (noticed : Spot D) → MakesTurn look rules now (behind p (Shown now)) noticed end
+  in_end : (now : ℕ) (end : TurnEnd) (noticed : Spot D) → MakesTurn look rules now (following p (Shown now)) noticed end
       → NewsSo (SendsPart rules.form) before end noticed q → OwnTurnBreaks look rules before p q
 
 -- a session broke off in answering a line: in the reply, or, if the executor is open, before it
@@ -49,7 +49,7 @@ AnswersLine look source rules found p q result =
 pub data BreaksIn {D : Type 0} (look : D → View) (source : Source) (rules : Rules) (own : OwnTurn) (lines : Lines)
     (m : Position D) (q : Spot D) : Type 0 where
   at_once : q ≡ m.at → BreaksIn look source rules own lines m q
-  in_event : (event : IoEvent) → is_failure event ≡ true → q ≡ behind m.at event → BreaksIn look source rules own lines m q
+  in_event : (event : IoEvent) → is_failure event ≡ true → q ≡ following m.at event → BreaksIn look source rules own lines m q
   in_line : (found : Result Line Refusal) → lines ≡ found ∷ [] → MayGoOn rules.way m.at.executor
       → AnswerBreaks look source rules found m.at q → BreaksIn look source rules own lines m q
   in_batch : (commands : List Command) (others : Lines) → lines ≡ map of_command commands ++ others → m.at.executor.is_open ≡ true
@@ -83,6 +83,6 @@ pub data RunBreaks {D N : Type 0} (look : D → View) (source : Source) (rules :
   in_report : ReportBreaks rules.form report p.at q → RunBreaks look source rules report p q
   in_ready : (opening_report : Spot D) → SendsReport rules.form report p.at opening_report
       → ReadyBreaks rules.way rules.form opening_report q → RunBreaks look source rules report p q
-  behind_ready : (opening_report begun : Spot D) → SendsReport rules.form report p.at opening_report
+  after_ready : (opening_report begun : Spot D) → SendsReport rules.form report p.at opening_report
       → SendsReady rules.way rules.form opening_report begun
       → BreaksOff look source rules (record p { at = begun }) q → RunBreaks look source rules report p q

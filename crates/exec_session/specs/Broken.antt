@@ -11,7 +11,7 @@ use Rattle.exec_session.specs.declared.drain.Terms.{Terms}
 use Rattle.exec_session.specs.Answers.{DrainSent}
 use Rattle.exec_session.specs.Drains.{GoesOn, MakesTurn, TurnReceived}
 use Rattle.exec_session.specs.Rules.{Rules}
-use Rattle.exec_session.specs.Spots.{Pauses, Spot, SendsPart, behind}
+use Rattle.exec_session.specs.Spots.{Pauses, Spot, SendsPart, following}
 use Rattle.exec_session.specs.Together.{TogetherReceived}
 
 -- a turn at this time broke off in its notices
@@ -30,7 +30,7 @@ pub data DrainBreaks {D : Type 0} (look : D → View) (rules : Rules) (t : Terms
 -- the same of a drain of at most this many milliseconds from the next clock reading on
 abbrev pub DrainBreaksFor : {D : Type 0} → (D → View) → Bool → ℕ → Rules → Spot D → Spot D → Type 0
 DrainBreaksFor look ends_idle limit rules p q =
-    (now : ℕ) × DrainBreaks look rules (record { ends_idle = ends_idle; until = now + limit; most = rules.most_turns }) now (behind p (Shown now)) q
+    (now : ℕ) × DrainBreaks look rules (record { ends_idle = ends_idle; until = now + limit; most = rules.most_turns }) now (following p (Shown now)) q
 
 -- the same, or its reply broke off
 abbrev pub DrainEndsEarly : {D : Type 0} → (D → View) → Bool → ℕ → Rules → Spot D → Spot D → Type 0

@@ -12,7 +12,7 @@ use Rattle.exec_client.specs.Sends.{noticed}
 use Rattle.exec_trace.specs.Events.{last_shown}
 use Rattle.exec_trace.specs.declared.event.IoEvent.TheVariants.{Shown}
 use Rattle.exec_session.specs.Rules.{Rules, MakesRoom}
-use Rattle.exec_session.specs.Spots.{Pauses, Spot, Sending, SendsAll, behind, moved}
+use Rattle.exec_session.specs.Spots.{Pauses, Spot, Sending, SendsAll, following, moved}
 use Rattle.exec_session.specs.declared.drain.Terms.{Terms}
 
 -- A turn at this time, the last clock reading: the book is emptied, a due tidy is made, then the turn, and its notices are sent like
@@ -33,19 +33,19 @@ MakesTurn look rules now p q end = TurnReceived (SendsAll rules.form) look rules
 -- After a turn at the second time, in a drain since the first: a short pause, then the client still reads, and then the clock shows the
 -- third time.
 abbrev pub Rests : {D : Type 0} → ℕ → ℕ → Spot D → Spot D → ℕ → Type 0
-Rests {D} start now p q after = (m : Spot D) × Pauses start now true p m × (q ≡ behind m (Shown after))
+Rests {D} start now p q after = (m : Spot D) × Pauses start now true p m × (q ≡ following m (Shown after))
 
 -- How a drain ends after this number of turns, the last of which ended like this, with the executor idle or not, at this time; `None`
 -- where it goes on.
-abbrev pub end_behind : Terms → ℕ → ℕ → TurnEnd → Bool → Option DrainEnd
-end_behind t turns now Done idle =
+abbrev pub end_after : Terms → ℕ → ℕ → TurnEnd → Bool → Option DrainEnd
+end_after t turns now Done idle =
     if t.ends_idle && idle then Some Idle else
     (if nat_le t.until now then Some Limit else (if nat_le t.most turns then Some Turns else None))
-end_behind t turns now end idle = Some (Turn end)
+end_after t turns now end idle = Some (Turn end)
 
 -- the same, with the view of the executor after that turn
 abbrev pub end_at : {D : Type 0} → Terms → ℕ → ℕ → TurnEnd → ExecutorView D → Option DrainEnd
-end_at t turns now end e = end_behind t turns now end (not (any_busy e.state))
+end_at t turns now end e = end_after t turns now end (not (any_busy e.state))
 
 -- This many turns were made, none of which ended the drain, each at the clock reading after the one before. The first was at the start,
 -- and the next will be at this time.

@@ -11,7 +11,7 @@ use Rattle.exec_client.specs.Sends.{noticed}
 use Rattle.exec_trace.specs.declared.event.IoEvent.TheVariants.{Shown}
 use Rattle.exec_session.specs.Reports.{ended}
 use Rattle.exec_session.specs.Rules.{Rules}
-use Rattle.exec_session.specs.Spots.{Pauses, Spot, Sending, SendsAll, SendsPart, behind, moved}
+use Rattle.exec_session.specs.Spots.{Pauses, Spot, Sending, SendsAll, SendsPart, following, moved}
 
 -- The clock is read, and a turn that begins nothing is made at that time: the book is emptied, the turn is made, and its notices are sent
 -- like this.
@@ -19,7 +19,7 @@ pub record FinishReceived {D : Type 0} (sends_so : Sending D) (look : D → View
   pub now : ℕ
   pub end : TurnEnd
   pub takes : FinishesTurn look now (with_empty_book p.executor) q.executor end
-  pub sends_all : sends_so (behind (moved p q.executor) (Shown now)) q (noticed q.executor)
+  pub sends_all : sends_so (following (moved p q.executor) (Shown now)) q (noticed q.executor)
 
 -- the same while an action runs
 pub record WindsOne {D : Type 0} (sends_so : Sending D) (look : D → View) (p q : Spot D) : Type 0 where

@@ -26,7 +26,7 @@ use Rattle.exec_session.specs.Looks.{FollowsRead, HasLooked, Lines, MayRead, mis
 use Rattle.exec_session.specs.Reports.{ended}
 use Rattle.exec_session.specs.Rules.{Rules}
 use Rattle.exec_session.specs.Progress.{Answers, PassesLine, ReadsLine}
-use Rattle.exec_session.specs.Spots.{Position, Spot, Sending, SendsAll, behind, position}
+use Rattle.exec_session.specs.Spots.{Position, Spot, Sending, SendsAll, following, position}
 use Rattle.exec_session.specs.Together.{AnswersTogether}
 
 -- a client of an executor that was just opened, and is open; it was sent nothing yet
@@ -63,7 +63,7 @@ pub data NewsSo {D : Type 0} (sends_so : Sending D) (before end : TurnEnd) (p q 
 pub record MakesOwnTurn {D : Type 0} (look : D → View) (rules : Rules) (before : TurnEnd) (now : ℕ) (p q : Spot D) (end : TurnEnd)
     : Type 0 where
   pub noticed : Spot D
-  pub made : MakesTurn look rules now (behind p (Shown now)) noticed end
+  pub made : MakesTurn look rules now (following p (Shown now)) noticed end
   pub reported : NewsSo (SendsAll rules.form) before end noticed q
 
 -- a command as a line
@@ -72,7 +72,7 @@ of_command command = Ok (line.Request (asked.Command command))
 
 -- the next line is read: less is left, and the read is one more event
 abbrev pub read_to : {D : Type 0} → Position D → Option (List ℕ) → Position D
-read_to p left = position (behind p.at (Read true)) left
+read_to p left = position (following p.at (Read true)) left
 
 -- A question that a session asks, after these events and with these lines unanswered, on the way to its next line: in `serve` a poll
 -- without a wait; after a read, whether a further line is there; and a read, of a part of a line or of none.
@@ -138,9 +138,9 @@ pub data Reaches {D : Type 0} (look : D → View) (source : Source) (rules : Rul
     : OwnTurn → ℕ → Lines → Position D → Type 0 where
   here : Reaches look source rules p (turned 0 0 Done [] p.at) 0 [] p
   looks : (own : OwnTurn) (n : ℕ) (lines : Lines) (m : Position D) (event : IoEvent) → Reaches look source rules p own n lines m
-      → IsLook rules.way lines m.at.events event → Reaches look source rules p own n lines (position (behind m.at event) m.left)
+      → IsLook rules.way lines m.at.events event → Reaches look source rules p own n lines (position (following m.at event) m.left)
   waits : (own : OwnTurn) (n : ℕ) (lines : Lines) (m : Position D) (event : IoEvent) → Reaches look source rules p own n lines m
-      → MayGoOn rules.way m.at.executor → MayRest lines → IsWait own.since own.now m.at event → Reaches look source rules p own n lines (position (behind m.at event) m.left)
+      → MayGoOn rules.way m.at.executor → MayRest lines → IsWait own.since own.now m.at event → Reaches look source rules p own n lines (position (following m.at event) m.left)
   reads : (own : OwnTurn) (n : ℕ) (commands : List Command) (m : Position D) (left : Option (List ℕ)) (found : Result Line Refusal)
       → Reaches look source rules p own n (map of_command commands) m → MayGoOn rules.way m.at.executor
       → MayRead (map of_command commands) m.at.events → ReadsLine rules.way m.left left found

@@ -31,8 +31,8 @@ abbrev pub position : {D : Type 0} → Spot D → Option (List ℕ) → Position
 position at left = record { at = at; left = left }
 
 -- the spot after one more event
-abbrev pub behind : {D : Type 0} → Spot D → IoEvent → Spot D
-behind p event = spot p.executor p.client_view (p.events ++ event ∷ [])
+abbrev pub following : {D : Type 0} → Spot D → IoEvent → Spot D
+following p event = spot p.executor p.client_view (p.events ++ event ∷ [])
 
 -- how a client is sent messages: from one spot to another
 abbrev pub Sending : Type 0 → Type 1
@@ -74,12 +74,12 @@ paused p micros = spot p.executor p.client_view (p.events ++ rest_events micros)
 
 -- the position after one more event that is no read
 abbrev pub noted : {D : Type 0} → Position D → IoEvent → Position D
-noted p event = position (behind p.at event) p.left
+noted p event = position (following p.at event) p.left
 
 -- A short pause after a turn at the second time, where nothing has ended or begun since the first; then the client was asked whether it
 -- still reads, with this answer.
 abbrev pub Pauses : {D : Type 0} → ℕ → ℕ → Bool → Spot D → Spot D → Type 0
-Pauses since now client_view p q = (micros : ℕ) × IsShort since now micros × (q ≡ behind (paused p micros) (Asked client_view))
+Pauses since now client_view p q = (micros : ℕ) × IsShort since now micros × (q ≡ following (paused p micros) (Asked client_view))
 
 -- the position of a session with this executor and this edge
 abbrev pub at_of : {D : Type 0} → ExecutorView D → EdgeView D → Position D

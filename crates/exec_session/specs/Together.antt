@@ -9,7 +9,7 @@ use Rattle.executor.specs.ExecutorView.{ExecutorView}
 use Rattle.exec_client.specs.SentItem.{answered}
 use Rattle.exec_trace.specs.declared.event.IoEvent.TheVariants.{Shown}
 use Rattle.exec_session.specs.Rules.{Rules, MakesRoom}
-use Rattle.exec_session.specs.Spots.{Spot, Sending, SendsAll, behind, moved}
+use Rattle.exec_session.specs.Spots.{Spot, Sending, SendsAll, following, moved}
 
 -- An open executor serves a group commit at this time: a due tidy is made, and then it takes the commands. If a disk fault closed the
 -- executor in the tidy, each is refused for that and nothing else is done.
@@ -26,7 +26,7 @@ pub record TogetherReceived {D : Type 0} (sends_so : Sending D) (look : D → Vi
   pub now : ℕ
   pub given : List Reply
   pub serves : ServesTogether look rules now commands p.executor q.executor given
-  pub sends_all : sends_so (behind (moved p q.executor) (Shown now)) q (map answered given)
+  pub sends_all : sends_so (following (moved p q.executor) (Shown now)) q (map answered given)
 
 -- the client receives all of them
 abbrev pub AnswersTogether : {D : Type 0} → (D → View) → Rules → List Command → Spot D → Spot D → Type 0

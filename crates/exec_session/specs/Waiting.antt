@@ -18,7 +18,7 @@ use Rattle.exec_session.specs.Progress.{Answers, PassesLine}
 use Rattle.exec_session.specs.Rules.{Rules}
 use Rattle.exec_session.specs.Looks.{IsThere, Lines, misses_in, reads_in}
 use Rattle.exec_session.specs.Runs.{IsWait, MakesTurns, MayGoOn, MayTake, OwnTurn, Reaches, ReachesEnd, ReachesFault, ReachesLeave, of_command}
-use Rattle.exec_session.specs.Spots.{Lasts, MayBreakOff, Position, Spot, behind, position}
+use Rattle.exec_session.specs.Spots.{Lasts, MayBreakOff, Position, Spot, following, position}
 use Rattle.exec_session.specs.declared.context.Way.{Way}
 use Rattle.exec_session.specs.declared.context.Way.TheVariants.{Run, Serve}
 use Rattle.exec_session.specs.declared.held.Held.{Held}
@@ -85,13 +85,13 @@ pub record HasCome {D : Type 0} (look : D → View) (source : Source) (rules : R
 
 -- one poll without a wait, or none
 abbrev pub LooksOnce : {D : Type 0} → Position D → Position D → Type 0
-LooksOnce p q = (q ≡ p) ⊎ ((ready : Bool) × (q ≡ position (behind p.at (Looked 0 ready)) p.left))
+LooksOnce p q = (q ≡ p) ⊎ ((ready : Bool) × (q ≡ position (following p.at (Looked 0 ready)) p.left))
 
 -- A session waited after a turn at the second time, where nothing has ended or begun since the first: question after question.
 pub data Waits {D : Type 0} (since now : ℕ) (p : Position D) : Position D → Type 0 where
   still : Waits since now p p
   more : (m : Position D) (event : IoEvent) → Waits since now p m → IsWait since now m.at event
-      → Waits since now p (position (behind m.at event) m.left)
+      → Waits since now p (position (following m.at event) m.left)
 
 -- the line, if this is one, that is not answered yet
 abbrev pub found_lines : Found → Lines
@@ -136,8 +136,8 @@ Comes look source rules p own most s (Ok taken) = ComesOrEnds look source rules 
 Comes look source rules p own most s (Err fault) = BreaksOff look source rules p s.place.at
 
 -- in this mode a session may take a line after at most this many since its last turn
-abbrev pub MayTakeBehind : Way → ℕ → Type 0
-MayTakeBehind way most = (n : ℕ) → n ≤ most → MayTake way n
+abbrev pub MayTakeAfter : Way → ℕ → Type 0
+MayTakeAfter way most = (n : ℕ) → n ≤ most → MayTake way n
 
 -- A step of a session that has found this, with no part of a further line: the log grows; what was read may stay unanswered, and no
 -- further line was begun; and a session that had come so far comes further by it, or ends, or breaks off.
@@ -146,7 +146,7 @@ pub record Takes {D E : Type 0} (look : D → View) (source : Source) (rules : R
   pub lasts : Lasts s.place.at t.place.at
   pub stays : MayStay rules.way t
   pub between : IsBetween t
-  pub comes : (p : Position D) (own : OwnTurn) (most : ℕ) → MayTakeBehind rules.way most
+  pub comes : (p : Position D) (own : OwnTurn) (most : ℕ) → MayTakeAfter rules.way most
       → HasFound look source rules p own most s.commands found s.place → Comes look source rules p own (most + 1) t result
 
 -- The lines that are there are taken: the log grows, and a session that has taken no line since its last turn comes further, by as many

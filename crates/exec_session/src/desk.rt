@@ -7,7 +7,7 @@ ghost use Rattle.exec_session.specs.Looks.{IsThere, reads_in};
 ghost use Rattle.exec_session.specs.Rules.{rules_of};
 ghost use Rattle.exec_session.specs.Runs.{MayGoOn, OwnTurn, of_command};
 ghost use Rattle.exec_session.specs.Spots.{Lasts, Position};
-ghost use Rattle.exec_session.specs.Waiting.{Comes, HasCome, HasFound, IsBetween, IsTaken, MayTakeBehind, MayWait, Takes, WaitsForThere, midway};
+ghost use Rattle.exec_session.specs.Waiting.{Comes, HasCome, HasFound, IsBetween, IsTaken, MayTakeAfter, MayWait, Takes, WaitsForThere, midway};
 ghost use Rattle.exec_session.specs.declared.lines.Found.TheVariants as found;
 ghost use Rattle.exec_session.specs.declared.lines.Taken.TheVariants.{More};
 
@@ -66,7 +66,7 @@ impl<'a, R: Input, D: Disk + Drop, C: Children + Drop, T: Client<D, C>, K: Clock
             (λ taken. taken ≡ More → MayGoOn context.now.way self.new.worker.at.executor) }
         ensures lasts { Lasts self.old.worker.at self.new.worker.at }
         ensures takes { (p : Position D) (own : OwnTurn) (most : ℕ)
-            → MayTakeBehind context.now.way most
+            → MayTakeAfter context.now.way most
             → HasCome D.view (M.gives context.now.metadata.now) (rules_of context.now) p own (most + 1)
             (midway self.old.worker self.old.pending)
             → Comes D.view (M.gives context.now.metadata.now) (rules_of context.now) p own (most + 1)
@@ -93,7 +93,7 @@ impl<'a, R: Input, D: Disk + Drop, C: Children + Drop, T: Client<D, C>, K: Clock
         ensures between { IsBetween (midway self.new.worker self.new.pending) }
         ensures lasts { Lasts self.old.worker.at self.new.worker.at }
         ensures takes { (p : Position D) (own : OwnTurn) (most : ℕ)
-            → MayTakeBehind context.now.way most
+            → MayTakeAfter context.now.way most
             → HasFound D.view (M.gives context.now.metadata.now) (rules_of context.now) p own most
             (waiting self.old.pending.gathered) (found.Line (of_command command)) self.old.worker
             → Comes D.view (M.gives context.now.metadata.now) (rules_of context.now) p own (most + 1)
@@ -163,7 +163,7 @@ impl<'a, R: Input, D: Disk + Drop, C: Children + Drop, T: Client<D, C>, K: Clock
         ensures lasts { Lasts self.old.worker.at self.new.worker.at }
         ensures reads { reads_in self.old.worker.at.events < reads_in self.new.worker.at.events }
         ensures takes { (p : Position D) (own : OwnTurn) (most : ℕ)
-            → MayTakeBehind context.now.way most
+            → MayTakeAfter context.now.way most
             → HasCome D.view (M.gives context.now.metadata.now) (rules_of context.now) p own most
             (midway self.old.worker self.old.pending)
             → Comes D.view (M.gives context.now.metadata.now) (rules_of context.now) p own (most + 1)

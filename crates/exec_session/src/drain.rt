@@ -2,7 +2,7 @@
 ghost use Rattle.std.specs.Prelude.{◌≡◌, true, Some};
 ghost use Rattle.exec_session.specs.Answers.{DrainSent, DrainsFor};
 ghost use Rattle.exec_session.specs.Broken.{DrainBreaks, DrainBreaksFor, DrainEndsEarly};
-ghost use Rattle.exec_session.specs.Drains.{Drains, end_behind};
+ghost use Rattle.exec_session.specs.Drains.{Drains, end_after};
 ghost use Rattle.exec_session.specs.Leaving.{FinishReceived, LeaveBreaks, LeavesFrom};
 ghost use Rattle.exec_session.specs.Rules.{rules_of};
 ghost use Rattle.exec_session.specs.Spots.{SendsAll, SendsPart};
@@ -35,8 +35,8 @@ pub struct Terms {
 impl Terms {
     // How a drain ends after this number of turns, the last of which ended like this, with the executor idle or not, at this time.
     // `None`: it goes on.
-    fn end_behind(self, turns: u64, now: u64, end: TurnEnd, idle: bool) -> Option<DrainEnd>
-        ensures { result ≡ end_behind self turns now end idle }
+    fn end_after(self, turns: u64, now: u64, end: TurnEnd, idle: bool) -> Option<DrainEnd>
+        ensures { result ≡ end_after self turns now end idle }
     {
         if end != TurnEnd::Done {
             return Some(DrainEnd::Turn(end));
@@ -83,7 +83,7 @@ impl<'a, R: Input, D: Disk + Drop, C: Children + Drop, T: Client<D, C>, K: Clock
                 return Err(Failed);
             }
             now = self.now();
-            if let Some(end) = terms.end_behind(turns + 1, now, end, self.idle()) {
+            if let Some(end) = terms.end_after(turns + 1, now, end, self.idle()) {
                 return Ok(end);
             }
         }

@@ -116,7 +116,7 @@ impl Pause {
     }
 
     /// The pause after the last turn, in microseconds.
-    pub fn behind_turn<D: Disk + Drop, C: Children + Drop>(
+    pub fn after_turn<D: Disk + Drop, C: Children + Drop>(
         &mut self,
         clock: &impl Clock,
         executor: &Executor<D, C>,

@@ -1,6 +1,6 @@
 //! Messages that acknowledge no command, the report of an opening, and the line that a session is ready.
 ghost use Rattle.std.specs.Prelude.{◌≡◌, [], ◌∷◌, false};
-ghost use Rattle.exec_client.specs.Behind.{claims};
+ghost use Rattle.exec_client.specs.BackedBy.{claims};
 ghost use Rattle.exec_client.specs.MaySend.{MayReply, IsOfView, IsBacked};
 ghost use Rattle.exec_client.specs.SentItem.{Answered, sent_in};
 ghost use Rattle.exec_session.specs.Reports.{IsReportOf, ReadyBreaks, ReportBreaks, SendsReady, SendsReport, counts_of, ended};

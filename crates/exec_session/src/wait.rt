@@ -30,7 +30,7 @@ fn wait_micros<R: Input, D: Disk + Drop, C: Children + Drop, T: Client<D, C>, K:
     ensures may { MayPause pause.new.since pause.new.moment worker.new.at.executor
         worker.new.at.events result }
 {
-    let micros = pause.behind_turn(worker.clock(), &worker.executor);
+    let micros = pause.after_turn(worker.clock(), &worker.executor);
     if micros == 0 || !worker.idle() {
         return micros;
     }

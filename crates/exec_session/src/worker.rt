@@ -11,7 +11,7 @@ ghost use Rattle.exec_lines.specs.Pieces.{IsMidLine, IsNext};
 ghost use Rattle.exec_session.specs.Pausing.{IsQuietSince};
 ghost use Rattle.exec_session.specs.Progress.{IsNotedAs};
 ghost use Rattle.exec_session.specs.Runs.{IsNew};
-ghost use Rattle.exec_session.specs.Spots.{Pauses, at_of, behind, noted, paused, position};
+ghost use Rattle.exec_session.specs.Spots.{Pauses, at_of, following, noted, paused, position};
 ghost use Rattle.exec_trace.specs.declared.event.IoEvent.TheVariants.{Asked, Looked, Peeked, Read, Shown};
 
 use crate::context::Way;
@@ -113,7 +113,7 @@ impl<'a, R: Input, D: Disk + Drop, C: Children + Drop, T: Client<D, C>, K: Clock
             pause.new.since }
         ensures paused { Pauses pause.new.since pause.new.moment result self.old.at self.new.at }
     {
-        let micros = pause.behind_turn(self.edge.clock(), &self.executor);
+        let micros = pause.after_turn(self.edge.clock(), &self.executor);
         self.edge.rest(micros);
         self.edge.has_reader()
     }
@@ -140,7 +140,7 @@ impl<'a, R: Input, D: Disk + Drop, C: Children + Drop, T: Client<D, C>, K: Clock
             → IfOk result (λ next. MatchOption next
             (IsMidLine left (line_bytes buffer.new) self.new.left)
             (λ n. IsNext left n (line_bytes buffer.new) self.new.left)) }
-        ensures noted { self.new.at ≡ behind self.old.at (Read (is_ok result)) }
+        ensures noted { self.new.at ≡ following self.old.at (Read (is_ok result)) }
     {
         self.edge.read(buffer)
     }

@@ -30,9 +30,9 @@ abbrev pub on_value : {A : Type 0} → (A → A) → List ℕ × A → List ℕ 
 on_value f e = (e.0, f e.1)
 
 -- no entry after that of an id has the same id
-pub absent_behind : {A : Type 0} (id : List ℕ) (e : List ℕ × A) (es : List (List ℕ × A)) → IsDistinct bytes_eq (keys_of (e ∷ es))
+pub absent_after : {A : Type 0} (id : List ℕ) (e : List ℕ × A) (es : List (List ℕ × A)) → IsDistinct bytes_eq (keys_of (e ∷ es))
     → bytes_eq id e.0 ≡ true → IsAbsent id es
-absent_behind id e es distinct same =
+absent_after id e es distinct same =
     subst (λ (k : List ℕ). IsAbsent k es) (sym ((bytes_eq-Decides id e.0).0 same)) (IsDistinct-head bytes_eq e.0 (keys_of es) distinct)
 
 module _ {A : Type 0} where
@@ -80,7 +80,7 @@ module _ {H A : Type 0} (look : Registered H → A) where
           let now : look w ≡ f (look e.1) = is ∙ ap (λ (r : Registered H). f (look r)) (sym value) in
           rw same (ap (λ (r : A). (e.0, r) ∷ look_all look es) now
           ∙ ap (λ (xs : List (List ℕ × A)). (e.0, f (look e.1)) ∷ xs)
-          (sym (at_id-absent id f (look_all look es) (absent_seen id es (absent_behind id e es distinct same)))))
+          (sym (at_id-absent id f (look_all look es) (absent_seen id es (absent_after id e es distinct same)))))
       by false other rest = rw other (ap (λ (xs : List (List ℕ × A)). (e.0, look e.1) ∷ xs) (rest (rw other at at) is))
 
   -- without the id
@@ -93,7 +93,7 @@ module _ {H A : Type 0} (look : Registered H → A) where
       by : (b : Bool) → bytes_eq id e.0 ≡ b
           → look_all look (remove_entry (bytes_eq id) es) ≡ filter (λ e. not (bytes_eq id e.0)) (look_all look es)
           → look_all look (remove_entry (bytes_eq id) (e ∷ es)) ≡ filter (λ e. not (bytes_eq id e.0)) (look_all look (e ∷ es))
-      by true same rest = rw same (sym (others-absent id (look_all look es) (absent_seen id es (absent_behind id e es distinct same))))
+      by true same rest = rw same (sym (others-absent id (look_all look es) (absent_seen id es (absent_after id e es distinct same))))
       by false other rest = rw other (ap (λ (xs : List (List ℕ × A)). (e.0, look e.1) ∷ xs) rest)
 
   -- a write at an index

@@ -30,20 +30,20 @@ abbrev pub due_in : List Monitor → ℕ → Option ℕ
 due_in ms call = option_map (λ m. m.due) (find (λ m. m.recur.call == call) ms)
 
 -- a monitor does not change the due moments of greater calls
-due_pairs_behind : (m : Monitor) (ms : List Monitor) (xs : List Recur) → AllByRecursion (λ k. m.recur.call < k) (map (λ x. x.call) xs)
+due_pairs_after : (m : Monitor) (ms : List Monitor) (xs : List Recur) → AllByRecursion (λ k. m.recur.call < k) (map (λ x. x.call) xs)
     → due_pairs xs (due_in (m ∷ ms)) ≡ due_pairs xs (due_in ms)
-due_pairs_behind m ms [] h = refl
-due_pairs_behind m ms (x ∷ xs) h =
+due_pairs_after m ms [] h = refl
+due_pairs_after m ms (x ∷ xs) h =
     let other : (m.recur.call == x.call) ≡ false = lesser_differs m.recur.call x.call h.0 in
     let due : due_in (m ∷ ms) x.call ≡ due_in ms x.call = rw other refl in
-    rw (due, due_pairs_behind m ms xs h.1) refl
+    rw (due, due_pairs_after m ms xs h.1) refl
 
 -- the pairs of the monitors are those of their calls
 pub due_pairs-recurs : (ms : List Monitor) → IsAscending (map (λ x. x.call) (recurs ms)) → due_pairs (recurs ms) (due_in ms) ≡ pairs ms
 due_pairs-recurs [] h = refl
 due_pairs-recurs (m ∷ ms) h =
     let same : (m.recur.call == m.recur.call) ≡ true = (Decides-eqb m.recur.call m.recur.call).1 refl in
-    let rest : due_pairs (recurs ms) (due_in (m ∷ ms)) ≡ pairs ms = due_pairs_behind m ms (recurs ms) h.0 ∙ due_pairs-recurs ms h.1 in
+    let rest : due_pairs (recurs ms) (due_in (m ∷ ms)) ≡ pairs ms = due_pairs_after m ms (recurs ms) h.0 ∙ due_pairs-recurs ms h.1 in
     rw (same, rest) refl
 
 -- the monitors of an id are those of its resource

@@ -26,15 +26,15 @@ pub own_found : (rs : Registry) → IsDistinct bytes_eq (keys_of rs) → AllByRe
 own_found [] h = tt
 own_found (e ∷ es) h = (
   rw (same_id e.0) refl,
-  behind es (IsDistinct-head bytes_eq e.0 (keys_of es) h)
+  following es (IsDistinct-head bytes_eq e.0 (keys_of es) h)
       (own_found es (IsDistinct-tail bytes_eq e.0 (keys_of es) h)),
 )
   where
-    behind : (xs : Registry) → AllByRecursion (λ k. bytes_eq e.0 k ≡ false) (keys_of xs)
+    following : (xs : Registry) → AllByRecursion (λ k. bytes_eq e.0 k ≡ false) (keys_of xs)
         → AllByRecursion (λ x. lookup (bytes_eq x.0) es ≡ Some x.1) xs
         → AllByRecursion (λ x. lookup (bytes_eq x.0) (e ∷ es) ≡ Some x.1) xs
-    behind [] a g = tt
-    behind (x ∷ xs) a g = (rw (other_way e.0 x.0 a.0) g.0, behind xs a.1 g.1)
+    following [] a g = tt
+    following (x ∷ xs) a g = (rw (other_way e.0 x.0 a.0) g.0, following xs a.1 g.1)
 
 -- the resource at an index is that of its id
 pub found_at : (s : State) (place : ℕ) → IsLawfulState s → place < length s.resources
@@ -51,8 +51,8 @@ module _ {A : Type 0} where
   all_cons P x xs h hs zero d lt = h
   all_cons P x xs h hs (suc k) d lt = hs k d (omega (arith, lt))
 
-  pub contains_behind : (x y : A) (xs : List A) → Contains xs y → Contains (x ∷ xs) y
-  contains_behind x y xs h = (suc h.0, omega (arith, h.1), h.2)
+  pub contains_after : (x y : A) (xs : List A) → Contains xs y → Contains (x ∷ xs) y
+  contains_after x y xs h = (suc h.0, omega (arith, h.1), h.2)
 
   pub contains_first : (x : A) (xs : List A) → Contains (x ∷ xs) x
   contains_first x xs = (0, omega arith, refl)
@@ -84,7 +84,7 @@ least_due (p ∷ ps) now = by (cases_lt now p.0) (least_due ps now)
       Some call,
       (
         due,
-        contains_behind p (due, call) ps in_it,
+        contains_after p (due, call) ps in_it,
         is_due,
         all_cons (λ q. q.0 ≤ now → IsBefore (due, call) q) p ps (λ le. absurd (omega (arith, late, le))) least,
       ),
@@ -115,7 +115,7 @@ least_due (p ∷ ps) now = by (cases_lt now p.0) (least_due ps now)
           Some call,
           (
             due,
-            contains_behind p (due, call) ps in_it,
+            contains_after p (due, call) ps in_it,
             is_due,
             all_cons (λ q. q.0 ≤ now → IsBefore (due, call) q) p ps (λ le. b) least,
           ),
@@ -149,8 +149,8 @@ picks_append due at run (x ∷ xs) ys first bs (call, rest, pick, more, is) k =
     let own = begun_in at run x call in
     let size : length first ≡ length own + length rest = ap (λ (l : List Active). length l) is ∙ length-append own rest in
     let from : run + length first ≡ run + length own + length rest = omega (arith, size) in
-    let behind = picks_append due at (run + length own) xs ys rest bs more (subst (λ n. ArePicks due at n ys bs) from k) in
-    (call, rest ++ bs, pick, behind, ap (λ (l : List Active). l ++ bs) is ∙ append_assoc own rest bs)
+    let following = picks_append due at (run + length own) xs ys rest bs more (subst (λ n. ArePicks due at n ys bs) from k) in
+    (call, rest ++ bs, pick, following, ap (λ (l : List Active). l ++ bs) is ∙ append_assoc own rest bs)
 
 -- the action that a resource begins runs in it
 begun_is : (at run : ℕ) (e : List ℕ × Resource) (call : Option ℕ) (chosen : Option Running) → chosen ≡ run_of_pick at run e.1 call

@@ -20,7 +20,7 @@ use Rattle.exec_ledger.specs.Pieces.{Effects, Leaves, no_effects}
 use Rattle.exec_turn.specs.Polls.{polls, results}
 use Rattle.exec_turn.specs.Starts.{Started, refusal_notices, refusals, starts}
 use Rattle.exec_turn.specs.Turn.{IsFinish, IsTurn, PickedAt, TurnReport, TurnKind, Whole}
-use Rattle.exec_ledger.specs.Scenes.{Scene, behind, due_after_all, scene}
+use Rattle.exec_ledger.specs.Scenes.{Scene, following, due_after_all, scene}
 use Rattle.exec_turn.specs.Turns.{BeginsBatch, Finishes, PollsBatch, StartsBatch, Turns, TurnsAs, end_of}
 
 -- a turn that did nothing
@@ -89,7 +89,7 @@ module _ {D : Type 0} {look : D → View} {at : ℕ} {k0 k1 : D} {s0 s1 : State}
     due1 = ap (λ (x : Scene). x.due) p.moves
 
     picks : (begun : List Active) (end : TurnEnd) → PickedAt end (scene s1 d1 p1 at a1) begun
-        → PickedAt end (behind (scene s0 d0 p0 at a0) (results at p.answers)) begun
+        → PickedAt end (following (scene s0 d0 p0 at a0) (results at p.answers)) begun
     picks begun end picked = subst (λ (x : Scene). PickedAt end x begun) p.moves picked
 
     -- the batch of begins failed

@@ -48,13 +48,13 @@ pub begins_push : (at : ℕ) (bs : List Active) (a : Active) → begins at (bs +
 begins_push at bs a = map-append (begin_of at) bs (a ∷ [])
 
 -- begins leave the reserve free
-kept_behind : (at : ℕ) (a : Active) (bs : List Active) → kept_free (begins at (a ∷ bs)) ≡ 32768
-kept_behind at a [] = refl
-kept_behind at a (b ∷ bs) = refl
+kept_after : (at : ℕ) (a : Active) (bs : List Active) → kept_free (begins at (a ∷ bs)) ≡ 32768
+kept_after at a [] = refl
+kept_after at a (b ∷ bs) = refl
 
 kept : (at : ℕ) (bs : List Active) (a : Active) → kept_free (begins at (bs ++ a ∷ [])) ≡ 32768
-kept at [] a = kept_behind at a []
-kept at (b ∷ bs) a = kept_behind at b (bs ++ a ∷ [])
+kept at [] a = kept_after at a []
+kept at (b ∷ bs) a = kept_after at b (bs ++ a ∷ [])
 
 -- the encoding of the batch with one more begin
 pub encoded_more : (at len more : ℕ) (bs : List Active) (a : Active) (batch : List Event) (e : Event) → batch ≡ begins at bs → e ≡ begin_of at a

@@ -238,9 +238,9 @@ pub active_rest : (s : State) (place : ℕ) → place < length s.resources
 active_rest s place within = ap (flat_map active_in) (drop_more s.resources place no_entry within)
 
 -- the book's capacity after polls
-pub room_behind : (at : ℕ) (all : List Active) (old new : ChildrenView) (batch : List Event) (reported : List Notice)
+pub room_kept : (at : ℕ) (all : List Active) (old new : ChildrenView) (batch : List Event) (reported : List Notice)
     → Polls at all old new batch reported → old.room ≤ new.room + 2 * length all
-room_behind at all old new batch reported h =
+room_kept at all old new batch reported h =
     let many : length h.answers ≡ length all = sym (length-map h.answers _) ∙ ap (λ (l : List Active). length l) h.each in
     let room : new.room ≡ (after_polls at old h.answers).room = ap (λ (w : ChildrenView). w.room) h.children in
     omega (arith, many, room, (polls_as at old h.answers).4)
@@ -270,14 +270,14 @@ results_may_record fit at s ps tail lawful later moment each apart bytes =
     (omega (arith, many, lawful.at_most_256, few_active s.resources)) (subst (AllRun s) (sym each) (all_run s lawful))
     (subst (λ (l : List Active). IsDistinct nat_eq (runs_of l)) (sym each) apart) (endings at ps bytes)
 
-agents_behind : (at : ℕ) (s : State) (ps : List Polled) (v : ChildrenView) → IsDistinct bytes_eq (keys_of s.resources) → AllRun s (whos ps)
+agents_after : (at : ℕ) (s : State) (ps : List Polled) (v : ChildrenView) → IsDistinct bytes_eq (keys_of s.resources) → AllRun s (whos ps)
     → IsDistinct nat_eq (runs_of (whos ps)) → AgentsLive s v.live → AgentsLive (after_all s (results at ps)) (after_polls at v ps).live
-agents_behind at s [] v distinct run apart agents = agents
-agents_behind at s (p ∷ ps) v distinct run apart agents =
+agents_after at s [] v distinct run apart agents = agents
+agents_after at s (p ∷ ps) v distinct run apart agents =
     let rest = IsDistinct-tail nat_eq n (runs_of (whos ps)) apart in
     by (ending at p.who.running p.poll) (polled_as at p.who.running p.poll p.kill v).live
-    (agents_behind at s ps w distinct run.1 rest)
-    (λ e. agents_behind at (after s (result_of at p.who e)) ps w (same_keys s at p.who e distinct)
+    (agents_after at s ps w distinct run.1 rest)
+    (λ e. agents_after at (after s (result_of at p.who e)) ps w (same_keys s at p.who e distinct)
     (run_on s at p.who e (whos ps) run.0 (IsDistinct-head nat_eq n (runs_of (whos ps)) apart) run.1) rest)
   where
     n : ℕ
@@ -301,5 +301,5 @@ agents_behind at s (p ∷ ps) v distinct run apart agents =
 pub agents_live_after_polls : (at : ℕ) (s : State) (v : ChildrenView) (ps : List Polled) → IsLawfulState s → whos ps ≡ active s → AgentsLive s v.live
     → AgentsLive (after_all s (results at ps)) (after_polls at v ps).live
 agents_live_after_polls at s v ps lawful each agents =
-    agents_behind at s ps v lawful.ids (subst (AllRun s) (sym each) (all_run s lawful))
+    agents_after at s ps v lawful.ids (subst (AllRun s) (sym each) (all_run s lawful))
     (subst (λ (l : List Active). IsDistinct nat_eq (runs_of l)) (sym each) agents.distinct) agents

@@ -157,9 +157,9 @@ absent_kept id f (e ∷ es) absent =
 -- the entry of an id between the others, and all entries after a change of it
 record Between (id : List ℕ) (f : Resource → Resource) (r : Resource) (rs : Registry) : Type 0 where
   before : Registry
-  behind : Registry
-  is : rs ≡ before ++ (id, r) ∷ behind
-  changed : at_id id f rs ≡ before ++ (id, f r) ∷ behind
+  following : Registry
+  is : rs ≡ before ++ (id, r) ∷ following
+  changed : at_id id f rs ≡ before ++ (id, f r) ∷ following
 
 between : (id : List ℕ) (f : Resource → Resource) (r : Resource) (rs : Registry) → IsDistinct bytes_eq (keys_of rs)
     → lookup (bytes_eq id) rs ≡ Some r → Between id f r rs
@@ -174,7 +174,7 @@ between id f r (e ∷ es) distinct at = by (bytes_eq id e.0) refl (between id f 
         let absent : IsAbsent id es = subst (λ (k : List ℕ). IsAbsent k es) key (IsDistinct-head bytes_eq e.0 (keys_of es) distinct) in
         record {
           before = [];
-          behind = es;
+          following = es;
           is = ap (λ (k : List ℕ). (k, e.1) ∷ es) key ∙ ap (λ (v : Resource). (id, v) ∷ es) value;
           changed =
               rw same (ap (λ (k : List ℕ). (k, f e.1) ∷ at_id id f es) key ∙ ap (λ (v : Resource). (id, f v) ∷ at_id id f es) value
@@ -184,7 +184,7 @@ between id f r (e ∷ es) distinct at = by (bytes_eq id e.0) refl (between id f 
         let found = rest (rw other at at) in
         record {
           before = e ∷ found.before;
-          behind = found.behind;
+          following = found.following;
           is = ap (λ (l : Registry). e ∷ l) found.is;
           changed = rw other (ap (λ (l : Registry). e ∷ l) found.changed);
         }
@@ -193,17 +193,17 @@ abbrev runs_in : Registry → List ℕ
 runs_in rs = runs_of (all_in rs)
 
 -- the runs of one entry first
-entry_first : (before behind : Registry) (e : List ℕ × Resource)
-    → IsPermutation (runs_in (before ++ e ∷ behind)) (runs_of (active_in e) ++ (runs_in before ++ runs_in behind))
-entry_first before behind e =
+entry_first : (before following : Registry) (e : List ℕ × Resource)
+    → IsPermutation (runs_in (before ++ e ∷ following)) (runs_of (active_in e) ++ (runs_in before ++ runs_in following))
+entry_first before following e =
     let x = runs_of (active_in e) in
-    let split : runs_in (before ++ e ∷ behind) ≡ runs_in before ++ (x ++ runs_in behind) = ap runs_of (flat_map-append active_in before (e ∷ behind))
-    ∙ map-append (λ (a : Active). a.running.run) (all_in before) (active_in e ++ all_in behind)
-    ∙ ap (λ (l : List ℕ). runs_in before ++ l) (map-append (λ (a : Active). a.running.run) (active_in e) (all_in behind)) in
-    subst (λ (l : List ℕ). IsPermutation l (x ++ (runs_in before ++ runs_in behind)))
-    (append_assoc (runs_in before) x (runs_in behind) ∙ sym split)
-    (subst (λ (l : List ℕ). IsPermutation ((runs_in before ++ x) ++ runs_in behind) l) (append_assoc x (runs_in before) (runs_in behind))
-    (IsPermutation-append_left (runs_in behind) (runs_in before ++ x) (x ++ runs_in before) (IsPermutation-append_comm (runs_in before) x)))
+    let split : runs_in (before ++ e ∷ following) ≡ runs_in before ++ (x ++ runs_in following) = ap runs_of (flat_map-append active_in before (e ∷ following))
+    ∙ map-append (λ (a : Active). a.running.run) (all_in before) (active_in e ++ all_in following)
+    ∙ ap (λ (l : List ℕ). runs_in before ++ l) (map-append (λ (a : Active). a.running.run) (active_in e) (all_in following)) in
+    subst (λ (l : List ℕ). IsPermutation l (x ++ (runs_in before ++ runs_in following)))
+    (append_assoc (runs_in before) x (runs_in following) ∙ sym split)
+    (subst (λ (l : List ℕ). IsPermutation ((runs_in before ++ x) ++ runs_in following) l) (append_assoc x (runs_in before) (runs_in following))
+    (IsPermutation-append_left (runs_in following) (runs_in before ++ x) (x ++ runs_in before) (IsPermutation-append_comm (runs_in before) x)))
 
 -- the runs of one resource and of all others, before a step of it and after it
 pub stepped_runs : (s : State) (at : ℕ) (id : List ℕ) (what : Step) (r : Resource) → IsDistinct bytes_eq (keys_of s.resources)
@@ -213,12 +213,12 @@ pub stepped_runs : (s : State) (at : ℕ) (id : List ℕ) (what : Step) (r : Res
     (runs_of (active_in (id, stepped at what r)) ++ others)
 stepped_runs s at id what r distinct here =
     let found = between id (stepped at what) r s.resources distinct here in
-    let others = runs_in found.before ++ runs_in found.behind in (
+    let others = runs_in found.before ++ runs_in found.following in (
       others,
       subst (λ (l : Registry). IsPermutation (runs_in l) (runs_of (active_in (id, r)) ++ others)) (sym found.is)
-          (entry_first found.before found.behind (id, r)),
+          (entry_first found.before found.following (id, r)),
       subst (λ (l : Registry). IsPermutation (runs_in l) (runs_of (active_in (id, stepped at what r)) ++ others)) (sym found.changed)
-          (entry_first found.before found.behind (id, stepped at what r)),
+          (entry_first found.before found.following (id, stepped at what r)),
     )
 
 -- after a result each other action has its agent process alive, where these live on

@@ -126,19 +126,19 @@ still_among live n more m apart among = ⊎_elim
     (first_or_rest n m (live ++ more)
     (Contains-permutation (live ++ n ∷ more) (n ∷ (live ++ more)) m (IsPermutation-middle live n more) among))
 
-agents_behind : (s : State) (at clock : ℕ) (v : ChildrenView) (xs : List Started) → IsDistinct bytes_eq (keys_of s.resources)
+agents_after : (s : State) (at clock : ℕ) (v : ChildrenView) (xs : List Started) → IsDistinct bytes_eq (keys_of s.resources)
     → AllRun s (whats xs) → IsDistinct nat_eq (runs_of (whats xs)) → AgentsLive s (v.live ++ runs_of (whats xs))
     → AgentsLive (after_all s (refusals at xs)) (after_starts clock v xs).live
-agents_behind s at clock v [] distinct run apart agents = subst (AgentsLive s) (append-nil v.live) agents
-agents_behind s at clock v (x ∷ xs) distinct run apart agents =
+agents_after s at clock v [] distinct run apart agents = subst (AgentsLive s) (append-nil v.live) agents
+agents_after s at clock v (x ∷ xs) distinct run apart agents =
     let n = x.what.running.run in
     let others = runs_of (whats xs) in
     let rest = IsDistinct-tail nat_eq n others apart in
     by x.answer
-    (λ y. agents_behind s at clock (after_start v n clock (Ok y)) xs distinct run.1 rest
+    (λ y. agents_after s at clock (after_start v n clock (Ok y)) xs distinct run.1 rest
     (subst (AgentsLive s) (sym (append_assoc v.live (n ∷ []) others)) agents))
     (λ fault. let end = NotStarted fault in
-    agents_behind (after s (result_of at x.what end)) at clock (after_start v n clock (Err fault)) xs
+    agents_after (after s (result_of at x.what end)) at clock (after_start v n clock (Err fault)) xs
     (same_keys s at x.what end distinct) (run_on s at x.what end (whats xs) run.0 (IsDistinct-head nat_eq n others apart) run.1) rest
     (agents_result s at x.what end (v.live ++ n ∷ others) (v.live ++ others) distinct run.0 (λ m apart among. still_among v.live n others m apart among)
     (λ has. omega (arith, length-append v.live (n ∷ others), length-append v.live others)) agents))
@@ -158,7 +158,7 @@ pub starts_tend : (s : State) (at clock last : ℕ) (v : ChildrenView) (xs : Lis
     → AllRun s (whats xs) → Rising last (whats xs) → AgentsLiveBut s v.live (whats xs)
     → AgentsLive (after_all s (refusals at xs)) (after_starts clock v xs).live
 starts_tend s at clock last v xs distinct run rising agents =
-    agents_behind s at clock v xs distinct run (rising_apart last (whats xs) rising) (record {
+    agents_after s at clock v xs distinct run (rising_apart last (whats xs) rising) (record {
       each_lives = agents.each_lives;
       distinct = agents.distinct;
       few = omega (arith, agents.few, length-append v.live (runs_of (whats xs)), length-map (whats xs) (λ (a : Active). a.running.run));

@@ -54,7 +54,7 @@ then_started look old new s t at clock bs xs lawful same each leaves = record {
     counted = found.0 ∙ same;
     before = subst (λ (l : List Event). CrashesTo (look old) (look new) (Prefix s l)) (append-nil (begins at bs)) leaves.crash;
     holds = holds;
-    behind = started (look new) (Prefix (after_all s (begins at bs)) []) (λ h c now. ([], [], refl, holds h c now)) lawful;
+    following = started (look new) (Prefix (after_all s (begins at bs)) []) (λ h c now. ([], [], refl, holds h c now)) lawful;
   };
   reserved = leaves.reserved;
 }

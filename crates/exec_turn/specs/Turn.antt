@@ -5,7 +5,7 @@ use Rattle.ocf_types.specs.declared.reply.TurnEnd.{TurnEnd}
 use Rattle.ocf_types.specs.declared.reply.TurnEnd.TheVariants as turn_end
 use Rattle.ocf_types.specs.declared.reply.Notice.{Notice}
 use Rattle.exec_ledger.specs.Pieces.{Effects, no_effects}
-use Rattle.exec_ledger.specs.Scenes.{Scene, behind}
+use Rattle.exec_ledger.specs.Scenes.{Scene, following}
 use Rattle.exec_ledger.specs.Actives.{Active, active}
 use Rattle.exec_turn.specs.Picks.{Picked, begins}
 use Rattle.exec_turn.specs.Polls.{IsPoll, Polled, polls, result_notices, results}
@@ -32,7 +32,7 @@ pub record TurnReport (end : TurnEnd) (x : Scene) : Type 0 where
   pub started : List Started
   pub clock : ℕ
   pub each_polled : EachPolled x polled
-  pub picked : PickedAt end (behind x (results x.at polled)) begun
+  pub picked : PickedAt end (following x (results x.at polled)) begun
   pub each_started : map (λ a. a.what) started ≡ begun
 
 -- a turn with these answers that left nothing pending
@@ -62,7 +62,7 @@ NoResults x did reported = (ps : List Polled) × EachPolled x ps
 -- one whose batch of begins failed: nothing was spawned
 abbrev pub NoBegins : Scene → Effects → List Notice → Type 0
 NoBegins x did reported = (ps : List Polled) × (end : TurnEnd) × (bs : List Active) × EachPolled x ps
-    × PickedAt end (behind x (results x.at ps)) bs
+    × PickedAt end (following x (results x.at ps)) bs
     × (did ≡ record { entries = polls x.at ps; events = results x.at ps; pending = begins x.at bs }) × (reported ≡ result_notices x.at ps)
 
 -- one whose batch of refused starts failed

@@ -54,16 +54,16 @@ followed_by_none a =
 
 module _ {D : Type 0} (look : D → View) where
   -- calls after others
-  pub calls_behind : (x y z : ExecutorView D) (es fs : List Exchange) (a b : Effects) → Calls look x es y a → Calls look y fs z b
+  pub calls_after : (x y z : ExecutorView D) (es fs : List Exchange) (a b : Effects) → Calls look x es y a → Calls look y fs z b
       → Calls look x (es ++ fs) z (followed_by a b)
-  calls_behind x y z [] fs a b (same, none) later =
+  calls_after x y z [] fs a b (same, none) later =
       subst (λ (d : Effects). Calls look x fs z d) (sym (ap (λ (d : Effects). followed_by d b) none))
       (subst (λ (w : ExecutorView D). Calls look w fs z b) same later)
-  calls_behind x y z (e ∷ es) fs a b (mid, first, rest, does, calls, is) later = (
+  calls_after x y z (e ∷ es) fs a b (mid, first, rest, does, calls, is) later = (
     mid,
     first,
     followed_by rest b,
     does,
-    calls_behind mid y z es fs rest b calls later,
+    calls_after mid y z es fs rest b calls later,
     ap (λ (d : Effects). followed_by d b) is ∙ sym (followed_by_assoc first rest b),
   )

@@ -77,7 +77,7 @@ pub record Serves {D : Type 0} (look : D → View) (x : Service D) : Type 0 wher
   pub returns : Calls look x.opened calls x.returned x.done
   pub begun : List Exchange
   pub goes_on : Calls look x.returned begun x.last x.under_way
-  pub behind : (look x.returned.disk).clock ≤ x.stop
+  pub following : (look x.returned.disk).clock ≤ x.stop
 
 -- an incarnation: an opening that was refused for a fault, or in which the crash came, from one disk to another; or one whose opening
 -- was done
@@ -158,7 +158,7 @@ Lived {D} start (InService x ∷ older) zs =
 
 -- An opening after a history gives this state and this report: the state after the events that remain and the boot; the actions that
 -- ran there are reported as interrupted, those that were queued as dropped.
-pub record OpensBehind {D : Type 0} (start : State) (life : List (Sitting D)) (now : ℕ) (t : State) (was_running was_queued : List Notice) : Type 0 where
+pub record OpensAfter {D : Type 0} (start : State) (life : List (Sitting D)) (now : ℕ) (t : State) (was_running was_queued : List Notice) : Type 0 where
   pub holds : List Event
   pub lived : Lived start life holds
   pub state : t ≡ booted (after_all start holds) now

@@ -14,7 +14,7 @@ ghost use Rattle.exec_journal.specs.Opening.{Opens};
 ghost use Rattle.exec_journal.specs.Reserve.{PairHasReserve};
 ghost use Rattle.exec_turn.specs.AgentsLive.{AgentsLive};
 ghost use Rattle.executor.specs.Joins.{SameIsolated, as_calls};
-ghost use Rattle.executor.specs.Lives.{BeginsAs, Calls, Does, Exchange, GoesOnFrom, InOpening, IsLife, LifeLeaves, Lived, OpensBehind, Batch, Sat, Sitting};
+ghost use Rattle.executor.specs.Lives.{BeginsAs, Calls, Does, Exchange, GoesOnFrom, InOpening, IsLife, LifeLeaves, Lived, OpensAfter, Batch, Sat, Sitting};
 ghost use Rattle.executor.specs.Machine.{LacksMemory};
 ghost use Rattle.executor.specs.Openings.{NotOpened, Opened};
 ghost use Rattle.executor.specs.Promise.{IsKept};
@@ -160,7 +160,7 @@ pub fn whole_life<D: Disk>()
         (now : ℕ) (x : ExecutorView D) (ran queued : List Notice)
         → IsLife D.view start life → GoesOnFrom D.view start life old
         → Opened D.view (D.view old) from now x ran queued
-        → (D.view x.disk).honest → OpensBehind start life now x.state ran queued }
+        → (D.view x.disk).honest → OpensAfter start life now x.state ran queued }
     ensures not_refused { (start : State) (life : List (Sitting D)) (old new : D)
         (from to : ChildrenView) (now : ℕ) (fault : OpenError)
         → IsLife D.view start life

@@ -51,7 +51,7 @@ module _ {D : Type 0} (look : D → View) where
       returns = made;
       begun = [];
       goes_on = (refl, refl);
-      behind = omega arith;
+      following = omega arith;
     };
     made = append-nil calls;
     first = refl;

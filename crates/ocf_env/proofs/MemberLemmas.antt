@@ -78,8 +78,8 @@ param_from [] x a = absurd a
 param_from (p ∷ ps) x (inl e) = (p, inl refl, e)
 param_from (p ∷ ps) x (inr a) = let f = param_from ps x a in (f.0, inr f.1, f.2)
 
-abbrev behind : SiteView → Registration → List Pair
-behind site r = instance_pair r.id ∷ last_pairs site r.provider r.agent
+abbrev following : SiteView → Registration → List Pair
+following site r = instance_pair r.id ∷ last_pairs site r.provider r.agent
 
 -- a pair in a segment of the list is in the list
 from_level : (site : SiteView) (r : Registration) (t : Task) (x : Pair) → Among x (level_pairs t) → Among x (action_pairs site r t)
@@ -96,13 +96,13 @@ unfolding action_pairs
 from_rest site r t x a =
     among_right (level_pairs t) (version_pairs ++ instance_pairs site r) x (among_right version_pairs (instance_pairs site r) x a)
 
-from_behind : (site : SiteView) (r : Registration) (t : Task) (x : Pair) → Among x (behind site r) → Among x (action_pairs site r t)
-from_behind site r t x a = from_rest site r t x (among_right (param_pairs r.params) (behind site r) x a)
+from_after : (site : SiteView) (r : Registration) (t : Task) (x : Pair) → Among x (following site r) → Among x (action_pairs site r t)
+from_after site r t x a = from_rest site r t x (among_right (param_pairs r.params) (following site r) x a)
 
 from_parts : (site : SiteView) (r : Registration) (t : Task) (x : Pair) → Among x version_pairs ⊎ Among x (last_pairs site r.provider r.agent)
     → Among x (action_pairs site r t)
 from_parts site r t x (inl a) = from_version site r t x a
-from_parts site r t x (inr a) = from_behind site r t x (inr a)
+from_parts site r t x (inr a) = from_after site r t x (inr a)
 
 level_among : (t : Task) (check : Check) → t ≡ task.Monitor check
     → Among (codes "OCF_CHECK_LEVEL", decimal (level_number check.level)) (level_pairs t)
@@ -113,10 +113,10 @@ listed : (site : SiteView) (r : Registration) (t : Task) (name value : List ℕ)
 listed site r t name value (of_agent v) = from_parts site r t (name, value) (in_parts site r.provider r.agent name value v).here
 listed site r t name value (level {check} e) =
     from_level site r t (codes "OCF_CHECK_LEVEL", decimal (level_number check.level)) (level_among t check e)
-listed site r t name value instance = from_behind site r t (codes "OCF_RESOURCE_INSTANCE", r.id) (inl refl)
+listed site r t name value instance = from_after site r t (codes "OCF_RESOURCE_INSTANCE", r.id) (inl refl)
 listed site r t name value (parameter {name = p} {value = v} h) =
     from_rest site r t (reskey p, v)
-    (among_left (param_pairs r.params) (behind site r) (reskey p, v) (param_among r.params p v (among r.params (p, v) h)))
+    (among_left (param_pairs r.params) (following site r) (reskey p, v) (param_among r.params p v (among r.params (p, v) h)))
 
 -- a pair in a segment of the list is a variable
 level_only : (site : SiteView) (r : Registration) (t : Task) (x : Pair) → Among x (level_pairs t) → IsVariable site r t x.0 x.1
@@ -134,19 +134,19 @@ params_only site r t x a =
     let f = param_from r.params x a in
     subst (λ (p : Pair). IsVariable site r t p.0 p.1) f.2 (parameter (contained r.params f.0 f.1))
 
-behind_only : (site : SiteView) (r : Registration) (t : Task) (x : Pair) → Among x (behind site r) → IsVariable site r t x.0 x.1
-behind_only site r t x (inl e) = subst (λ (p : Pair). IsVariable site r t p.0 p.1) e instance
-behind_only site r t x (inr a) = of_agent (last_only site r.provider r.agent x a)
+after_only : (site : SiteView) (r : Registration) (t : Task) (x : Pair) → Among x (following site r) → IsVariable site r t x.0 x.1
+after_only site r t x (inl e) = subst (λ (p : Pair). IsVariable site r t p.0 p.1) e instance
+after_only site r t x (inr a) = of_agent (last_only site r.provider r.agent x a)
 
-rest_only : (site : SiteView) (r : Registration) (t : Task) (x : Pair) → Among x (param_pairs r.params) ⊎ Among x (behind site r)
+rest_only : (site : SiteView) (r : Registration) (t : Task) (x : Pair) → Among x (param_pairs r.params) ⊎ Among x (following site r)
     → IsVariable site r t x.0 x.1
 rest_only site r t x (inl a) = params_only site r t x a
-rest_only site r t x (inr a) = behind_only site r t x a
+rest_only site r t x (inr a) = after_only site r t x a
 
 version_or : (site : SiteView) (r : Registration) (t : Task) (x : Pair) → Among x version_pairs ⊎ Among x (instance_pairs site r)
     → IsVariable site r t x.0 x.1
 version_or site r t x (inl a) = of_agent (version_only site r.provider r.agent x a)
-version_or site r t x (inr a) = rest_only site r t x (among_cases (param_pairs r.params) (behind site r) x a)
+version_or site r t x (inr a) = rest_only site r t x (among_cases (param_pairs r.params) (following site r) x a)
 
 level_or : (site : SiteView) (r : Registration) (t : Task) (x : Pair)
     → Among x (level_pairs t) ⊎ Among x (version_pairs ++ instance_pairs site r) → IsVariable site r t x.0 x.1

@@ -24,27 +24,27 @@ params_before last (p ∷ ps) rest h k =
     let first = both (is_before last p.0) (is_param_name p.0) (both (is_before last p.0 && is_param_name p.0) (is_param_value p.1) s.0).0 in
     and_true _ _ first.0 (params_before p.0 ps rest s.1 k)
 
-behind_params : (site : SiteView) (r : Registration) (name : List ℕ)
+after_params : (site : SiteView) (r : Registration) (name : List ℕ)
     → are_ascending_after (Some (reskey name)) (instance_pair r.id ∷ last_pairs site r.provider r.agent) ≡ true
-behind_params site r name = refl
+after_params site r name = refl
 
-behind_version : (site : SiteView) (r : Registration) (ps : ParamList) → are_params_after None ps ≡ true
+after_version : (site : SiteView) (r : Registration) (ps : ParamList) → are_params_after None ps ≡ true
     → are_ascending_after (Some (codes "OCF_RA_VERSION_MINOR")) (param_pairs ps ++ instance_pair r.id ∷ last_pairs site r.provider r.agent)
     ≡ true
-behind_version site r [] h = refl
-behind_version site r (p ∷ ps) h =
+after_version site r [] h = refl
+after_version site r (p ∷ ps) h =
     let s = both (is_param_name p.0 && is_param_value p.1) (are_params_after (Some p.0) ps) h in
-    params_before p.0 ps (instance_pair r.id ∷ last_pairs site r.provider r.agent) s.1 (behind_params site r)
+    params_before p.0 ps (instance_pair r.id ∷ last_pairs site r.provider r.agent) s.1 (after_params site r)
 
 pub ascending : (site : SiteView) (r : Registration) (t : Task) → AreParams r.params → are_ascending (action_pairs site r t) ≡ true
 unfolding action_pairs
-ascending site r task.Start h = behind_version site r r.params h.sorted
-ascending site r task.Stop h = behind_version site r r.params h.sorted
-ascending site r (task.Monitor depth) h = behind_version site r r.params h.sorted
-ascending site r task.Promote h = behind_version site r r.params h.sorted
-ascending site r task.Demote h = behind_version site r r.params h.sorted
-ascending site r task.ReloadAgent h = behind_version site r r.params h.sorted
-ascending site r task.ValidateAll h = behind_version site r r.params h.sorted
+ascending site r task.Start h = after_version site r r.params h.sorted
+ascending site r task.Stop h = after_version site r r.params h.sorted
+ascending site r (task.Monitor depth) h = after_version site r r.params h.sorted
+ascending site r task.Promote h = after_version site r r.params h.sorted
+ascending site r task.Demote h = after_version site r r.params h.sorted
+ascending site r task.ReloadAgent h = after_version site r r.params h.sorted
+ascending site r task.ValidateAll h = after_version site r r.params h.sorted
 
 pub meta_ascending : (site : SiteView) (provider agent : List ℕ) → are_ascending (meta_pairs site provider agent) ≡ true
 unfolding meta_pairs

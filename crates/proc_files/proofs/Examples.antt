@@ -10,7 +10,7 @@ use Rattle.proc_files.specs.Processes.{IsSame}
 use Rattle.proc_files.specs.declared.job.ActionMark.{ActionMark}
 use Rattle.proc_files.specs.declared.process.Process.{Process}
 use Rattle.proc_files.proofs.OrphanLemmas.{no_instance}
-use Rattle.proc_files.proofs.PieceLemmas.{behind_none}
+use Rattle.proc_files.proofs.PieceLemmas.{after_none}
 
 -- a process in the executor's session, which is 40
 abbrev process : ℕ → ℕ → ℕ → Process
@@ -76,7 +76,7 @@ names_db : HasInstance environ (codes "db")
 names_db = (codes "PATH=/bin" ∷ [], codes "OCF_RESOURCE_INSTANCE=db" ++ 0 ∷ [], refl, ([], refl))
 
 no_environ : (instance : List ℕ) → ¬ (HasInstance [] instance)
-no_environ instance = behind_none 0 (BeginsWithInstance instance) [] (no_instance instance) (λ at within. absurd (omega (arith, within)))
+no_environ instance = after_none 0 (BeginsWithInstance instance) [] (no_instance instance) (λ at within. absurd (omega (arith, within)))
 
 job_is_one : (action : ActionMark) → OfAgent action → IsJob job environ [] action
 job_is_one action of = record {

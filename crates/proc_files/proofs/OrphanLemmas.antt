@@ -49,10 +49,10 @@ pub no_id : (key text value instance : List ℕ) → text ≡ key ++ value → (
 no_id key text value instance is none rest same =
     none (0 ∷ rest) (append_cancel_left key value (instance ++ 0 ∷ rest) (sym is ∙ same ∙ append_assoc key instance (0 ∷ rest)))
 
-pub no_end : (key text value instance behind : List ℕ) → text ≡ key ++ value → value ≡ instance ++ behind
-    → ((rest : List ℕ) → behind ≢ 0 ∷ rest) → (rest : List ℕ) → text ≢ (key ++ instance) ++ 0 ∷ rest
-no_end key text value instance behind is then none rest same =
-    none rest (append_cancel_left instance behind (0 ∷ rest) (sym then
+pub no_end : (key text value instance following : List ℕ) → text ≡ key ++ value → value ≡ instance ++ following
+    → ((rest : List ℕ) → following ≢ 0 ∷ rest) → (rest : List ℕ) → text ≢ (key ++ instance) ++ 0 ∷ rest
+no_end key text value instance following is then none rest same =
+    none rest (append_cancel_left instance following (0 ∷ rest) (sym then
     ∙ append_cancel_left key value (instance ++ 0 ∷ rest) (sym is ∙ same ∙ append_assoc key instance (0 ∷ rest))))
 
 pub no_instance : (instance : List ℕ) → BeginsWithInstance instance [] → ⊥

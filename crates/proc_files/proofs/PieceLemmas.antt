@@ -5,7 +5,7 @@ use Rattle.std.specs.Prelude.{Option, Some, None, MatchOption, IfSome, IfNone, B
 use Rattle.std.proofs.lemmas.Bool.{false≢true, ne_eqb}
 use Rattle.std.proofs.lemmas.List.{take-append-drop, length-append}
 use Rattle.std.proofs.Math.Seq.{take-append_seam, drop-append_seam}
-use Rattle.proc_files.specs.Pieces.{Behind, IsPieces, joined}
+use Rattle.proc_files.specs.Pieces.{After, IsPieces, joined}
 
 -- the text of pieces is empty, or ends with the byte
 pieces_end : (end : ℕ) (pieces : List (List ℕ)) → (joined end pieces ≡ []) ⊎ ((prefix : List ℕ) × (joined end pieces ≡ prefix ++ end ∷ []))
@@ -31,15 +31,15 @@ joined_append end (p ∷ ps) qs =
     ap (λ l. p ++ end ∷ l) (joined_append end ps qs) ∙ sym (append_assoc p (end ∷ joined end ps) (joined end qs))
 
 -- a rest that has P is found at an offset at which pieces end
-pub behind_at : (end : ℕ) (P : List ℕ → Type 0) (text : List ℕ) (at : ℕ) → IsPieces end (take at text) → P (drop at text)
-    → Behind end P text
-behind_at end P text at (pieces, is) has =
+pub after_at : (end : ℕ) (P : List ℕ → Type 0) (text : List ℕ) (at : ℕ) → IsPieces end (take at text) → P (drop at text)
+    → After end P text
+after_at end P text at (pieces, is) has =
     (pieces, drop at text, sym (take-append-drop at text) ∙ ap (λ l. l ++ drop at text) is, has)
 
 -- if no rest at an offset has P, and the empty text does not, no rest has it
-pub behind_none : (end : ℕ) (P : List ℕ → Type 0) (text : List ℕ) → (P [] → ⊥)
-    → ((at : ℕ) → at < length text → IsPieces end (take at text) → P (drop at text) → ⊥) → Behind end P text → ⊥
-behind_none end P text full none (pieces, rest, is, has) = by rest is has
+pub after_none : (end : ℕ) (P : List ℕ → Type 0) (text : List ℕ) → (P [] → ⊥)
+    → ((at : ℕ) → at < length text → IsPieces end (take at text) → P (drop at text) → ⊥) → After end P text → ⊥
+after_none end P text full none (pieces, rest, is, has) = by rest is has
   where
     by : (r : List ℕ) → text ≡ joined end pieces ++ r → P r → ⊥
     by [] same h = full h

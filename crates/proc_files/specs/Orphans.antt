@@ -1,7 +1,7 @@
 -- The agent process of an action whose executor was killed, by its files: proc(5), cmdline and environ, where a NUL follows each
 -- text.
 use Rattle.std.specs.Prelude.{◌≡◌, ℕ, List, [], ◌∷◌, ◌++◌, codes}
-use Rattle.proc_files.specs.Pieces.{Behind, joined}
+use Rattle.proc_files.specs.Pieces.{After, joined}
 
 -- the last two arguments of a command line are the agent's file and the action
 abbrev pub Calls : List ℕ → List ℕ → List ℕ → Type 0
@@ -13,7 +13,7 @@ BeginsWithInstance instance text = (rest : List ℕ) × (text ≡ codes "OCF_RES
 
 -- one text of an environment names the instance
 abbrev pub HasInstance : List ℕ → List ℕ → Type 0
-HasInstance environ instance = Behind 0 (BeginsWithInstance instance) environ
+HasInstance environ instance = After 0 (BeginsWithInstance instance) environ
 
 -- a process with this command line and this environment is this action of this instance, by the agent in this file
 pub record IsOrphan (cmdline environ agent_file action instance : List ℕ) : Type 0 where

@@ -11,5 +11,5 @@ abbrev pub IsPieces : ℕ → List ℕ → Type 0
 IsPieces end text = (pieces : List (List ℕ)) × (text ≡ joined end pieces)
 
 -- after a number of pieces, which may be 0, comes a rest of the text that has P
-abbrev pub Behind : ℕ → (List ℕ → Type 0) → List ℕ → Type 0
-Behind end P text = (pieces : List (List ℕ)) × (rest : List ℕ) × (text ≡ joined end pieces ++ rest) × P rest
+abbrev pub After : ℕ → (List ℕ → Type 0) → List ℕ → Type 0
+After end P text = (pieces : List (List ℕ)) × (rest : List ℕ) × (text ≡ joined end pieces ++ rest) × P rest

@@ -1,7 +1,7 @@
 -- Which signals a process ignores: proc(5), status, SigIgn.
 use Rattle.std.specs.Prelude.{◌≡◌, ℕ, ◌/◌, ◌%◌, ◌^◌, ◌-◌, ◌<◌, ◌≤◌, List, ◌∷◌, ◌++◌, codes, length}
 use Rattle.std.specs.Str.Parse.{IsNumeral, digits_value}
-use Rattle.proc_files.specs.Pieces.{Behind}
+use Rattle.proc_files.specs.Pieces.{After}
 
 -- a text begins with a line that gives this mask of ignored signals, in sixteen hexadecimal digits
 pub record IsMaskLine (text : List ℕ) (mask : ℕ) : Type 0 where
@@ -23,4 +23,4 @@ BeginsWithBit signal text = (mask : ℕ) × IsMaskLine text mask × HasBit mask 
 
 -- one line of the text gives a mask with the signal's bit
 abbrev pub IsIgnored : List ℕ → ℕ → Type 0
-IsIgnored status signal = Behind 10 (BeginsWithBit signal) status
+IsIgnored status signal = After 10 (BeginsWithBit signal) status

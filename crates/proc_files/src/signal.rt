@@ -36,8 +36,8 @@ fn mask_of(text: &[u8]) -> Option<u64>
     if value.len() < DIGITS {
         return None;
     }
-    let (digits, behind) = value.split_at(DIGITS);
-    after(behind, b"\n")?;
+    let (digits, following) = value.split_at(DIGITS);
+    after(following, b"\n")?;
     number_of(digits)
 }
 

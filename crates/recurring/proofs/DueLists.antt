@@ -30,8 +30,8 @@ pub map_over_all : {A : Type 0} (f : A → A) (xs ys : List A) (i : ℕ) → len
 map_over_all f xs ys i le h = h ∙ rw (take_all i xs le, drop_of_length-le xs le) (append-nil (map f xs))
 
 -- an element after the last one
-pub put_behind : {A : Type 0} (xs : List A) (i : ℕ) (x : A) → length xs ≤ i → xs ++ x ∷ [] ≡ take i xs ++ x ∷ drop (i + 1) xs
-put_behind xs i x le = rw (take_all i xs le, drop_of_length-le xs (let more : length xs ≤ i + 1 = omega (arith, le) in more)) refl
+pub put_after : {A : Type 0} (xs : List A) (i : ℕ) (x : A) → length xs ≤ i → xs ++ x ∷ [] ≡ take i xs ++ x ∷ drop (i + 1) xs
+put_after xs i x le = rw (take_all i xs le, drop_of_length-le xs (let more : length xs ≤ i + 1 = omega (arith, le) in more)) refl
 
 -- a prefix that is one element longer; the elements after it stay
 pub prefix_more : {A B : Type 0} (f : A → B) (ms : List A) (was now : List B) (i : ℕ) (d : A) → i < length ms → now ≡ map f (take i ms) ++ drop i was

@@ -105,9 +105,9 @@ module _ (s : State) (id : List ℕ) (at : ℕ) where
   ran c applies = ran_so c (resource_at s id) (lookup (bytes_eq id) (changed at c s.resources)) (turned s id at c applies)
 
 -- events that follow others
-pub follow_behind : (s : State) (es fs : List Event) → Follow s (es ++ fs) → Follow (after_all s es) fs
-follow_behind s [] fs h = h
-follow_behind s (e ∷ es) fs h = follow_behind (after s e) es fs h.1
+pub follow_after : (s : State) (es fs : List Event) → Follow s (es ++ fs) → Follow (after_all s es) fs
+follow_after s [] fs h = h
+follow_after s (e ∷ es) fs h = follow_after (after s e) es fs h.1
 
 pub follow_first : (s : State) (es fs : List Event) → Follow s (es ++ fs) → Follow s es
 follow_first s [] fs h = tt
@@ -171,10 +171,10 @@ ends_between s es follow before between later first second id call run next_call
     by true none = refl
     by false none =
         let t = after_all s before in
-        let behind : Follow t (first ∷ (between ++ second ∷ later)) =
-        follow_behind s before (first ∷ (between ++ second ∷ later)) (subst (Follow s) is follow) in
-        let one = begun_so t first id call run behind.0 begins in
-        let crash = stays id run (after t first) between one.1 (follow_first (after t first) between (second ∷ later) behind.1) one.2 one.4 none in
-        let last = follow_behind (after t first) between (second ∷ later) behind.1 in
+        let following : Follow t (first ∷ (between ++ second ∷ later)) =
+        follow_after s before (first ∷ (between ++ second ∷ later)) (subst (Follow s) is follow) in
+        let one = begun_so t first id call run following.0 begins in
+        let crash = stays id run (after t first) between one.1 (follow_first (after t first) between (second ∷ later) following.1) one.2 one.4 none in
+        let last = follow_after (after t first) between (second ∷ later) following.1 in
         let two = begun_so (after_all (after t first) between) second id next_call next_run last.0 again in
         absurd (let bad : Some one.1 ≡ None = sym crash ∙ two.0 in cc)

@@ -22,7 +22,7 @@ use Rattle.ocf_types.specs.declared.operation.Running.{Running}
 use Rattle.ocf_types.specs.declared.reply.Notice.{Notice}
 use Rattle.executor.specs.Histories.{Follow, InterruptedOnce, ends_run, has_end, interruptions, is_of, written_by}
 use Rattle.executor.specs.Interruptions.{interrupted, interrupted_in, interruption}
-use Rattle.executor.proofs.History.Runs.{Ran, begun_so, both_false, follow_behind, follow_first, ran, running_at, runs_in, stays}
+use Rattle.executor.proofs.History.Runs.{Ran, begun_so, both_false, follow_after, follow_first, ran, running_at, runs_in, stays}
 
 -- ids stay distinct
 abbrev pub AreApart : State → Type 0
@@ -159,13 +159,13 @@ module _ (id : List ℕ) (run : ℕ) where
   gone s change.Boot now out low so x is = absurd (let bad : None ≡ Some x = sym so ∙ is in cc)
   gone s _ now out low so x is = out x (sym so ∙ is)
 
-  pub none_behind : (s : State) (es : List Event) → AreApart s → NotRuns s id run → run < s.next_run → Follow s es
+  pub none_after : (s : State) (es : List Event) → AreApart s → NotRuns s id run → run < s.next_run → Follow s es
       → filter (is_of id run) (interruptions s es) ≡ []
-  none_behind s [] apart out low follow = refl
-  none_behind s (e ∷ es) apart out low follow =
+  none_after s [] apart out low follow = refl
+  none_after s (e ∷ es) apart out low follow =
       filter-append (is_of id run) (written_by s e.at e.change) (interruptions (after s e) es)
       ∙ ap₂ (λ (a b : List Notice). a ++ b) (quiet s e.at e.change apart out)
-      (none_behind (after s e) es (apart_kept e.at e.change s follow.0 apart)
+      (none_after (after s e) es (apart_kept e.at e.change s follow.0 apart)
       (gone s e.change (running_at (after s e) id) out low (ran s id e.at e.change follow.0)) (omega (arith, low)) follow.1)
 
   -- events without an end of it hold no boot
@@ -214,15 +214,15 @@ interrupted_once s es lawful follow before between later begin boot id call run 
     let t = after_all s before in
     let tail : List Event = begin ∷ (between ++ boot ∷ later) in
     let all : Follow s (before ++ tail) = subst (Follow s) is follow in
-    let behind = follow_behind s before tail all in
-    let one = begun_so t begin id call run behind.0 begins in
+    let following = follow_after s before tail all in
+    let one = begun_so t begin id call run following.0 begins in
     let u = after t begin in
-    let going = follow_first u between (boot ∷ later) behind.1 in
+    let going = follow_first u between (boot ∷ later) following.1 in
     let v = after_all u between in
-    let at_boot = follow_behind u between (boot ∷ later) behind.1 in
+    let at_boot = follow_after u between (boot ∷ later) following.1 in
     let crash = stays id run u between one.1 going one.2 one.4 none in
     let apart : AreApart t = apart_all id run s before (follow_first s before tail all) lawful.ids in
-    let apart_u : AreApart u = apart_kept begin.at begin.change t behind.0 apart in
+    let apart_u : AreApart u = apart_kept begin.at begin.change t following.0 apart in
     let apart_v : AreApart v = apart_all id run u between going apart_u in
     let w = after v boot in
     let low : run < w.next_run = low_so t begin between boot id run one.5 begins in
@@ -236,7 +236,7 @@ interrupted_once s es lawful follow before between later begin boot id call run 
     ap mine (reported_boot v boot boots) ∙ reported_of_it id run boot.at v.resources apart_v
     ∙ ap (reported_one id run boot.at) crash ∙ reported_once id run boot.at one.1 one.4 in
     let last : mine (interruptions w later) ≡ [] =
-    none_behind id run w later (apart_kept boot.at boot.change v at_boot.0 apart_v)
+    none_after id run w later (apart_kept boot.at boot.change v at_boot.0 apart_v)
     (λ x runs. absurd (let bad : None ≡ Some x = sym (quiet_boot v boot id at_boot.0 boots) ∙ runs in cc)) low at_boot.1 in
     let spread : mine (interruptions s es) ≡ mine (interruptions s before) ++ (mine (written_by t begin.at begin.change)
     ++ (mine (interruptions u between) ++ (mine (written_by v boot.at boot.change) ++ mine (interruptions w later)))) =

@@ -27,7 +27,7 @@ use Rattle.executor.specs.declared.session.InputOf.TheVariants as input
 use Rattle.executor.proofs.Isolation.Changes.{AreFresh, IsolatedAs, holds_all}
 use Rattle.executor.proofs.Isolation.Lists.{filter_alike}
 use Rattle.executor.proofs.Isolation.Replies.{isolated_command}
-use Rattle.executor.proofs.Isolation.Requests.{AllKeep, Commands, Does, Seen, added, seen_behind}
+use Rattle.executor.proofs.Isolation.Requests.{AllKeep, Commands, Does, Seen, added, seen_after}
 use Rattle.executor.proofs.Isolation.CommandBatches.{names_it}
 use Rattle.executor.proofs.Isolation.Turns.{AllBeginOwn, BeginsOwn, fresh-append}
 use Rattle.ocf_types.specs.Laws.{after_all-append}
@@ -47,11 +47,11 @@ plain_first false e rest h = (λ own. absurd (true≢false (sym own)), h)
 pub step_on : (b : Bool) (id : List ℕ) (y : Isolated) (e : Exchange) (rest : List Exchange) (es fs : List Entry)
     (first later : List Event) → IsStep b id y e es first → Alone id (isolated_after_all y first) rest fs later
     → Alone id y (cond b (e ∷ rest) rest) (es ++ fs) (first ++ later)
-step_on true id y e rest es fs first later step behind = (es, fs, first, later, refl, refl, step, behind)
-step_on false id y e rest es fs first later step behind =
+step_on true id y e rest es fs first later step following = (es, fs, first, later, refl, refl, step, following)
+step_on false id y e rest es fs first later step following =
     subst (λ (l : List Entry). Alone id y rest (l ++ fs) (first ++ later)) (sym step.0)
     (subst (λ (l : List Event). Alone id y rest fs (l ++ later)) (sym step.1)
-    (subst (λ (l : List Event). Alone id (isolated_after_all y l) rest fs later) step.1 behind))
+    (subst (λ (l : List Event). Alone id (isolated_after_all y l) rest fs later) step.1 following))
 
 -- the events of a command name its resource, or not
 pub named_so : (b : Bool) (id : List ℕ) (c : Command) (es : List Event) → bytes_eq id (commanded c) ≡ b
@@ -135,7 +135,7 @@ refused_none (Ok e) r es refused follows =
 module _ (now : ℕ) (id : List ℕ) where
   -- the state after the commands of a batch, even if its record failed
   pub batch_does : (x : Seen) (cs : List Command) (ms : List Reply) (es : List Event) → x.state.clock ≤ cut now
-      → Answered now x.state cs ms es → Does (cut now) x (seen_behind x es) es × AllKeep es
+      → Answered now x.state cs ms es → Does (cut now) x (seen_after x es) es × AllKeep es
   batch_does x [] [] es clock is = (
     record {
       state = refl;
@@ -149,15 +149,15 @@ module _ (now : ℕ) (id : List ℕ) where
   batch_does x (c ∷ cs) [] es clock bad = absurd bad
   batch_does x (c ∷ cs) (m ∷ ms) es clock (first, later, adds, rest, all) =
       let did = added now c x m first clock adds in
-      let behind = batch_does (seen_behind x first) cs ms later did.does.clock rest in
-      subst (λ (l : List Event). Does (cut now) x (seen_behind x l) l × AllKeep l) (sym all) (
+      let following = batch_does (seen_after x first) cs ms later did.does.clock rest in
+      subst (λ (l : List Event). Does (cut now) x (seen_after x l) l × AllKeep l) (sym all) (
         record {
           state = refl;
           due = refl;
-          next = fresh-append x.state first later did.does.next behind.0.next;
-          clock = subst (λ (s : State). s.clock ≤ cut now) (sym (after_all-append x.state first later)) behind.0.clock;
+          next = fresh-append x.state first later did.does.next following.0.next;
+          clock = subst (λ (s : State). s.clock ≤ cut now) (sym (after_all-append x.state first later)) following.0.clock;
         },
-        each_append (λ e. KeepsRunning e.change) first later did.keep behind.1,
+        each_append (λ e. KeepsRunning e.change) first later did.keep following.1,
       )
 
   -- the machine takes its commands of a batch; where each reply is a refusal none of them had an event
@@ -176,17 +176,17 @@ module _ (now : ℕ) (id : List ℕ) where
       let e = Took (input.Request now (asked.Command c)) r in
       let parts = part_of id (Batch now cs rs) in
       let plain2 = plain_first b e parts plain in
-      let did = reported_commands now c x (seen_behind x first) r m (batch_effects true first) reported.0 (added now c x m first clock adds) in
-      let behind = batch_alone (isolated_after_all y (events_of id first)) (seen_behind x first) cs rs ms later did.does.clock plain2.1
+      let did = reported_commands now c x (seen_after x first) r m (batch_effects true first) reported.0 (added now c x m first clock adds) in
+      let following = batch_alone (isolated_after_all y (events_of id first)) (seen_after x first) cs rs ms later did.does.clock plain2.1
       (holds_all y x.state x.due id first holds did.does.next) rest reported.1 in
-      let step = own_command b id y now c x (seen_behind x first) r (batch_effects true first) refl clock plain2.0 holds did in
+      let step = own_command b id y now c x (seen_after x first) r (batch_effects true first) refl clock plain2.0 holds did in
       let split = ap (events_of id) all ∙ filter-append (names_it id) first later in (
         subst (λ (l : List Event). Alone id y (cond b (e ∷ parts) parts) [] l) (sym split)
-            (step_on b id y e parts [] [] (events_of id first) (events_of id later) step behind.0),
-        λ refused. split ∙ (λ i. one b refl plain2.0 did refused.0 i ++ behind.1 refused.1 i),
+            (step_on b id y e parts [] [] (events_of id first) (events_of id later) step following.0),
+        λ refused. split ∙ (λ i. one b refl plain2.0 did refused.0 i ++ following.1 refused.1 i),
       )
     where
       one : (b : Bool) → bytes_eq id (commanded c) ≡ b → (b ≡ true → IsPlain r)
-          → Commands now c x (seen_behind x first) r (batch_effects true first) → is_kept r ≡ false → events_of id first ≡ []
+          → Commands now c x (seen_after x first) r (batch_effects true first) → is_kept r ≡ false → events_of id first ≡ []
       one true about plain did refused = ap (events_of id) (refused_none (event_of x.state now c) r first refused (did.follows (plain refl)))
       one false about plain did refused = named_so false id c first about did.names

@@ -50,9 +50,9 @@ module _ {D : Type 0} (look : D → View) (mine : ℕ → Bool) (id : List ℕ) 
   no_events effects none = ap (λ (x : Effects). events_of id x.events) none
 
   -- the machine agrees with the executor after a call
-  holds_behind : (at : ℕ) (y : Isolated) (old new : ExecutorView D) (es : List Event) → Went mine id at old new es
+  holds_after : (at : ℕ) (y : Isolated) (old new : ExecutorView D) (es : List Event) → Went mine id at old new es
       → IsolatedAs y old.state (due_in old) id → IsolatedAs (isolated_after_all y (events_of id es)) new.state (due_in new) id
-  holds_behind at y old new es went holds =
+  holds_after at y old new es went holds =
       let own : events_of id (es ++ went.more) ≡ events_of id es = filter-append (names_it id) es went.more
       ∙ ap (λ (l : List Event). events_of id es ++ l) went.others ∙ append-nil (events_of id es) in
       subst (λ (l : List Event). IsolatedAs (isolated_after_all y l) new.state (due_in new) id) own
@@ -174,7 +174,7 @@ module _ {D : Type 0} (look : D → View) (mine : ℕ → Bool) (id : List ℕ) 
       let went = call_went look mine id at e x mid first (le_trans clock rises.0) (each_first IsAnswered (part_of id e) (part id es) plain) does in
       let y2 = isolated_after_all y (events_of id first.events) in
       let there = calls_hold (moment_in at e) es y2 mid z later went.does.clock rises.1
-      (each_last IsAnswered (part_of id e) (part id es) plain) (holds_behind (moment_in at e) y x mid first.events went holds) rest in
+      (each_last IsAnswered (part_of id e) (part id es) plain) (holds_after (moment_in at e) y x mid first.events went holds) rest in
       subst (λ (v : Isolated). IsolatedAs v z.state (due_in z) id)
       (sym (ap (λ (k : Effects). isolated_after_all y (events_of id k.events)) all
       ∙ ap (isolated_after_all y) (filter-append (names_it id) first.events later.events)
@@ -196,8 +196,8 @@ module _ {D : Type 0} (look : D → View) (mine : ℕ → Bool) (id : List ℕ) 
       let done = first.events ++ went.more in
       let y2 = isolated_after_all y (events_of id first.events) in
       let one = call_alone at y e x mid first now plain_here holds apart own begins_first does in
-      let behind = alone (moment_in at e) es y2 mid z later went.does.clock rises.1
-      (each_last IsAnswered (part_of id e) (part id es) plain) (holds_behind (moment_in at e) y x mid first.events went holds)
+      let following = alone (moment_in at e) es y2 mid z later went.does.clock rises.1
+      (each_last IsAnswered (part_of id e) (part id es) plain) (holds_after (moment_in at e) y x mid first.events went holds)
       (subst AreApart (sym went.does.state) (ids_stay x.state done went.does.next apart))
       (subst (λ (s : State). AreOwn mine id (active s)) (sym went.does.state)
       (own_stays mine id x.state done went.does.next (own_append mine id first.events went.more begins_first went.begins) own))
@@ -208,7 +208,7 @@ module _ {D : Type 0} (look : D → View) (mine : ℕ → Bool) (id : List ℕ) 
       (subst (λ (l : List Event). Alone id y (part id (e ∷ es)) (own_entries first.entries ++ own_entries later.entries) l)
       (sym (filter-append (names_it id) first.events later.events))
       (parts_join id y y2 (part_of id e) (part id es) (own_entries first.entries) (own_entries later.entries) (events_of id first.events)
-      (events_of id later.events) one (holds_self y2) behind)))
+      (events_of id later.events) one (holds_self y2) following)))
 
 module _ {D : Type 0} (look : D → View) (x z : ExecutorView D) where
   -- the law

@@ -21,7 +21,7 @@ use Rattle.executor.specs.TurnCalls.{FinishesTurn}
 use Rattle.executor.proofs.Isolation.Changes.{IsolatedAs}
 use Rattle.executor.proofs.Isolation.Requests.{Does, moment_is, seen}
 use Rattle.executor.proofs.Isolation.CommandBatches.{AreOwn, IsEnd, ends_fresh, results_end}
-use Rattle.executor.proofs.Isolation.Turns.{AreApart, clock_behind, ends_at, own_polls}
+use Rattle.executor.proofs.Isolation.Turns.{AreApart, clock_after, ends_at, own_polls}
 
 -- A turn that begins nothing ended done, at the moment that was handed in.
 pub record FinishDone {D : Type 0} (now : ℕ) (old new : ExecutorView D) (effects : Effects) : Type 0 where
@@ -61,7 +61,7 @@ module _ {D : Type 0} (now : ℕ) (old new : ExecutorView D) (effects : Effects)
             (subst (λ (l : List Event). AllByRecursion (IsEnd (cut now)) l) (sym finish.events) ends) old.state;
         clock = subst (λ (s : State). s.clock ≤ cut now) (sym finish.state)
             (subst (λ (l : List Event). (after_all old.state l).clock ≤ cut now) (sym finish.events)
-            (clock_behind old.state (cut now) (cut now) batch (ends_at (cut now) batch ends) (le_refl (cut now)) clock));
+            (clock_after old.state (cut now) (cut now) batch (ends_at (cut now) batch ends) (le_refl (cut now)) clock));
       }
 
   -- the machine makes its part of it

@@ -37,8 +37,8 @@ abbrev pub seen : {D : Type 0} → ExecutorView D → Seen
 seen x = record { state = x.state; due = due_in x }
 
 -- the same after these events
-abbrev pub seen_behind : Seen → List Event → Seen
-seen_behind x es = record { state = after_all x.state es; due = due_after_all x.state x.due es }
+abbrev pub seen_after : Seen → List Event → Seen
+seen_after x es = record { state = after_all x.state es; due = due_after_all x.state x.due es }
 
 -- the effects of a call: the state and the due moments are those after its events, which are new, and no later than this moment
 pub record Does (at : ℕ) (old new : Seen) (es : List Event) : Type 0 where
@@ -180,11 +180,11 @@ commands {D} look now c old new reply effects clock takes =
 
 -- the same of a command of a batch
 pub added : (now : ℕ) (c : Command) (old : Seen) (reply : Reply) (first : List Event) → old.state.clock ≤ cut now
-    → Adds (event_of old.state now c) reply first → Commands now c old (seen_behind old first) reply (batch_effects true first)
+    → Adds (event_of old.state now c) reply first → Commands now c old (seen_after old first) reply (batch_effects true first)
 added now c old reply first clock adds = by (event_of old.state now c) refl adds
   where
     none_added : (found : Result Event Refusal) → event_of old.state now c ≡ found → first ≡ [] → (IsPlain reply → Follows found reply first)
-        → Commands now c old (seen_behind old first) reply (batch_effects true first)
+        → Commands now c old (seen_after old first) reply (batch_effects true first)
     none_added found is none follows = record {
       no_entries = refl;
       names = subst (AllName (commanded c)) (sym none) tt;
@@ -199,7 +199,7 @@ added now c old reply first clock adds = by (event_of old.state now c) refl adds
     }
 
     by : (found : Result Event Refusal) → event_of old.state now c ≡ found → Adds found reply first
-        → Commands now c old (seen_behind old first) reply (batch_effects true first)
+        → Commands now c old (seen_after old first) reply (batch_effects true first)
     by (Err why) is refused = none_added (Err why) is refused.1 (λ plain. refused)
     by (Ok e) is (inr memory) = none_added (Ok e) is memory.2 (λ plain. absurd (subst IsPlain memory.0 plain))
     by (Ok e) is (inl reported) = record {

@@ -62,10 +62,10 @@ pub ids_stay : (s : State) (es : List Event) → AreFresh s es → AreApart s �
 ids_stay s [] h apart = apart
 ids_stay s (e ∷ es) h apart = ids_stay (after s e) es h.1 (ids_kept e.at e.change s h.0 apart)
 
-pub clock_behind : (s : State) (at last : ℕ) (es : List Event) → AllByRecursion (λ e. e.at ≡ at) es → at ≤ last → s.clock ≤ last
+pub clock_after : (s : State) (at last : ℕ) (es : List Event) → AllByRecursion (λ e. e.at ≡ at) es → at ≤ last → s.clock ≤ last
     → (after_all s es).clock ≤ last
-clock_behind s at last [] h le clock = clock
-clock_behind s at last (e ∷ es) h le clock = clock_behind (after s e) at last es h.1 le (omega (arith, h.0, le))
+clock_after s at last [] h le clock = clock
+clock_after s at last (e ∷ es) h le clock = clock_after (after s e) at last es h.1 le (omega (arith, h.0, le))
 
 pub ends_at : (at : ℕ) (es : List Event) → AllByRecursion (IsEnd at) es → AllByRecursion (λ e. e.at ≡ at) es
 ends_at at es h = each_weaken (IsEnd at) (λ e. e.at ≡ at) (λ e end. end.now) es h
@@ -135,8 +135,8 @@ module _ {D : Type 0} (now : ℕ) (old new : ExecutorView D) (given : Reply) (ef
   moments : Due
   moments = due_after_all old.state (due_in old) (results at turn.t.polled)
 
-  behind : List Event
-  behind = begins at turn.t.begun ++ refusals at turn.t.started
+  following : List Event
+  following = begins at turn.t.begun ++ refusals at turn.t.started
 
   picks : ArePicks moments at mid.next_run mid.resources turn.t.begun
   unfolding at moments mid
@@ -145,13 +145,13 @@ module _ {D : Type 0} (now : ℕ) (old new : ExecutorView D) (given : Reply) (ef
   results_new : AreFresh old.state (results at turn.t.polled)
   results_new = ends_fresh at (results at turn.t.polled) (results_end at turn.t.polled) old.state
 
-  behind_new : AreFresh mid behind
-  unfolding behind
-  behind_new = begins_fresh moments at mid.next_run mid.resources turn.t.begun picks mid (refusals at turn.t.started) refl
+  after_new : AreFresh mid following
+  unfolding following
+  after_new = begins_fresh moments at mid.next_run mid.resources turn.t.begun picks mid (refusals at turn.t.started) refl
       (ends_fresh at (refusals at turn.t.started) (refusals_end at turn.t.started))
 
-  now_all : AllByRecursion (λ e. e.at ≡ at) (results at turn.t.polled ++ behind)
-  unfolding behind
+  now_all : AllByRecursion (λ e. e.at ≡ at) (results at turn.t.polled ++ following)
+  unfolding following
   now_all =
       each_append (λ e. e.at ≡ at) (results at turn.t.polled) (begins at turn.t.begun ++ refusals at turn.t.started)
       (ends_at at (results at turn.t.polled) (results_end at turn.t.polled))
@@ -161,14 +161,14 @@ module _ {D : Type 0} (now : ℕ) (old new : ExecutorView D) (given : Reply) (ef
 
   -- the state after it is that after its events
   pub turn_does : old.state.clock ≤ cut now → Does (cut now) (seen old) (seen new) effects.events
-  unfolding at mid behind
+  unfolding at mid following
   turn_does clock = record {
     state = turn.state;
     due = turn.due;
-    next = subst (AreFresh old.state) (sym turn.events) (fresh-append old.state (results at turn.t.polled) behind results_new behind_new);
+    next = subst (AreFresh old.state) (sym turn.events) (fresh-append old.state (results at turn.t.polled) following results_new after_new);
     clock = subst (λ (s : State). s.clock ≤ cut now) (sym turn.state)
         (subst (λ (l : List Event). (after_all old.state l).clock ≤ cut now) (sym turn.events)
-        (clock_behind old.state at (cut now) (results at turn.t.polled ++ behind) now_all (le_refl (cut now)) clock));
+        (clock_after old.state at (cut now) (results at turn.t.polled ++ following) now_all (le_refl (cut now)) clock));
   }
 
   module _ (mine : ℕ → Bool) (id : List ℕ) (y : Isolated) where
@@ -183,7 +183,7 @@ module _ {D : Type 0} (now : ℕ) (old new : ExecutorView D) (given : Reply) (ef
     pub turn_isolated : IsolatedAs y old.state (due_in old) id → AreApart old.state → AreOwn mine id (active old.state)
         → AllBeginOwn mine id effects.events
         → IsolatedTurn id (cut now) y given (filter (λ e. mine e.run) effects.entries) (events_of id effects.events)
-    unfolding at mid moments behind own_begun own_started
+    unfolding at mid moments following own_begun own_started
     turn_isolated holds apart runs own =
         let test : Entry → Bool = λ e. mine e.run in
         let polled : List Entry = polls at turn.t.polled in

@@ -27,7 +27,7 @@ use Rattle.executor.specs.declared.session.InputOf.TheVariants as input
 use Rattle.executor.proofs.Isolation.Batches.{AllRefused, AreReportedOf, failed_reported, keep_own, batch_alone, batch_does}
 use Rattle.executor.proofs.Isolation.Changes.{AreFresh, IsolatedAs}
 use Rattle.executor.proofs.Isolation.Finishes.{finish_does, finish_done}
-use Rattle.executor.proofs.Isolation.Requests.{AllKeep, Does, Seen, commands, rested, seen, seen_behind}
+use Rattle.executor.proofs.Isolation.Requests.{AllKeep, Does, Seen, commands, rested, seen, seen_after}
 use Rattle.executor.proofs.Isolation.Turns.{AllBeginOwn, turn_does, turn_done}
 
 -- the replies of a closed executor are not plain
@@ -111,7 +111,7 @@ module _ {D : Type 0} (look : D → View) (mine : ℕ → Bool) (id : List ℕ) 
       es : List Event
       es = batch.takes.events
 
-      did : Does (cut now) (seen old) (seen_behind (seen old) es) es × AllKeep es
+      did : Does (cut now) (seen old) (seen_after (seen old) es) es × AllKeep es
       did = batch_does now id (seen old) cs batch.takes.meant es clock batch.takes.answered
 
       state : new.state ≡ after_all old.state es

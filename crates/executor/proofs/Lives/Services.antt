@@ -53,7 +53,7 @@ module _ {D : Type 0} (look : D → View) (law : JournalLemmas) (lawful : (d : D
           (leads_still look x.opened x.returned x.done (lawful x.returned.disk) is_open returned_leads)) in
           let d = x.done.events in
           let u = x.under_way in
-          let holds = going.crash.crash.from_start honest c (from_earlier (look x.returned.disk).clock serves.behind) in
+          let holds = going.crash.crash.from_start honest c (from_earlier (look x.returned.disk).clock serves.following) in
           let q = holds.0 in
           let none : x.done.pending ≡ [] = returned_leads.whole is_open in (
             d ++ q,
@@ -77,7 +77,7 @@ module _ {D : Type 0} (look : D → View) (law : JournalLemmas) (lawful : (d : D
           let was_honest : (look x.returned.disk).honest = subst (λ (y : D). (look y).honest) none.disk honest in
           let was_left = subst (λ (y : D). (look y).since x.stop c) none.disk left in
           let still = lawful x.returned.disk was_honest in
-          let now = still.only_now c (still.earlier x.stop (look x.returned.disk).clock c serves.behind was_left) in
+          let now = still.only_now c (still.earlier x.stop (look x.returned.disk).clock c serves.following was_left) in
           by (returned_leads.crash.now was_honest c now)
         where
           d : List Event
@@ -118,7 +118,7 @@ module _ {D : Type 0} (look : D → View) (law : JournalLemmas) (lawful : (d : D
       each_begun : EachBegun x.opened.state (all_of (followed_by x.done x.under_way)) c x.stop (followed_by x.done x.under_way).entries
       each_begun run clock asked le =
           let begun = whole_leads.crash.starts run clock asked in
-          let holds = begun.behind.from_start honest c
+          let holds = begun.following.from_start honest c
           (from_earlier (look begun.disk).clock (subst (λ (n : ℕ). n ≤ x.stop) begun.counted le)) in
           let q = holds.0 in (
             begun.first ++ q,
@@ -154,4 +154,4 @@ module _ {D : Type 0} (look : D → View) (law : JournalLemmas) (lawful : (d : D
       pub uptime_reserved : PairHasReserve c
       uptime_reserved =
           let later = returned_leads.crash.crash.passed.clock in
-          whole_leads.crash.reserved.from_start honest c (from_earlier (look x.opened.disk).clock (omega (arith, later, serves.behind)))
+          whole_leads.crash.reserved.from_start honest c (from_earlier (look x.opened.disk).clock (omega (arith, later, serves.following)))

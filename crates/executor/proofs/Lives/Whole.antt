@@ -15,7 +15,7 @@ use Rattle.two_parts.specs.declared.damage.Damage.{Damage}
 use Rattle.exec_journal.specs.Found.{FoundAs, HasDamage, IsFirstPart, IsFreshPair, IsToWrite, LeadsTo}
 use Rattle.exec_journal.specs.Opening.{Opens, OpensLike}
 use Rattle.exec_journal.specs.Reserve.{PairHasReserve}
-use Rattle.executor.specs.Lives.{BeginsAs, EndsOpening, GoesOnFrom, MayBoot, InOpening, InService, IsLife, LifeLeaves, Lived, OpensBehind, Sat, Sitting, boots}
+use Rattle.executor.specs.Lives.{BeginsAs, EndsOpening, GoesOnFrom, MayBoot, InOpening, InService, IsLife, LifeLeaves, Lived, OpensAfter, Sat, Sitting, boots}
 use Rattle.executor.specs.Openings.{NotOpened, Opened, StartsLike}
 use Rattle.exec_ledger.specs.Boots.{booted}
 use Rattle.executor.specs.Interruptions.{dropped, interrupted}
@@ -62,19 +62,19 @@ module _ {D : Type 0} (look : D → View) (law : JournalLemmas) (once : OneFindi
   one_state s t c here there = once.state c s t here there
 
   -- the state after some events and the boot that it needs
-  pub behind_boots : (ys : List Event) (s : State) (now : ℕ) → s ≡ after_all start ys
+  pub after_boots : (ys : List Event) (s : State) (now : ℕ) → s ≡ after_all start ys
       → after_all start (ys ++ boots (after_all start ys) now) ≡ booted s now
-  behind_boots ys s now same =
+  after_boots ys s now same =
       after_all-append start ys (boots (after_all start ys) now) ∙ boots_is (after_all start ys) now
       ∙ ap (λ (t : State). booted t now) (sym same)
 
   -- the pair after a history
-  abbrev Behind : List (Sitting D) → Image → Type 0
-  Behind life c = (zs : List Event) × Lived start life zs × FoundAs (after_all start zs) c
+  abbrev BackedBy : List (Sitting D) → Image → Type 0
+  BackedBy life c = (zs : List Event) × Lived start life zs × FoundAs (after_all start zs) c
 
   -- after an opening that was refused or crashed: as before it
-  unbooted : (old new : D) (now : ℕ) (end : Option OpenError) (older : List (Sitting D)) → ((d : Image) → (look old).now d → Behind older d)
-      → (look old).honest → (c : Image) → OpensLike (look old) c → Behind (InOpening old new now end ∷ older) c
+  unbooted : (old new : D) (now : ℕ) (end : Option OpenError) (older : List (Sitting D)) → ((d : Image) → (look old).now d → BackedBy older d)
+      → (look old).honest → (c : Image) → OpensLike (look old) c → BackedBy (InOpening old new now end ∷ older) c
   unbooted old new now end older from honest c (inl was) =
       let b = from c was in (b.0, (b.0, b.1, inl refl), b.2)
   unbooted old new now end older from honest c (inr (s, reads, found)) =
@@ -83,8 +83,8 @@ module _ {D : Type 0} (look : D → View) (law : JournalLemmas) (once : OneFindi
       (b.0, (b.0, b.1, inl refl), subst (λ (t : State). FoundAs t c) same found)
 
   -- or with its boot
-  may_boot : (old new : D) (now : ℕ) (end : Option OpenError) (older : List (Sitting D)) → ((d : Image) → (look old).now d → Behind older d)
-      → (look old).honest → MayBoot end → (c : Image) → StartsLike (look old) now c → Behind (InOpening old new now end ∷ older) c
+  may_boot : (old new : D) (now : ℕ) (end : Option OpenError) (older : List (Sitting D)) → ((d : Image) → (look old).now d → BackedBy older d)
+      → (look old).honest → MayBoot end → (c : Image) → StartsLike (look old) now c → BackedBy (InOpening old new now end ∷ older) c
   may_boot old new now end older from honest may c (inl like) = unbooted old new now end older from honest c like
   may_boot old new now end older from honest may c (inr (s, reads, inl found)) =
       unbooted old new now end older from honest c (inr (s, reads, found))
@@ -93,13 +93,13 @@ module _ {D : Type 0} (look : D → View) (law : JournalLemmas) (once : OneFindi
       let same = one_state s (after_all start b.0) (look old).reads reads b.2 in (
         b.0 ++ boots (after_all start b.0) now,
         (b.0, b.1, inr (may, refl)),
-        subst (λ (t : State). FoundAs t c) (sym (behind_boots b.0 s now same)) found,
+        subst (λ (t : State). FoundAs t c) (sym (after_boots b.0 s now same)) found,
       )
 
   -- by how it ended
-  in_opening : (old new : D) (now : ℕ) (end : Option OpenError) (older : List (Sitting D)) → ((d : Image) → (look old).now d → Behind older d)
+  in_opening : (old new : D) (now : ℕ) (end : Option OpenError) (older : List (Sitting D)) → ((d : Image) → (look old).now d → BackedBy older d)
       → (look new).honest → (look old).honest → EndsOpening (look old) (look new) now end → (c : Image) → (look new).since (look old).clock c
-      → Behind (InOpening old new now end ∷ older) c
+      → BackedBy (InOpening old new now end ∷ older) c
   in_opening old new now None older from honest was ends c left =
       may_boot old new now None older from was (tt {0}) c (ends.did.crash.from_start honest c left)
   in_opening old new now (Some why.Disk) older from honest was ends c left =
@@ -114,7 +114,7 @@ module _ {D : Type 0} (look : D → View) (law : JournalLemmas) (once : OneFindi
       unbooted old new now (Some why.Full) older from was c ((ends.unbooted (λ none. none)).from_start honest c left)
 
   -- every pair that a history may leave is found so, and has capacity for its boot
-  pub life_leaves : (life : List (Sitting D)) → IsLife look start life → (c : Image) → LifeLeaves look start life c → Behind life c × PairHasReserve c
+  pub life_leaves : (life : List (Sitting D)) → IsLife look start life → (c : Image) → LifeLeaves look start life c → BackedBy life c × PairHasReserve c
   life_leaves [] is c left = (([], refl, left.0), left.1)
   life_leaves (InOpening old new now end ∷ older) (is, from, ends, honest) c left =
       let did = ends.did in
@@ -133,7 +133,7 @@ module _ {D : Type 0} (look : D → View) (law : JournalLemmas) (once : OneFindi
       let holds = service_holds look law lawful x serves honest c left in
       let b = boots (after_all start ys) x.now in
       let p = holds.0 in
-      let opened : after_all start (ys ++ b) ≡ x.opened.state = behind_boots ys starts.state x.now same ∙ sym starts.boot in
+      let opened : after_all start (ys ++ b) ≡ x.opened.state = after_boots ys starts.state x.now same ∙ sym starts.boot in
       let all : after_all start (ys ++ (b ++ p)) ≡ after_all x.opened.state p =
       ap (λ (l : List Event). after_all start l) (sym (append_assoc ys b p)) ∙ after_all-append start (ys ++ b) p
       ∙ ap (λ (s : State). after_all s p) opened in (
@@ -142,10 +142,10 @@ module _ {D : Type 0} (look : D → View) (law : JournalLemmas) (once : OneFindi
       )
 
   -- so an opening after a history gives the state after the events that remain, and reports the actions that ran
-  pub opened_behind : (life : List (Sitting D)) (old : D) (from : ChildrenView) (now : ℕ) (x : ExecutorView D) (ran queued : List Notice)
+  pub opened_after : (life : List (Sitting D)) (old : D) (from : ChildrenView) (now : ℕ) (x : ExecutorView D) (ran queued : List Notice)
       → IsLife look start life → GoesOnFrom look start life old → Opened look (look old) from now x ran queued → (look x.disk).honest
-      → OpensBehind start life now x.state ran queued
-  opened_behind life old from now x ran queued is goes_on opens honest =
+      → OpensAfter start life now x.state ran queued
+  opened_after life old from now x ran queued is goes_on opens honest =
       let starts = opens.starts honest in
       let reads = (look old).reads in
       let before = (life_leaves life is reads (goes_on reads (lawful old (opens.did.crash.passed.honest honest)).reads_now)).0 in
@@ -159,10 +159,10 @@ module _ {D : Type 0} (look : D → View) (law : JournalLemmas) (once : OneFindi
       }
 
   -- and it finds no damage, and capacity for its boot
-  pub opens_behind : (life : List (Sitting D)) (old new : D) (from to : ChildrenView) (now : ℕ) (fault : OpenError) → IsLife look start life
+  pub opens_after : (life : List (Sitting D)) (old new : D) (from to : ChildrenView) (now : ℕ) (fault : OpenError) → IsLife look start life
       → GoesOnFrom look start life old → NotOpened (look old) (look new) from to now fault → (look new).honest
       → (fault ≡ why.Full → ⊥) × ((d : Damage) → fault ≡ why.Damaged d → ⊥)
-  opens_behind life old new from to now fault is goes_on fails honest =
+  opens_after life old new from to now fault is goes_on fails honest =
       let was_honest = fails.did.crash.passed.honest honest in
       let reads = (life_leaves life is (look old).reads (goes_on (look old).reads (lawful old was_honest).reads_now)).0 in (
         fails.never_full (λ _ c c_now. (life_leaves life is c (goes_on c c_now)).1) honest,

@@ -312,10 +312,10 @@ begins_follow moments at run (e ∷ es) (b ∷ bs) out (Some call, rest, pick, l
     let a : Active = record { id = e.0; running = one.0 } in
     let all : b ∷ (bs ++ out) ≡ a ∷ rest = is_all ∙ ap (λ (l : List Active). l ++ rest) one.1 in
     let first : b ≡ a = cc in
-    let behind : bs ++ out ≡ rest = cc in
+    let following : bs ++ out ≡ rest = cc in
     let n : ℕ = run + length (begun_in at run e (Some call)) in
     let counts : length (begun_in at run e (Some call)) ≡ 1 = ap (λ (l : List Active). length l) one.1 in
-    let picks = subst (ArePicks moments at n es) (sym behind) later in
+    let picks = subst (ArePicks moments at n es) (sym following) later in
     let keys = IsDistinct-head bytes_eq e.0 (keys_of es) apart in
     let s2 = after s (begin_of at a) in
     let rest_so = begins_follow moments at n es bs out picks (IsDistinct-tail bytes_eq e.0 (keys_of es) apart) s2

@@ -26,22 +26,22 @@ use Rattle.executor.specs.declared.opening.OpenError.{OpenError}
 use Rattle.executor.specs.declared.opening.OpenError.TheVariants as why
 use Rattle.exec_ledger.specs.Laws.{JournalLemmas}
 use Rattle.executor.proofs.Lives.Services.{service_holds, whole_leads}
-use Rattle.executor.proofs.Lives.Whole.{OneFinding, behind_boots, one_state}
+use Rattle.executor.proofs.Lives.Whole.{OneFinding, after_boots, one_state}
 use Rattle.executor.proofs.Machines.Calls.{labels_answers, machine_of, moves_all, same_machine}
 
 module _ {D : Type 0} (look : D → View) (law : JournalLemmas) (once : OneFinding) (lawful : (d : D) → (look d).honest → Lawful (look d))
     (start : State) where
   -- the pair after a behaviour
-  abbrev Behind : List (Sitting D) → List Seen → Image → Type 0
-  Behind life xs c = (zs : List Event) × Runs start xs zs × Lived start life zs × FoundAs (after_all start zs) c
+  abbrev BackedBy : List (Sitting D) → List Seen → Image → Type 0
+  BackedBy life xs c = (zs : List Event) × Runs start xs zs × Lived start life zs × FoundAs (after_all start zs) c
 
   same_state : (s t : State) (c : Image) → FoundAs s c → FoundAs t c → s ≡ t
   same_state s t c here there = one_state look law once lawful start s t c here there
 
   -- after an opening that was refused or crashed: as before it
   unbooted : (old new : D) (now : ℕ) (end : Option OpenError) (older : List (Sitting D)) (xs : List Seen)
-      → ((d : Image) → (look old).now d → Behind older xs d) → (look old).honest
-      → (c : Image) → OpensLike (look old) c → Behind (InOpening old new now end ∷ older) (Opening now end ∷ xs) c
+      → ((d : Image) → (look old).now d → BackedBy older xs d) → (look old).honest
+      → (c : Image) → OpensLike (look old) c → BackedBy (InOpening old new now end ∷ older) (Opening now end ∷ xs) c
   unbooted old new now end older xs from honest c (inl was) =
       let b = from c was in (b.0, (b.0, [], b.1, inl refl, sym (append-nil b.0)), (b.0, b.2, inl refl), b.3)
   unbooted old new now end older xs from honest c (inr (s, reads, found)) =
@@ -51,8 +51,8 @@ module _ {D : Type 0} (look : D → View) (law : JournalLemmas) (once : OneFindi
 
   -- or with its boot
   may_boot : (old new : D) (now : ℕ) (end : Option OpenError) (older : List (Sitting D)) (xs : List Seen)
-      → ((d : Image) → (look old).now d → Behind older xs d) → (look old).honest → MayBoot end
-      → (c : Image) → StartsLike (look old) now c → Behind (InOpening old new now end ∷ older) (Opening now end ∷ xs) c
+      → ((d : Image) → (look old).now d → BackedBy older xs d) → (look old).honest → MayBoot end
+      → (c : Image) → StartsLike (look old) now c → BackedBy (InOpening old new now end ∷ older) (Opening now end ∷ xs) c
   may_boot old new now end older xs from honest may c (inl like) = unbooted old new now end older xs from honest c like
   may_boot old new now end older xs from honest may c (inr (s, reads, inl found)) =
       unbooted old new now end older xs from honest c (inr (s, reads, found))
@@ -62,14 +62,14 @@ module _ {D : Type 0} (look : D → View) (law : JournalLemmas) (once : OneFindi
         b.0 ++ boots (after_all start b.0) now,
         (b.0, boots (after_all start b.0) now, b.1, inr (may, refl), refl),
         (b.0, b.2, inr (may, refl)),
-        subst (λ (t : State). FoundAs t c) (sym (behind_boots look law once lawful start b.0 s now same)) found,
+        subst (λ (t : State). FoundAs t c) (sym (after_boots look law once lawful start b.0 s now same)) found,
       )
 
   -- by how it ended
   in_opening : (old new : D) (now : ℕ) (end : Option OpenError) (older : List (Sitting D)) (xs : List Seen)
-      → ((d : Image) → (look old).now d → Behind older xs d) → (look new).honest → (look old).honest
+      → ((d : Image) → (look old).now d → BackedBy older xs d) → (look new).honest → (look old).honest
       → EndsOpening (look old) (look new) now end → (c : Image) → (look new).since (look old).clock c
-      → Behind (InOpening old new now end ∷ older) (Opening now end ∷ xs) c
+      → BackedBy (InOpening old new now end ∷ older) (Opening now end ∷ xs) c
   in_opening old new now None older xs from honest was ends c left =
       may_boot old new now None older xs from was (tt {0}) c (ends.did.crash.from_start honest c left)
   in_opening old new now (Some why.Disk) older xs from honest was ends c left =
@@ -129,7 +129,7 @@ module _ {D : Type 0} (look : D → View) (law : JournalLemmas) (once : OneFindi
 
   -- every pair that a history may leave is found after a behaviour of the machine
   pub life_runs : (life : List (Sitting D)) (is : IsLife look start life) (c : Image) → LifeLeaves look start life c
-      → Behind life (seen look start life is) c
+      → BackedBy life (seen look start life is) c
   life_runs [] is c left = ([], refl, refl, left.0)
   life_runs (InOpening old new now end ∷ older) (is, from, ends, honest) c left =
       in_opening old new now end older (seen look start older is) (λ d d_now. life_runs older is d (from d d_now))
@@ -147,7 +147,7 @@ module _ {D : Type 0} (look : D → View) (law : JournalLemmas) (once : OneFindi
       let b = boots s x.now in
       let p = holds.0 in
       let opened : after_all start (ys ++ b) ≡ x.opened.state =
-      behind_boots look law once lawful start ys starts.state x.now same ∙ sym starts.boot in
+      after_boots look law once lawful start ys starts.state x.now same ∙ sym starts.boot in
       let all : after_all start (ys ++ (b ++ p)) ≡ after_all x.opened.state p =
       ap (λ (l : List Event). after_all start l) (sym (append_assoc ys b p)) ∙ after_all-append start (ys ++ b) p
       ∙ ap (λ (t : State). after_all t p) opened in

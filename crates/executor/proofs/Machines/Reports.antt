@@ -23,13 +23,13 @@ within_all : (xs : List Notice) → IsWithin xs xs
 within_all [] = tt
 within_all (x ∷ xs) = inl (refl, within_all xs)
 
-within_behind : (ys xs zs : List Notice) → IsWithin xs zs → IsWithin xs (ys ++ zs)
-within_behind [] xs zs h = h
-within_behind (y ∷ ys) [] zs h = tt
-within_behind (y ∷ ys) (x ∷ xs) zs h = inr (within_behind ys (x ∷ xs) zs h)
+within_after : (ys xs zs : List Notice) → IsWithin xs zs → IsWithin xs (ys ++ zs)
+within_after [] xs zs h = h
+within_after (y ∷ ys) [] zs h = tt
+within_after (y ∷ ys) (x ∷ xs) zs h = inr (within_after ys (x ∷ xs) zs h)
 
 within_both : (ms bs cs ds : List Notice) → IsWithin ms bs → IsWithin cs ds → IsWithin (ms ++ cs) (bs ++ ds)
-within_both [] bs cs ds h k = within_behind bs cs ds k
+within_both [] bs cs ds h k = within_after bs cs ds k
 within_both (a ∷ ms) [] cs ds h k = absurd h
 within_both (a ∷ ms) (b ∷ bs) cs ds (inl h) k = inl (h.0, within_both ms bs cs ds h.1 k)
 within_both (a ∷ ms) (b ∷ bs) cs ds (inr h) k = inr (within_both (a ∷ ms) bs cs ds h k)

@@ -24,7 +24,7 @@ use Rattle.ocf_types.specs.declared.reply.TurnEnd.{TurnEnd}
 use Rattle.ocf_types.specs.declared.reply.TurnEnd.TheVariants as turn_end
 use Rattle.ocf_types.specs.declared.reply.Notice.{Notice}
 use Rattle.exec_ledger.specs.Actives.{Active, active}
-use Rattle.exec_ledger.specs.Scenes.{Scene, behind, scene}
+use Rattle.exec_ledger.specs.Scenes.{Scene, following, scene}
 use Rattle.exec_turn.specs.Picks.{ArePicks, begins}
 use Rattle.exec_turn.specs.Polls.{Polled, ending, ends_of, results}
 use Rattle.exec_turn.specs.Starts.{Started, refusals, refused_end}
@@ -121,19 +121,19 @@ refusals_follow at s bs xs each runs apart =
     (subst (IsDistinct bytes_eq) (ap ids_of (sym each) ∙ map-map (λ (a : Active). a.id) (λ (x : Started). x.what) xs) apart)
 
 two_follow : (end : TurnEnd) (x : Scene) (ps : List Polled) (bs : List Active) → EachPolled x ps
-    → PickedAt end (behind x (results x.at ps)) bs
+    → PickedAt end (following x (results x.at ps)) bs
     → Fine x.state → Follow x.state (results x.at ps ++ begins x.at bs)
 two_follow end x ps bs polled picked fine =
     let one = results_follow x.at x.state ps polled.each fine in
     follow_both x.state (results x.at ps) (begins x.at bs) one
-    (begun_so end (behind x (results x.at ps)) bs picked (fine_on x.state (results x.at ps) one fine)).follow
+    (begun_so end (following x (results x.at ps)) bs picked (fine_on x.state (results x.at ps) one fine)).follow
 
 three_follow : (end : TurnEnd) (x : Scene) (t : TurnReport end x) → Fine x.state
     → Follow x.state (results x.at t.polled ++ begins x.at t.begun ++ refusals x.at t.started)
 three_follow end x t fine =
     let es = results x.at t.polled in
     let one = results_follow x.at x.state t.polled t.each_polled.each fine in
-    let two = begun_so end (behind x es) t.begun t.picked (fine_on x.state es one fine) in
+    let two = begun_so end (following x es) t.begun t.picked (fine_on x.state es one fine) in
     subst (Follow x.state) (sym (append_assoc es (begins x.at t.begun) (refusals x.at t.started)))
     (follow_both x.state es (begins x.at t.begun ++ refusals x.at t.started) one
     (follow_both (after_all x.state es) (begins x.at t.begun) (refusals x.at t.started) two.follow
@@ -292,11 +292,11 @@ went_both m k n a b one two = record {
     by true opened so_far fine =
         let first = one.onward opened in
         let here : Follow m.state a.events = follow_first m.state a.events a.pending so_far in
-        let behind_it : Follow k.state (b.events ++ b.pending) =
+        let after_it : Follow k.state (b.events ++ b.pending) =
         two.follow opened (subst Fine (sym first.1) (fine_on m.state a.events here fine)) in
         subst (λ (l : List Event). Follow m.state ((a.events ++ b.events) ++ (l ++ b.pending))) (sym first.2)
         (subst (Follow m.state) (sym (append_assoc a.events b.events b.pending))
-        (follow_both m.state a.events (b.events ++ b.pending) here (subst (λ (s : State). Follow s (b.events ++ b.pending)) first.1 behind_it)))
+        (follow_both m.state a.events (b.events ++ b.pending) here (subst (λ (s : State). Follow s (b.events ++ b.pending)) first.1 after_it)))
     by false shut so_far fine =
         let none = (two.closed shut).0 in
         subst (λ (l : Effects). Follow m.state ((a.events ++ l.events) ++ (a.pending ++ l.pending))) (sym none)

@@ -1,5 +1,5 @@
 use Rattle.std.proofs.Common.{[], refl, sym}
-use Rattle.exec_client.specs.Behind.{nothing}
+use Rattle.exec_client.specs.BackedBy.{nothing}
 use Rattle.exec_client.proofs.Growing.{none_holds}
 use Rattle.exec_session.proofs.SendLemmas.{one_more, request_states, request_holds}
 use Rattle.exec_session.proofs.answer.request_reply.Goals as goal

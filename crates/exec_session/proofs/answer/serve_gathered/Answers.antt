@@ -1,5 +1,5 @@
 use Rattle.std.proofs.Common.{length, refl, []}
-use Rattle.exec_client.specs.Behind.{nothing}
+use Rattle.exec_client.specs.BackedBy.{nothing}
 use Rattle.exec_client.proofs.Growing.{none_holds}
 use Rattle.exec_session.specs.Gathered.{replied, waiting}
 use Rattle.exec_session.proofs.SendLemmas.{refused_states, refused_hold, together_states, together_hold}

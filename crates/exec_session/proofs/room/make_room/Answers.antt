@@ -1,6 +1,6 @@
 use Rattle.std.proofs.Common.{[], refl, subst, sym, true≢false, ◌∙◌}
 use Rattle.executor.specs.TidyCalls.{TidiesWhile}
-use Rattle.exec_client.specs.Behind.{nothing}
+use Rattle.exec_client.specs.BackedBy.{nothing}
 use Rattle.exec_client.proofs.Growing.{none_holds, tidied_holds}
 use Rattle.exec_session.proofs.room.make_room.Goals as goal
 

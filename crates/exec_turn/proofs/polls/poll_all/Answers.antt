@@ -3,7 +3,7 @@ use Rattle.std.specs.List.{IsDistinct, flat_map}
 use Rattle.std.proofs.lemmas.List.{map-append}
 use Rattle.ocf_types.specs.Places.{entry_at}
 use Rattle.exec_ledger.specs.Actives.{Active, active_in, runs_of}
-use Rattle.exec_turn.proofs.Polling.{Live, active_more, active_rest, others_distinct, others_live, polls_more, room_behind}
+use Rattle.exec_turn.proofs.Polling.{Live, active_more, active_rest, others_distinct, others_live, polls_more, room_kept}
 use Rattle.exec_turn.proofs.Results.{each_first}
 use Rattle.exec_turn.proofs.polls.poll_all.Goals as goal
 
@@ -37,7 +37,7 @@ loop-place-preserved g c =
       polled = rw (active_more s place within, more.3, more.4) both;
       lives = others_live c.args.at here later old new more.0 more.1 more.2 distinct lives;
       distinct = others_distinct here later distinct;
-      room = omega (arith, inv.room, size, length-append here later, room_behind c.args.at here old new more.0 more.1 more.2);
+      room = omega (arith, inv.room, size, length-append here later, room_kept c.args.at here old new more.0 more.1 more.2);
       batch_few = omega (arith, inv.batch_few, c.poll_at.ensures.batch.few);
       notices_few = omega (arith, inv.notices_few, c.poll_at.ensures.notices.few);
       batch_room = c.poll_at.ensures.batch.room ∙ inv.batch_room;

@@ -1,5 +1,5 @@
 use Rattle.exec_ledger.specs.Laws.{JournalLemmas}
-use Rattle.executor.proofs.Lives.Whole.{OneFinding, first_begins, fresh_begins, life_leaves, opened_behind, opens_behind, looked_sits, refused_sits}
+use Rattle.executor.proofs.Lives.Whole.{OneFinding, first_begins, fresh_begins, life_leaves, opened_after, opens_after, looked_sits, refused_sits}
 use Rattle.executor.proofs.laws.whole_life.Goals as goal
 
 pub returns : goal.returns
@@ -12,8 +12,8 @@ returns g c =
       first = first_begins law;
       holds = λ start life is image left. (life_leaves g.D.Disk.view law once g.met.D.Disk.lawful start life is image left).0;
       reserved = λ start life is image left. (life_leaves g.D.Disk.view law once g.met.D.Disk.lawful start life is image left).1;
-      opened = opened_behind g.D.Disk.view law once g.met.D.Disk.lawful;
-      not_refused = opens_behind g.D.Disk.view law once g.met.D.Disk.lawful;
+      opened = opened_after g.D.Disk.view law once g.met.D.Disk.lawful;
+      not_refused = opens_after g.D.Disk.view law once g.met.D.Disk.lawful;
       refused = refused_sits g.D.Disk.view;
       looked = looked_sits g.D.Disk.view;
     }

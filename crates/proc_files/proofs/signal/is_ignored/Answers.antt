@@ -3,7 +3,7 @@ use Rattle.std.proofs.lemmas.Bool.{false≢true}
 use borrow.Author.Count.{below_more}
 use Rattle.proc_files.specs.Pieces.{IsPieces}
 use Rattle.proc_files.specs.Signals.{BeginsWithBit}
-use Rattle.proc_files.proofs.PieceLemmas.{behind_at, behind_none}
+use Rattle.proc_files.proofs.PieceLemmas.{after_at, after_none}
 use Rattle.proc_files.proofs.SignalLemmas.{no_line}
 use Rattle.proc_files.proofs.signal.is_ignored.Goals as goal
 use Rattle.proc_files.proofs.signal.is_ignored.Goals.{else-is_pieces-via-then-is_pieces+else-begins_with_bit}
@@ -11,7 +11,7 @@ use Rattle.proc_files.proofs.signal.is_ignored.Goals.{else-is_pieces-via-else-is
 
 pub returns-then-begins_with_bit : goal.returns-then-begins_with_bit
 returns-then-begins_with_bit c = (
-  λ _. behind_at 10 (BeginsWithBit c.args.signal) c.args.status.now c.loop-at.at
+  λ _. after_at 10 (BeginsWithBit c.args.signal) c.args.status.now c.loop-at.at
       (subst (IsPieces 10) c.split_at.ensures.front (c.is_pieces.ensures.0 c.if-is_pieces.true))
       (subst (BeginsWithBit c.args.signal) c.split_at.ensures.back (c.begins_with_bit.ensures.0 c.if-begins_with_bit.true)),
   λ _. refl,
@@ -31,6 +31,6 @@ loop-at-preserved c =
 pub returns : goal.returns
 returns c = (
   λ never. absurd (false≢true never),
-  λ has. absurd (behind_none 10 (BeginsWithBit c.args.signal) c.args.status.now (no_line c.args.signal)
+  λ has. absurd (after_none 10 (BeginsWithBit c.args.signal) c.args.status.now (no_line c.args.signal)
       (λ at within. c.loop-at.invariant at (omega (arith, within))) has),
 )

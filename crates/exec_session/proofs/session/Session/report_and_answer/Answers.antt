@@ -1,6 +1,6 @@
 use Rattle.std.proofs.Common.{ap, refl, subst, ◌∙◌}
 use Rattle.exec_lines.proofs.PieceLemmas.{on_err}
-use Rattle.exec_session.specs.Breaks.{BreaksOff, behind_ready, in_ready, in_report}
+use Rattle.exec_session.specs.Breaks.{BreaksOff, after_ready, in_ready, in_report}
 use Rattle.exec_session.specs.Rules.{rules_of}
 use Rattle.exec_session.specs.Runs.{Finishes}
 use Rattle.exec_session.specs.Spots.{Position}
@@ -34,7 +34,7 @@ returns-in_err-send_ready-clause-breaks g c =
 pub returns-in_err-answer_all-clause-breaks : goal.returns-in_err-answer_all-clause-breaks
 returns-in_err-answer_all-clause-breaks g c =
     on_err c.from_residual-in_err-answer_all.result _
-    (behind_ready c.send_report.new.self.at c.send_ready.new.self.at c.in_ok-send_report.ensures.reported.done
+    (after_ready c.send_report.new.self.at c.send_ready.new.self.at c.in_ok-send_report.ensures.reported.done
     c.in_ok-send_ready.ensures.reported.done
     (subst (λ (w : Position _). BreaksOff g.D.Disk.view (g.M.Metadata.gives c.args.context.now.metadata.now) (rules_of c.args.context.now)
     w c.answer_all.new.self.desk.worker.at)

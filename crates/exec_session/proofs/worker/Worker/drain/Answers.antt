@@ -31,8 +31,8 @@ loop-turns-preserved g c =
     let rest = rests c.args.start c.pauses.new.pause.since c.loop-turns.now reported.at mid q c.pauses.result after later c.if-not-pauses.false
     paused c.now-now.ensures.noted in
     let same = rests_executor c.args.start c.loop-turns.now reported.at q.at after rest in
-    let on = sent_end_at c.args.terms (c.loop-turns.turns + 1) after end reported.at q.at c.idle.result c.end_behind.result None same
-    c.end_behind.ensures c.idle.ensures.value c.in_default.is in
+    let on = sent_end_at c.args.terms (c.loop-turns.turns + 1) after end reported.at q.at c.idle.result c.end_after.result None same
+    c.end_after.ensures c.idle.ensures.value c.in_default.is in
     let keeps = both_keep reported mid q
     (pause_keeps c.pauses.new.pause.since c.pauses.new.pause.moment c.pauses.result reported mid c.pauses.ensures.left c.pauses.ensures.paused)
     (was_noted mid q _ c.now-now.ensures.noted) in
@@ -83,8 +83,8 @@ returns-in-Some g c = record {
               made = c.in_ok-end.ensures.made.done;
               rests = rest;
               ended =
-                  sent_end_at c.args.terms (c.loop-turns.turns + 1) c.now-now.result c.in_ok-end.end reported q.at c.idle.result c.end_behind.result
-                  (Some c.in-Some.end) (rests_executor c.args.start c.loop-turns.now reported q.at c.now-now.result rest) c.end_behind.ensures c.idle.ensures.value c.in-Some.is;
+                  sent_end_at c.args.terms (c.loop-turns.turns + 1) c.now-now.result c.in_ok-end.end reported q.at c.idle.result c.end_after.result
+                  (Some c.in-Some.end) (rests_executor c.args.start c.loop-turns.now reported q.at c.now-now.result rest) c.end_after.ensures c.idle.ensures.value c.in-Some.is;
             };
         breaks = tt;
         cause = tt;

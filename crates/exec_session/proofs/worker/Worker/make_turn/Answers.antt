@@ -8,7 +8,7 @@ use Rattle.exec_client.proofs.Growing.{all_still_hold, may_send}
 use Rattle.exec_session.specs.Spots.{Position, SendsAll, SendsPart, spot}
 use Rattle.exec_session.proofs.EventLemmas.{moved_keeps, send_keeps, unsent}
 use Rattle.exec_session.proofs.StepLemmas.{step_to_fails}
-use Rattle.exec_session.proofs.SendLemmas.{after_sent, cleared_room, turn_behind_room}
+use Rattle.exec_session.proofs.SendLemmas.{after_sent, cleared_room, turn_after_room}
 use Rattle.exec_session.proofs.WorkerLemmas.{parts, turn_failed, turn_heard}
 use Rattle.exec_session.proofs.worker.Worker.make_turn.Goals as goal
 
@@ -37,7 +37,7 @@ send-requires g c =
     let last = c.turn-end.new.self in
     let takes = subst (λ b. TurnsWhile b look c.args.now middle last c.turn-end.result) is_open c.turn-end.ensures.turns in
     let room = cleared_room look old c.clear_book.new.self middle c.clear_book.ensures.cleared c.make_room.ensures.holds in
-    let reported = turn_behind_room look c.args.now old middle last c.turn-end.result room is_open takes in record {
+    let reported = turn_after_room look c.args.now old middle last c.turn-end.result room is_open takes in record {
       may_send =
           may_send look c.self.inside.edge.client_view old last _ c.self.invariant
           (subst (λ (items : List SentItem). IsBacked look old last items) (sym c.of_executor-turn.ensures.items) reported) tt;
@@ -52,7 +52,7 @@ invariant_of-self-2 g c =
     let last = c.turn-end.new.self in
     let takes = subst (λ b. TurnsWhile b look c.args.now middle last c.turn-end.result) is_open c.turn-end.ensures.turns in
     let room = cleared_room look old c.clear_book.new.self middle c.clear_book.ensures.cleared c.make_room.ensures.holds in
-    let reported = turn_behind_room look c.args.now old middle last c.turn-end.result room is_open takes in
+    let reported = turn_after_room look c.args.now old middle last c.turn-end.result room is_open takes in
     after_sent look c.self.inside.edge.client_view c.send.new.self.client_view old last _ c.self.invariant
     (subst (λ (items : List SentItem). IsBacked look old last items) (sym c.of_executor-turn.ensures.items) reported)
     c.send.ensures.reported
@@ -66,7 +66,7 @@ invariant_of-self-in_err-send g c =
     let last = c.turn-end.new.self in
     let takes = subst (λ b. TurnsWhile b look c.args.now middle last c.turn-end.result) is_open c.turn-end.ensures.turns in
     let room = cleared_room look old c.clear_book.new.self middle c.clear_book.ensures.cleared c.make_room.ensures.holds in
-    let reported = turn_behind_room look c.args.now old middle last c.turn-end.result room is_open takes in
+    let reported = turn_after_room look c.args.now old middle last c.turn-end.result room is_open takes in
     after_sent look c.self.inside.edge.client_view c.send.new.self.client_view old last _ c.self.invariant
     (subst (λ (items : List SentItem). IsBacked look old last items) (sym c.of_executor-turn.ensures.items) reported)
     c.send.ensures.reported

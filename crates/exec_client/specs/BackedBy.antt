@@ -21,8 +21,8 @@ IsMessageOf (Noticed notice signal) e = IsOfResult notice e
 IsMessageOf _ e = ⊥
 
 -- These messages are backed by these events: each message that claims something has an event of its own, in the same order.
-pub data Behind : List SentItem → List Event → Type 0 where
-  nothing : Behind [] []
-  untold : (e : Event) (ss : List SentItem) (es : List Event) → Behind ss es → Behind ss (e ∷ es)
-  sends : (s : SentItem) (e : Event) (ss : List SentItem) (es : List Event) → IsMessageOf s e → Behind ss es → Behind (s ∷ ss) (e ∷ es)
-  states_else : (s : SentItem) (ss : List SentItem) (es : List Event) → claims s ≡ false → Behind ss es → Behind (s ∷ ss) es
+pub data BackedBy : List SentItem → List Event → Type 0 where
+  nothing : BackedBy [] []
+  untold : (e : Event) (ss : List SentItem) (es : List Event) → BackedBy ss es → BackedBy ss (e ∷ es)
+  sends : (s : SentItem) (e : Event) (ss : List SentItem) (es : List Event) → IsMessageOf s e → BackedBy ss es → BackedBy (s ∷ ss) (e ∷ es)
+  states_else : (s : SentItem) (ss : List SentItem) (es : List Event) → claims s ≡ false → BackedBy ss es → BackedBy (s ∷ ss) es
