@@ -29,16 +29,16 @@ both_nothing : (ss ts : List SentItem) → ClaimsNothing ss → ClaimsNothing ts
 both_nothing [] ts one two = two
 both_nothing (s ∷ ss) ts one two = (one.0, both_nothing ss ts one.1 two)
 
-module _ {D : Type 0} (look : D → View) where
+module _ {D : Type 0} (view : D → View) where
   -- one call
-  pub one_sends : (x y : ExecutorView D) (e : Exchange) (d : Effects) (items : List SentItem) → Does look e x y d → States e y items
-      → SendsCalls look x (e ∷ []) y d items
+  pub one_sends : (x y : ExecutorView D) (e : Exchange) (d : Effects) (items : List SentItem) → Does view e x y d → States e y items
+      → SendsCalls view x (e ∷ []) y d items
   one_sends x y e d items does says =
       ([], items, [], y, d, no_effects, tt, does, says, (refl, refl, tt), sym (followed_by_none d), sym (append-nil items))
 
   -- messages that claim nothing, and then calls
-  aside_sends : (x z : ExecutorView D) (es : List Exchange) (d : Effects) (ss ts : List SentItem) → ClaimsNothing ss → SendsCalls look x es z d ts
-      → SendsCalls look x es z d (ss ++ ts)
+  aside_sends : (x z : ExecutorView D) (es : List Exchange) (d : Effects) (ss ts : List SentItem) → ClaimsNothing ss → SendsCalls view x es z d ts
+      → SendsCalls view x es z d (ss ++ ts)
   aside_sends x z [] d ss ts none (same, nil, plain) = (same, nil, both_nothing ss ts none plain)
   aside_sends x z (e ∷ es) d ss ts none (aside, mine, later, mid, first, rest, plain, does, says, goes_on, is, reported) = (
     ss ++ aside,
@@ -56,11 +56,11 @@ module _ {D : Type 0} (look : D → View) where
   )
 
   -- calls, and then others
-  pub both_send : (x y z : ExecutorView D) (es fs : List Exchange) (a b : Effects) (ss ts : List SentItem) → SendsCalls look x es y a ss
-      → SendsCalls look y fs z b ts → SendsCalls look x (es ++ fs) z (followed_by a b) (ss ++ ts)
+  pub both_send : (x y z : ExecutorView D) (es fs : List Exchange) (a b : Effects) (ss ts : List SentItem) → SendsCalls view x es y a ss
+      → SendsCalls view y fs z b ts → SendsCalls view x (es ++ fs) z (followed_by a b) (ss ++ ts)
   both_send x y z [] fs a b ss ts (same, none, plain) two =
-      subst (λ (d : Effects). SendsCalls look x fs z d (ss ++ ts)) (sym (ap (λ (d : Effects). followed_by d b) none))
-      (aside_sends x z fs b ss ts plain (subst (λ (w : ExecutorView D). SendsCalls look w fs z b ts) same two))
+      subst (λ (d : Effects). SendsCalls view x fs z d (ss ++ ts)) (sym (ap (λ (d : Effects). followed_by d b) none))
+      (aside_sends x z fs b ss ts plain (subst (λ (w : ExecutorView D). SendsCalls view w fs z b ts) same two))
   both_send x y z (e ∷ es) fs a b ss ts (aside, mine, later, mid, first, rest, plain, does, says, goes_on, is, reported) two = (
     aside,
     mine,
@@ -88,8 +88,8 @@ module _ {D : Type 0} (look : D → View) where
   states_at now Cleared y is = absurd is
   states_at now Abandoned y is = absurd is
 
-  pub commands_send : (now : ℕ) (es : List Exchange) (x y : ExecutorView D) (d : Effects) → AllByRecursion (IsAt now) es → Calls look x es y d
-      → SendsCalls look x es y d (map answered (flat_map replies_of es))
+  pub commands_send : (now : ℕ) (es : List Exchange) (x y : ExecutorView D) (d : Effects) → AllByRecursion (IsAt now) es → Calls view x es y d
+      → SendsCalls view x es y d (map answered (flat_map replies_of es))
   commands_send now [] x y d at (same, none) = (same, none, tt)
   commands_send now (e ∷ es) x y d at (mid, first, later, does, calls, is) = (
     [],

@@ -25,13 +25,13 @@ twice e (untold _ _ _ backed) = too_early (ok ∷ []) backed
 twice e (sends _ _ _ _ is backed) = too_early [] backed
 twice e (states_else _ _ _ none backed) = true≢false none
 
-module _ {D : Type 0} (look : D → View) (x y : ExecutorView D) (d : Effects) where
+module _ {D : Type 0} (view : D → View) (x y : ExecutorView D) (d : Effects) where
   -- no call was made
-  of_no_call : SendsCalls look x [] y d (ok ∷ []) → ⊥
+  of_no_call : SendsCalls view x [] y d (ok ∷ []) → ⊥
   of_no_call (same, none, nothing) = true≢false nothing.0
 
   -- the reply to a command is left out
-  left_out : (now : ℕ) (request : Request) (reply : Reply) → SendsCalls look x (Took (input.Request now request) reply ∷ []) y d [] → ⊥
+  left_out : (now : ℕ) (request : Request) (reply : Reply) → SendsCalls view x (Took (input.Request now request) reply ∷ []) y d [] → ⊥
   left_out now request reply (aside, mine, later, mid, first, rest, quiet, does, says, others, both, reported) =
       let all = ap length reported in
       let one = ap length says in

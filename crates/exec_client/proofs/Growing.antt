@@ -47,9 +47,9 @@ refused_after r why is =
 events_are : (ss : List SentItem) (d e : Effects) → d ≡ e → BackedBy ss e.events → BackedBy ss d.events
 events_are ss d e same backed = subst (λ (f : Effects). BackedBy ss f.events) (sym same) backed
 
-module _ {D : Type 0} (look : D → View) where
+module _ {D : Type 0} (view : D → View) where
   -- no call, one call, and calls after others
-  pub none_holds : (x y : ExecutorView D) (items : List SentItem) → y ≡ x → BackedBy items [] → IsBacked look x y items
+  pub none_holds : (x y : ExecutorView D) (items : List SentItem) → y ≡ x → BackedBy items [] → IsBacked view x y items
   none_holds x y items same backed = record {
     calls = [];
     effects = no_effects;
@@ -58,41 +58,41 @@ module _ {D : Type 0} (look : D → View) where
     backed = backed;
   }
 
-  one_holds : (x y : ExecutorView D) (e : Exchange) (d : Effects) (items : List SentItem) → Does look e x y d → States e y items → BackedBy items d.events
-      → IsBacked look x y items
+  one_holds : (x y : ExecutorView D) (e : Exchange) (d : Effects) (items : List SentItem) → Does view e x y d → States e y items → BackedBy items d.events
+      → IsBacked view x y items
   one_holds x y e d items does says backed = record {
     calls = e ∷ [];
     effects = d;
     leads = (y, d, no_effects, does, (refl, refl), sym (followed_by_none d));
-    sends = one_sends look x y e d items does says;
+    sends = one_sends view x y e d items does says;
     backed = backed;
   }
 
-  pub both_hold : (x y z : ExecutorView D) (ss ts : List SentItem) → IsBacked look x y ss → IsBacked look y z ts
-      → IsBacked look x z (ss ++ ts)
+  pub both_hold : (x y z : ExecutorView D) (ss ts : List SentItem) → IsBacked view x y ss → IsBacked view y z ts
+      → IsBacked view x z (ss ++ ts)
   both_hold x y z ss ts one two = record {
     calls = one.calls ++ two.calls;
     effects = followed_by one.effects two.effects;
-    leads = calls_after look x y z one.calls two.calls one.effects two.effects one.leads two.leads;
-    sends = both_send look x y z one.calls two.calls one.effects two.effects ss ts one.sends two.sends;
+    leads = calls_after view x y z one.calls two.calls one.effects two.effects one.leads two.leads;
+    sends = both_send view x y z one.calls two.calls one.effects two.effects ss ts one.sends two.sends;
     backed = both_after ss one.effects.events ts two.effects.events one.backed two.backed;
   }
 
   -- nothing is sent of the later calls
-  pub still_hold : (x y z : ExecutorView D) (ss : List SentItem) → IsBacked look x y ss → IsBacked look y z [] → IsBacked look x z ss
+  pub still_hold : (x y z : ExecutorView D) (ss : List SentItem) → IsBacked view x y ss → IsBacked view y z [] → IsBacked view x z ss
   still_hold x y z ss one two =
-      subst (λ (items : List SentItem). IsBacked look x z items) (append-nil ss) (both_hold x y z ss [] one two)
+      subst (λ (items : List SentItem). IsBacked view x z items) (append-nil ss) (both_hold x y z ss [] one two)
 
   -- a command
   obeys_after : (now : ℕ) (c : Command) (x y : ExecutorView D) (r : Reply) (found : Result Event Refusal) → event_of x.state now c ≡ found
-      → Obeys look found (ledger_of x) (ledger_of y) r → BackedBy (answered r ∷ []) (command_effects found r).events
+      → Obeys view found (ledger_of x) (ledger_of y) r → BackedBy (answered r ∷ []) (command_effects found r).events
   obeys_after now c x y r (Err why) is (refused, same) = refused_after r why refused
   obeys_after now c x y r (Ok e) is records = reply_after e r (command_keeps x.state now c e is) records.reported
 
   -- a request
-  while_taken : (b : Bool) (now : ℕ) (request : Request) (x y : ExecutorView D) (r : Reply) → ServesWhile b look now request x y r
+  while_taken : (b : Bool) (now : ℕ) (request : Request) (x y : ExecutorView D) (r : Reply) → ServesWhile b view now request x y r
       → (b ≡ true → ((y.is_open ≡ false) ↔ (r ≡ reply.Refused Disk)))
-      → (d : Effects) × TakesWhile b look (input.Request now request) x y r d × BackedBy (answered r ∷ []) d.events
+      → (d : Effects) × TakesWhile b view (input.Request now request) x y r d × BackedBy (answered r ∷ []) d.events
   while_taken true now (asked.Question question) x y r serves closes = (
     no_effects,
     record { serves = serves; closes = closes refl; does = refl },
@@ -105,14 +105,14 @@ module _ {D : Type 0} (look : D → View) where
   )
   while_taken false now request x y r serves closes = (no_effects, (serves.0, serves.1, refl), refused_after r _ serves.0)
 
-  pub serves_holds : (now : ℕ) (request : Request) (x y : ExecutorView D) (r : Reply) → Serves look now request x y r
-      → (x.is_open ≡ true → ((y.is_open ≡ false) ↔ (r ≡ reply.Refused Disk))) → IsBacked look x y (answered r ∷ [])
+  pub serves_holds : (now : ℕ) (request : Request) (x y : ExecutorView D) (r : Reply) → Serves view now request x y r
+      → (x.is_open ≡ true → ((y.is_open ≡ false) ↔ (r ≡ reply.Refused Disk))) → IsBacked view x y (answered r ∷ [])
   serves_holds now request x y r serves closes =
       let (d, takes, backed) = while_taken x.is_open now request x y r serves closes in
       one_holds x y (Took (input.Request now request) r) d (answered r ∷ []) takes refl backed
 
   -- commands in a batch
-  batch_holds : (now : ℕ) (cs : List Command) (x y : ExecutorView D) (rs : List Reply) (d : Effects) → TakesBatch look now cs x y rs d
+  batch_holds : (now : ℕ) (cs : List Command) (x y : ExecutorView D) (rs : List Reply) (d : Effects) → TakesBatch view now cs x y rs d
       → BackedBy (map answered rs) d.events
   batch_holds now cs x y rs d takes = by y.is_open refl
     where
@@ -129,13 +129,13 @@ module _ {D : Type 0} (look : D → View) where
 
   -- one of the calls by which commands are carried out
   taken_after : (b : Bool) (at : ℕ) (c : Command) (x y : ExecutorView D) (r : Reply) (d : Effects)
-      → TakesWhile b look (input.Request at (asked.Command c)) x y r d → BackedBy (answered r ∷ []) d.events
+      → TakesWhile b view (input.Request at (asked.Command c)) x y r d → BackedBy (answered r ∷ []) d.events
   taken_after true at c x y r d takes =
       events_are (answered r ∷ []) d (command_effects (event_of x.state at c) r) takes.does
       (obeys_after at c x y r (event_of x.state at c) refl takes.serves.0)
   taken_after false at c x y r d (refused, same, none) = events_are (answered r ∷ []) d no_effects none (refused_after r _ refused)
 
-  one_after : (now : ℕ) (e : Exchange) (x y : ExecutorView D) (d : Effects) → IsAt now e → Does look e x y d
+  one_after : (now : ℕ) (e : Exchange) (x y : ExecutorView D) (d : Effects) → IsAt now e → Does view e x y d
       → BackedBy (map answered (replies_of e)) d.events
   one_after now (Took (input.Request at (asked.Command c)) r) x y d is does = taken_after x.is_open at c x y r d does
   one_after now (Took (input.Request at (asked.Question q)) r) x y d is does = absurd is
@@ -146,7 +146,7 @@ module _ {D : Type 0} (look : D → View) where
   one_after now Cleared x y d is does = absurd is
   one_after now Abandoned x y d is does = absurd is
 
-  calls_sent : (now : ℕ) (es : List Exchange) (x y : ExecutorView D) (d : Effects) → AllByRecursion (IsAt now) es → Calls look x es y d
+  calls_sent : (now : ℕ) (es : List Exchange) (x y : ExecutorView D) (d : Effects) → AllByRecursion (IsAt now) es → Calls view x es y d
       → BackedBy (map answered (flat_map replies_of es)) d.events
   calls_sent now [] x y d at (same, none) = events_are [] d no_effects none nothing
   calls_sent now (e ∷ es) x y d at (mid, first, later, does, calls, is) =
@@ -155,64 +155,64 @@ module _ {D : Type 0} (look : D → View) where
       (both_after (map answered (replies_of e)) first.events (map answered (flat_map replies_of es)) later.events
       (one_after now e x mid first at.0 does) (calls_sent now es mid y later at.1 calls)))
 
-  pub commands_hold : (now : ℕ) (cs : List Command) (x y : ExecutorView D) (rs : List Reply) → TakesCommands look now cs x y rs
-      → IsBacked look x y (map answered rs)
+  pub commands_hold : (now : ℕ) (cs : List Command) (x y : ExecutorView D) (rs : List Reply) → TakesCommands view now cs x y rs
+      → IsBacked view x y (map answered rs)
   commands_hold now cs x y rs does =
-      let takes = commands_called look now cs rs x y does in record {
+      let takes = commands_called view now cs rs x y does in record {
         calls = takes.exchanges;
         effects = takes.effects;
         leads = takes.calls;
-        sends = subst (λ (ts : List Reply). SendsCalls look x takes.exchanges y takes.effects (map answered ts)) takes.answered
-            (commands_send look now takes.exchanges x y takes.effects takes.at_once takes.calls);
+        sends = subst (λ (ts : List Reply). SendsCalls view x takes.exchanges y takes.effects (map answered ts)) takes.answered
+            (commands_send view now takes.exchanges x y takes.effects takes.at_once takes.calls);
         backed = subst (λ (ts : List Reply). BackedBy (map answered ts) takes.effects.events) takes.answered
             (calls_sent now takes.exchanges x y takes.effects takes.at_once takes.calls);
       }
 
   -- a turn, a turn that begins nothing, a tidy, and an emptied book
-  pub turn_holds : (now : ℕ) (x y : ExecutorView D) (end : TurnEnd) → x.is_open ≡ true → TakesTurn look now x y end
-      → IsBacked look x y (noticed y)
+  pub turn_holds : (now : ℕ) (x y : ExecutorView D) (end : TurnEnd) → x.is_open ≡ true → TakesTurn view now x y end
+      → IsBacked view x y (noticed y)
   turn_holds now x y end is_open takes =
       one_holds x y (Took (input.Turn now) (reply.Turn end)) takes.turns.effects (noticed y)
       (while_open _ is_open (record { end = end; takes = takes; replies = refl; does = refl })) refl
       (turn_after y.children.book end _ takes.turns.effects y.reported takes.turns.does)
 
-  pub finish_holds : (now : ℕ) (x y : ExecutorView D) (end : TurnEnd) → x.is_open ≡ true → FinishesTurn look now x y end
-      → IsBacked look x y (noticed y)
+  pub finish_holds : (now : ℕ) (x y : ExecutorView D) (end : TurnEnd) → x.is_open ≡ true → FinishesTurn view now x y end
+      → IsBacked view x y (noticed y)
   finish_holds now x y end is_open takes =
       one_holds x y (Finished now end) takes.turns.effects (noticed y) (while_open _ is_open (takes, refl)) refl
       (finish_after y.children.book end _ takes.turns.effects y.reported takes.turns.does)
 
-  pub tidied_holds : (x y : ExecutorView D) (end : TidyEnd) → TidiesWhile x.is_open look x y end → IsBacked look x y []
+  pub tidied_holds : (x y : ExecutorView D) (end : TidyEnd) → TidiesWhile x.is_open view x y end → IsBacked view x y []
   tidied_holds x y end tidies = one_holds x y (Tidied end) no_effects [] (tidies, refl) refl nothing
 
-  pub tidy_holds : (x y : ExecutorView D) (end : TidyEnd) → x.is_open ≡ true → Tidies look x y end → IsBacked look x y []
+  pub tidy_holds : (x y : ExecutorView D) (end : TidyEnd) → x.is_open ≡ true → Tidies view x y end → IsBacked view x y []
   tidy_holds x y end is_open tidies =
       tidied_holds x y end (while_open _ is_open tidies)
 
-  pub cleared_holds : (x y : ExecutorView D) → y ≡ with_empty_book x → IsBacked look x y []
+  pub cleared_holds : (x y : ExecutorView D) → y ≡ with_empty_book x → IsBacked view x y []
   cleared_holds x y cleared = one_holds x y Cleared no_effects [] (cleared, refl) refl nothing
 
   -- what may be sent of an executor after calls
-  pub may_send : (client_view : ClientView D) (x y : ExecutorView D) (what : Message) → AllBacked look client_view x → IsBacked look x y (sent_in what)
-      → IsOfView y what → MaySend look client_view y what
+  pub may_send : (client_view : ClientView D) (x y : ExecutorView D) (what : Message) → AllBacked view client_view x → IsBacked view x y (sent_in what)
+      → IsOfView y what → MaySend view client_view y what
   may_send client_view x y what holds more says =
       record { holds = both_hold client_view.opened x y client_view.reported (sent_in what) holds more; says = says }
 
   -- calls of which nothing is sent
-  pub all_still_hold : (client_view : ClientView D) (x y : ExecutorView D) → AllBacked look client_view x → IsBacked look x y [] → AllBacked look client_view y
+  pub all_still_hold : (client_view : ClientView D) (x y : ExecutorView D) → AllBacked view client_view x → IsBacked view x y [] → AllBacked view client_view y
   all_still_hold client_view x y holds more = still_hold client_view.opened x y client_view.reported holds more
 
   -- a reply to a line, of an executor after calls
-  pub may_reply : (client_view : ClientView D) (x y : ExecutorView D) (given : LineReply) → AllBacked look client_view x
-      → IsBacked look x y (Answered given ∷ []) → MayReply y given → MayBeReplied look client_view y given
+  pub may_reply : (client_view : ClientView D) (x y : ExecutorView D) (given : LineReply) → AllBacked view client_view x
+      → IsBacked view x y (Answered given ∷ []) → MayReply y given → MayBeReplied view client_view y given
   may_reply client_view x y given holds more says = (both_hold client_view.opened x y client_view.reported (Answered given ∷ []) holds more, says)
 
   -- a reply that claims nothing
-  pub may_reply_none : (client_view : ClientView D) (x : ExecutorView D) (given : LineReply) → AllBacked look client_view x → claims (Answered given) ≡ false
-      → MayReply x given → MayBeReplied look client_view x given
+  pub may_reply_none : (client_view : ClientView D) (x : ExecutorView D) (given : LineReply) → AllBacked view client_view x → claims (Answered given) ≡ false
+      → MayReply x given → MayBeReplied view client_view x given
   may_reply_none client_view x given holds none says =
       may_reply client_view x x given holds (none_holds x x (Answered given ∷ []) refl (states_nothing (Answered given) none)) says
 
   -- all agent processes are given up
-  pub abandoned_holds : (x y : ExecutorView D) → y ≡ abandoned x → IsBacked look x y []
+  pub abandoned_holds : (x y : ExecutorView D) → y ≡ abandoned x → IsBacked view x y []
   abandoned_holds x y given_up = one_holds x y Abandoned no_effects [] (given_up, refl) refl nothing

@@ -54,9 +54,9 @@ module _ {D : Type 0} (z : ExecutorView D) where
   reply_plain e r (inr (inr (inl is))) = is_plain r _ is tt
   reply_plain e r (inr (inr (inr is))) = is_plain r _ is tt
 
-  pub obeys_plain : (look : D → View) (x y : ExecutorView D) (r : Reply) (found : Result Event Refusal) → Obeys look found (ledger_of x) (ledger_of y) r → Plain r
-  obeys_plain look x y r (Err why) (refused, same) = is_plain r _ refused tt
-  obeys_plain look x y r (Ok e) records = reply_plain e r records.reported
+  pub obeys_plain : (view : D → View) (x y : ExecutorView D) (r : Reply) (found : Result Event Refusal) → Obeys view found (ledger_of x) (ledger_of y) r → Plain r
+  obeys_plain view x y r (Err why) (refused, same) = is_plain r _ refused tt
+  obeys_plain view x y r (Ok e) records = reply_plain e r records.reported
 
   -- the replies to a batch
   adds_plain : (found : Result Event Refusal) (r : Reply) (es : List Event) → Adds found r es → Plain r
@@ -95,13 +95,13 @@ module _ {D : Type 0} (z : ExecutorView D) where
   batch_plain true now s cs meant es given = answered_plain now s cs meant es given
   batch_plain false now s cs meant es given = failed_plain meant
 
-  module _ (look : D → View) where
+  module _ (view : D → View) where
     taken_plain : (b : Bool) (at : ℕ) (c : Command) (x y : ExecutorView D) (r : Reply) (d : Effects)
-        → TakesWhile b look (input.Request at (asked.Command c)) x y r d → Plain r
-    taken_plain true at c x y r d takes = obeys_plain look x y r (event_of x.state at c) takes.serves.0
+        → TakesWhile b view (input.Request at (asked.Command c)) x y r d → Plain r
+    taken_plain true at c x y r d takes = obeys_plain view x y r (event_of x.state at c) takes.serves.0
     taken_plain false at c x y r d (refused, same, none) = is_plain r _ refused tt
 
-    one_plain : (now : ℕ) (e : Exchange) (x y : ExecutorView D) (d : Effects) → IsAt now e → Does look e x y d → AllByRecursion Plain (replies_of e)
+    one_plain : (now : ℕ) (e : Exchange) (x y : ExecutorView D) (d : Effects) → IsAt now e → Does view e x y d → AllByRecursion Plain (replies_of e)
     one_plain now (Took (input.Request at (asked.Command c)) r) x y d is does = (taken_plain x.is_open at c x y r d does, tt)
     one_plain now (Took (input.Request at (asked.Question q)) r) x y d is does = absurd is
     one_plain now (Took (input.Turn at) r) x y d is does = absurd is
@@ -113,16 +113,16 @@ module _ {D : Type 0} (z : ExecutorView D) where
     one_plain now Cleared x y d is does = absurd is
     one_plain now Abandoned x y d is does = absurd is
 
-    calls_plain : (now : ℕ) (es : List Exchange) (x y : ExecutorView D) (d : Effects) → AllByRecursion (IsAt now) es → Calls look x es y d
+    calls_plain : (now : ℕ) (es : List Exchange) (x y : ExecutorView D) (d : Effects) → AllByRecursion (IsAt now) es → Calls view x es y d
         → AllByRecursion Plain (flat_map replies_of es)
     calls_plain now [] x y d at calls = tt
     calls_plain now (e ∷ es) x y d at (mid, first, later, does, calls, is) =
         all_both Plain (replies_of e) (flat_map replies_of es) (one_plain now e x mid first at.0 does)
         (calls_plain now es mid y later at.1 calls)
 
-    pub commands_plain : (now : ℕ) (cs : List Command) (x y : ExecutorView D) (rs : List Reply) → TakesCommands look now cs x y rs
+    pub commands_plain : (now : ℕ) (cs : List Command) (x y : ExecutorView D) (rs : List Reply) → TakesCommands view now cs x y rs
         → AllByRecursion Plain rs
     commands_plain now cs x y rs takes =
-        let called = commands_called look now cs rs x y takes in
+        let called = commands_called view now cs rs x y takes in
         subst (λ (ts : List Reply). AllByRecursion Plain ts) called.answered
         (calls_plain now called.exchanges x y called.effects called.at_once called.calls)

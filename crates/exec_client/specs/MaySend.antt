@@ -24,11 +24,11 @@ use Rattle.exec_client.specs.declared.message.Message.TheVariants as message
 
 -- Calls lead from one view of an executor to another. The messages are exactly what these calls answered, with nothing left out, and the
 -- events that the calls recorded back them.
-pub record IsBacked {D : Type 0} (look : D → View) (old new : ExecutorView D) (items : List SentItem) : Type 0 where
+pub record IsBacked {D : Type 0} (view : D → View) (old new : ExecutorView D) (items : List SentItem) : Type 0 where
   pub calls : List Exchange
   pub effects : Effects
-  pub leads : Calls look old calls new effects
-  pub sends : SendsCalls look old calls new effects items
+  pub leads : Calls view old calls new effects
+  pub sends : SendsCalls view old calls new effects items
   pub backed : BackedBy items effects.events
 
 -- the reply is what an open executor answers to some question, from its state
@@ -69,13 +69,13 @@ IsOfView x (message.Report notices) = IsReported x notices.now
 
 -- all messages that were sent are backed by what the executor recorded since it was opened
 abbrev pub AllBacked : {D : Type 0} → (D → View) → ClientView D → ExecutorView D → Type 0
-AllBacked look client_view x = IsBacked look client_view.opened x client_view.reported
+AllBacked view client_view x = IsBacked view client_view.opened x client_view.reported
 
 -- This message may be sent to a client of an executor in this view: all that was sent is recorded, and so is this message.
-pub record MaySend {D : Type 0} (look : D → View) (client_view : ClientView D) (x : ExecutorView D) (what : Message) : Type 0 where
-  pub holds : IsBacked look client_view.opened x (client_view.reported ++ sent_in what)
+pub record MaySend {D : Type 0} (view : D → View) (client_view : ClientView D) (x : ExecutorView D) (what : Message) : Type 0 where
+  pub holds : IsBacked view client_view.opened x (client_view.reported ++ sent_in what)
   pub says : IsOfView x what
 
 -- this reply to a line may be sent
 abbrev pub MayBeReplied : {D : Type 0} → (D → View) → ClientView D → ExecutorView D → LineReply → Type 0
-MayBeReplied look client_view x given = IsBacked look client_view.opened x (client_view.reported ++ Answered given ∷ []) × MayReply x given
+MayBeReplied view client_view x given = IsBacked view client_view.opened x (client_view.reported ++ Answered given ∷ []) × MayReply x given

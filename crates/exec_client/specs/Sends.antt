@@ -29,8 +29,8 @@ ClaimsNothing items = AllByRecursion (λ s. claims s ≡ false) items
 -- Calls one after the other, of each of which exactly its answer was sent, with nothing left out. Between them are messages that belong to
 -- no call: a report, a refused line, metadata, the end of a drain or a tidy.
 abbrev pub SendsCalls : {D : Type 0} → (D → View) → ExecutorView D → List Exchange → ExecutorView D → Effects → List SentItem → Type 0
-SendsCalls look old [] new effects items = (new ≡ old) × (effects ≡ no_effects) × ClaimsNothing items
-SendsCalls {D} look old (e ∷ es) new effects items =
+SendsCalls view old [] new effects items = (new ≡ old) × (effects ≡ no_effects) × ClaimsNothing items
+SendsCalls {D} view old (e ∷ es) new effects items =
     (aside : List SentItem) × (mine : List SentItem) × (later : List SentItem) × (mid : ExecutorView D) × (first : Effects) × (rest : Effects)
-    × ClaimsNothing aside × Does look e old mid first × States e mid mine × SendsCalls look mid es new rest later
+    × ClaimsNothing aside × Does view e old mid first × States e mid mine × SendsCalls view mid es new rest later
     × (effects ≡ followed_by first rest) × (items ≡ aside ++ (mine ++ later))

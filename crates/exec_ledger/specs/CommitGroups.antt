@@ -23,18 +23,18 @@ replies_of (Batch cs rs) = rs
 
 -- what a ledger does with one at this moment
 abbrev pub TakesGroup : {D : Type 0} → (D → View) → ℕ → CommitGroup → LedgerView D → LedgerView D → Type 0
-TakesGroup look now (Single c r) old new = TakesCommand look now c old new r
-TakesGroup look now (Batch cs rs) old new = TakesBatch look now cs old new rs
+TakesGroup view now (Single c r) old new = TakesCommand view now c old new r
+TakesGroup view now (Batch cs rs) old new = TakesBatch view now cs old new rs
 
 -- one after the other
 abbrev pub TakesGroups : {D : Type 0} → (D → View) → ℕ → List CommitGroup → LedgerView D → LedgerView D → Type 0
-TakesGroups look now [] old new = new ≡ old
-TakesGroups {D} look now (s ∷ ss) old new = (mid : LedgerView D) × TakesGroup look now s old mid × TakesGroups look now ss mid new
+TakesGroups view now [] old new = new ≡ old
+TakesGroups {D} view now (s ∷ ss) old new = (mid : LedgerView D) × TakesGroup view now s old mid × TakesGroups view now ss mid new
 
 -- A ledger takes commands one after the other at this moment, none left out, each with one reply: those of a batch have one
 -- record.
-pub record TakesCommands {D : Type 0} (look : D → View) (now : ℕ) (commands : List Command) (old new : LedgerView D) (given : List Reply) : Type 0 where
+pub record TakesCommands {D : Type 0} (view : D → View) (now : ℕ) (commands : List Command) (old new : LedgerView D) (given : List Reply) : Type 0 where
   pub groups : List CommitGroup
-  pub takes : TakesGroups look now groups old new
+  pub takes : TakesGroups view now groups old new
   pub asked : flat_map commands_of groups ≡ commands
   pub answered : flat_map replies_of groups ≡ given

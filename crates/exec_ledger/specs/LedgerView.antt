@@ -46,13 +46,13 @@ due_in h = due_of h.monitors
 
 -- its journal is settled at its state, if its disk is honest
 abbrev pub IsOnJournal : {D : Type 0} → (D → View) → LedgerView D → Type 0
-IsOnJournal look h = (look h.disk).honest → IsSettled h.place h.state (look h.disk)
+IsOnJournal view h = (view h.disk).honest → IsSettled h.place h.state (view h.disk)
 
 -- Its journal is settled at its state, and its reserve holds the results of what runs and a boot.
-pub record LedgerKeeps {D : Type 0} (look : D → View) (h : LedgerView D) : Type 0 where
-  pub journal : IsOnJournal look h
+pub record LedgerKeeps {D : Type 0} (view : D → View) (h : LedgerView D) : Type 0 where
+  pub journal : IsOnJournal view h
   pub room : HasReserve h.place.tail h.state
 
 -- the invariant: the same while it is open
 abbrev pub LedgerInvariant : {D : Type 0} → (D → View) → LedgerView D → Type 0
-LedgerInvariant look h = h.is_open ≡ true → LedgerKeeps look h
+LedgerInvariant view h = h.is_open ≡ true → LedgerKeeps view h

@@ -16,10 +16,10 @@ abbrev pub once_word : List ℕ
 once_word = codes "once"
 
 -- a subcommand only reads a journal, which another process may have open, and starts no agent
-abbrev pub is_look : Subcommand → Bool
-is_look Run = false
-is_look Serve = false
-is_look Show = true
-is_look Status = true
-is_look Log = true
-is_look Metrics = true
+abbrev pub is_query : Subcommand → Bool
+is_query Run = false
+is_query Serve = false
+is_query Show = true
+is_query Status = true
+is_query Log = true
+is_query Metrics = true

@@ -14,7 +14,7 @@ use Rattle.exec_options.specs.declared.options.Subcommand.{Subcommand}
 use Rattle.exec_options.specs.declared.options.JournalPlace.{JournalPlace}
 use Rattle.exec_options.specs.declared.options.JournalPlace.TheVariants.{Folder, Memory}
 use Rattle.exec_options.specs.App.{default_id, default_orphans, default_path, default_root, default_tidy_at, default_timeout, ocfexec_app}
-use Rattle.exec_options.specs.Subcommands.{is_look, once_word, subcommand_word}
+use Rattle.exec_options.specs.Subcommands.{is_query, once_word, subcommand_word}
 
 -- the directory of a journal; `None` for one in memory
 abbrev pub folder_of : JournalPlace → Option Text
@@ -33,7 +33,7 @@ package_folder = codes "/var/lib/ocfexec"
 -- the directory that is read if no journal is named: the one that the environment names, or the package's; a subcommand that starts
 -- agents has none
 abbrev pub default_folder : Subcommand → Option Text → Option Text
-default_folder s named = if is_look s then Some (unwrap_or named package_folder) else None
+default_folder s named = if is_query s then Some (unwrap_or named package_folder) else None
 
 -- where the journal is kept: a directory, or `Some None` for memory, from the text of `--journal` and whether `--memory` is given; `None`
 -- if both are given, or neither and there is no default

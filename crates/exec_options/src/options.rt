@@ -1,7 +1,7 @@
 //! The options of the subcommands with a journal.
 ghost use Rattle.std.specs.Prelude.{◌≡◌, ◌≢◌, IfSome, IfNone};
 ghost use Rattle.exec_options.specs.declared.options.Subcommand.{Subcommand};
-ghost use Rattle.exec_options.specs.Subcommands.{is_look, subcommand_word};
+ghost use Rattle.exec_options.specs.Subcommands.{is_query, subcommand_word};
 
 /// A subcommand that has a journal.
 #[derive(Clone, Copy, Debug, PartialEq, Eq)]
@@ -44,8 +44,8 @@ impl Subcommand {
     }
 
     /// Whether it only reads a journal, which another process may have open, and starts no agent.
-    pub fn is_look(self) -> bool
-        ensures { result ≡ is_look self }
+    pub fn is_query(self) -> bool
+        ensures { result ≡ is_query self }
     {
         !matches!(self, Subcommand::Run | Subcommand::Serve)
     }

@@ -47,7 +47,7 @@ fn default_folder<'a>(subcommand: Subcommand, named: Option<&'a str>) -> Option<
     ensures { option_map (λ s. s.now) result
         ≡ default_folder subcommand (option_map (λ s. s.now) named.entry) }
 {
-    if subcommand.is_look() {
+    if subcommand.is_query() {
         Some(named.unwrap_or(JOURNAL))
     } else {
         None

@@ -21,17 +21,17 @@ use Rattle.exec_program.specs.Runs.{RunsOn}
 
 -- a session over a fresh disk in memory
 pub runs_in_memory : {F L A S R W H : Type 0} (refuses : Bool) (asked : Asked F L A S R W H) (tend : A → ChildrenView) (gives : S → Source)
-    (left : R → Option (List ℕ)) (contents : W → Option (List ℕ)) (look : F → View) (o : Options) (log : L) (place : JournalPlace)
+    (left : R → Option (List ℕ)) (contents : W → Option (List ℕ)) (view : F → View) (o : Options) (log : L) (place : JournalPlace)
     (disk : RamDisk Global) (ended : Result Unit Fault) → place ≡ Memory → IsFresh (record { a = []; b = [] }) disk
     → RunsOn asked tend gives left contents view_of o log disk ended → IfErr ended (HasCause refuses)
-    → RunsAt refuses asked tend gives left contents look o log place ended
-runs_in_memory refuses asked tend gives left contents look o log place disk ended is fresh runs cause =
-    subst (λ (x : JournalPlace). RunsAt refuses asked tend gives left contents look o log x ended) (sym is) (disk, fresh, runs, cause)
+    → RunsAt refuses asked tend gives left contents view o log place ended
+runs_in_memory refuses asked tend gives left contents view o log place disk ended is fresh runs cause =
+    subst (λ (x : JournalPlace). RunsAt refuses asked tend gives left contents view o log x ended) (sym is) (disk, fresh, runs, cause)
 
 -- an action that was run once
 pub does_once : {F L A S R W H : Type 0} (refuses : Bool) (asked : Asked F L A S R W H) (tend : A → ChildrenView) (gives : S → Source)
-    (left : R → Option (List ℕ)) (contents : W → Option (List ℕ)) (look : F → View) (named : Option (List ℕ)) (words : List (List ℕ))
+    (left : R → Option (List ℕ)) (contents : W → Option (List ℕ)) (view : F → View) (named : Option (List ℕ)) (words : List (List ℕ))
     (w : Wanted) (o : OnceOptions) (status : ℕ) → AsksFor named words w → w ≡ wanted.Once o → asked.once o status
-    → Does refuses asked tend gives left contents look named words (Ok status)
-does_once refuses asked tend gives left contents look named words w o status asks is ran =
+    → Does refuses asked tend gives left contents view named words (Ok status)
+does_once refuses asked tend gives left contents view named words w o status asks is ran =
     inr (inl (o, subst (λ (x : Wanted). AsksFor named words x) is asks, (status, ran, refl)))

@@ -16,23 +16,23 @@ use Rattle.exec_program.specs.Requests.{AskSite, AwaitOrphans, LeaveWord, MakeAg
 use Rattle.exec_program.specs.Requests.{PrintText, RunOnce, ShowJournal, WatchPaths, WriteLine}
 
 -- where the arguments ask for a journal, the requests of its subcommand are allowed
-pub allows_journal : {F L A S R W H : Type 0} (asked : Asked F L A S R W H) (look : F → View) (named : Option (List ℕ)) (words : List (List ℕ))
+pub allows_journal : {F L A S R W H : Type 0} (asked : Asked F L A S R W H) (view : F → View) (named : Option (List ℕ)) (words : List (List ℕ))
     (may : Request L → Type 0) (w : Wanted) (o : Options) → AsksFor named words w → w ≡ wanted.Journal o
-    → Allows may (IsAskedFor asked look named words) → Allows may (IsOfSubcommand asked look o o.subcommand)
-allows_journal asked look named words may w o asks is allows r h =
+    → Allows may (IsAskedFor asked view named words) → Allows may (IsOfSubcommand asked view o o.subcommand)
+allows_journal asked view named words may w o asks is allows r h =
     allows r (inl (o, subst (λ (x : Wanted). AsksFor named words x) is asks, h))
 
 -- where they ask for one action by itself, that request is allowed
-pub allows_once : {F L A S R W H : Type 0} (asked : Asked F L A S R W H) (look : F → View) (named : Option (List ℕ)) (words : List (List ℕ))
+pub allows_once : {F L A S R W H : Type 0} (asked : Asked F L A S R W H) (view : F → View) (named : Option (List ℕ)) (words : List (List ℕ))
     (may : Request L → Type 0) (w : Wanted) (o : OnceOptions) → AsksFor named words w → w ≡ wanted.Once o
-    → Allows may (IsAskedFor asked look named words) → may (RunOnce o)
-allows_once asked look named words may w o asks is allows =
+    → Allows may (IsAskedFor asked view named words) → may (RunOnce o)
+allows_once asked view named words may w o asks is allows =
     allows (RunOnce o) (inr (inl (o, subst (λ (x : Wanted). AsksFor named words x) is asks, refl)))
 
 -- the same of a subcommand that is known
-pub allows_as : {F L A S R W H : Type 0} (asked : Asked F L A S R W H) (look : F → View) (may : Request L → Type 0) (o : Options)
-    (s t : Subcommand) → s ≡ t → Allows may (IsOfSubcommand asked look o s) → Allows may (IsOfSubcommand asked look o t)
-allows_as asked look may o s t is allows = subst (λ (x : Subcommand). Allows may (IsOfSubcommand asked look o x)) is allows
+pub allows_as : {F L A S R W H : Type 0} (asked : Asked F L A S R W H) (view : F → View) (may : Request L → Type 0) (o : Options)
+    (s t : Subcommand) → s ≡ t → Allows may (IsOfSubcommand asked view o s) → Allows may (IsOfSubcommand asked view o t)
+allows_as asked view may o s t is allows = subst (λ (x : Subcommand). Allows may (IsOfSubcommand asked view o x)) is allows
 
 -- the requests about the journal's directory at some of these states are requests about it at all of them
 more_found : {L : Type 0} (found more : State → Type 0) (o : Options)
@@ -64,15 +64,15 @@ allows_less : {F L A S R W H : Type 0} (asked : Asked F L A S R W H) (may : Requ
 allows_less asked may found more o holds allows r h = allows r (more_in_run asked found more o holds r h)
 
 -- a session over files that were asked for, and one in memory, which has no directory
-pub allows_on_files : {F L A S R W H : Type 0} (asked : Asked F L A S R W H) (look : F → View) (may : Request L → Type 0) (o : Options)
+pub allows_on_files : {F L A S R W H : Type 0} (asked : Asked F L A S R W H) (view : F → View) (may : Request L → Type 0) (o : Options)
     (folder : Bor (List ℕ)) (disk : F) → o.journal ≡ Folder folder → asked.files folder.now o.any_owner disk
-    → Allows may (IsOfRun (IsFoundIn asked look o) asked o) → Allows may (IsOfRun (IsFoundOn look disk) asked o)
-allows_on_files asked look may o folder disk is given =
-    allows_less asked may (IsFoundOn look disk) (IsFoundIn asked look o) o (λ d s names found. (folder.now, (disk, ap folder_of is, given, found)))
+    → Allows may (IsOfRun (IsFoundIn asked view o) asked o) → Allows may (IsOfRun (IsFoundOn view disk) asked o)
+allows_on_files asked view may o folder disk is given =
+    allows_less asked may (IsFoundOn view disk) (IsFoundIn asked view o) o (λ d s names found. (folder.now, (disk, ap folder_of is, given, found)))
 
-pub allows_in_memory : {F L A S R W H D : Type 0} (asked : Asked F L A S R W H) (look : F → View) (view : D → View) (may : Request L → Type 0)
+pub allows_in_memory : {F L A S R W H D : Type 0} (asked : Asked F L A S R W H) (view : F → View) (view : D → View) (may : Request L → Type 0)
     (o : Options) (disk : D) → o.journal ≡ Memory
-    → Allows may (IsOfRun (IsFoundIn asked look o) asked o) → Allows may (IsOfRun (IsFoundOn view disk) asked o)
-allows_in_memory asked look view may o disk is =
-    allows_less asked may (IsFoundOn view disk) (IsFoundIn asked look o) o
+    → Allows may (IsOfRun (IsFoundIn asked view o) asked o) → Allows may (IsOfRun (IsFoundOn view disk) asked o)
+allows_in_memory asked view view may o disk is =
+    allows_less asked may (IsFoundOn view disk) (IsFoundIn asked view o) o
     (λ d s names found. let none : None ≡ Some d = sym (ap folder_of is) ∙ names in cc)

@@ -33,10 +33,10 @@ edge_begins from left opened x reported written held is e f h =
     is ∙ ap (λ (a : ClientView _). edge_with left a) (client_view_is opened x reported written held e f h)
 
 -- how a session ended that began like this, with metadata from this source
-pub ended_from : {D C N S : Type 0} (look : D → View) (tend : C → ChildrenView) (gives : S → Source) (s source : S) (rules : Rules)
+pub ended_from : {D C N S : Type 0} (view : D → View) (tend : C → ChildrenView) (gives : S → Source) (s source : S) (rules : Rules)
     (report : Report N) (x : ExecutorView D) (from begins edge : EdgeView D) (ended : Result Unit Fault) (disk : D) (children : C)
-    → s ≡ source → from ≡ begins → Ended look tend (gives s) rules report (at_of x from) edge ended disk children
-    → Ended look tend (gives source) rules report (at_of x begins) edge ended disk children
-ended_from {S = S} look tend gives s source rules report x from begins edge ended disk children same is ends =
-    subst (λ (y : S). Ended look tend (gives y) rules report (at_of x begins) edge ended disk children) same
-    (subst (λ (y : EdgeView _). Ended look tend (gives s) rules report (at_of x y) edge ended disk children) is ends)
+    → s ≡ source → from ≡ begins → Ended view tend (gives s) rules report (at_of x from) edge ended disk children
+    → Ended view tend (gives source) rules report (at_of x begins) edge ended disk children
+ended_from {S = S} view tend gives s source rules report x from begins edge ended disk children same is ends =
+    subst (λ (y : S). Ended view tend (gives y) rules report (at_of x begins) edge ended disk children) same
+    (subst (λ (y : EdgeView _). Ended view tend (gives s) rules report (at_of x y) edge ended disk children) is ends)

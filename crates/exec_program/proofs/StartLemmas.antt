@@ -25,34 +25,34 @@ use Rattle.journal_folder.specs.Ends.{IsFolderEnd}
 use Rattle.exec_program.specs.Starts.{EndsFor, IsEndOf, IsWrittenAs, StartEndsFor, opening_fault, with_status}
 
 -- a session does not end because of its arguments
-ends : {D N T : Type 0} (look : D → View) (source : Source) (rules : Rules) (report : Report N)
+ends : {D N T : Type 0} (view : D → View) (source : Source) (rules : Rules) (report : Report N)
     (p q : Position D) (r : Result T Fault)
-    → EndsAs look source rules report p q r → IsRunEnd r
-ends look source rules report p q (Ok done) how = tt
-ends look source rules report p q (Err fault.Usage) how = absurd how
-ends look source rules report p q (Err fault.Choice) how = absurd how
-ends look source rules report p q (Err fault.TidyAt) how = absurd how
-ends look source rules report p q (Err fault.Root) how = absurd how
-ends look source rules report p q (Err fault.Orphans) how = absurd how
-ends look source rules report p q (Err fault.NotText) how = absurd how
-ends look source rules report p q (Err fault.Log) how = absurd how
-ends look source rules report p q (Err fault.NoResource) how = absurd how
-ends look source rules report p q (Err fault.NotOpened) how = absurd how
-ends look source rules report p q (Err fault.NoJournal) how = absurd how
-ends look source rules report p q (Err fault.NotWell) how = absurd how
-ends look source rules report p q (Err (fault.Damaged damage)) how = tt
-ends look source rules report p q (Err fault.Memory) how = absurd how
-ends look source rules report p q (Err fault.Disk) how = tt
-ends look source rules report p q (Err fault.Full) how = tt
-ends look source rules report p q (Err fault.InputOrOutput) how = tt
-ends look source rules report p q (Err fault.ReplyMemory) how = tt
-ends look source rules report p q (Err fault.ChildrenIgnored) how = absurd how
+    → EndsAs view source rules report p q r → IsRunEnd r
+ends view source rules report p q (Ok done) how = tt
+ends view source rules report p q (Err fault.Usage) how = absurd how
+ends view source rules report p q (Err fault.Choice) how = absurd how
+ends view source rules report p q (Err fault.TidyAt) how = absurd how
+ends view source rules report p q (Err fault.Root) how = absurd how
+ends view source rules report p q (Err fault.Orphans) how = absurd how
+ends view source rules report p q (Err fault.NotText) how = absurd how
+ends view source rules report p q (Err fault.Log) how = absurd how
+ends view source rules report p q (Err fault.NoResource) how = absurd how
+ends view source rules report p q (Err fault.NotOpened) how = absurd how
+ends view source rules report p q (Err fault.NoJournal) how = absurd how
+ends view source rules report p q (Err fault.NotWell) how = absurd how
+ends view source rules report p q (Err (fault.Damaged damage)) how = tt
+ends view source rules report p q (Err fault.Memory) how = absurd how
+ends view source rules report p q (Err fault.Disk) how = tt
+ends view source rules report p q (Err fault.Full) how = tt
+ends view source rules report p q (Err fault.InputOrOutput) how = tt
+ends view source rules report p q (Err fault.ReplyMemory) how = tt
+ends view source rules report p q (Err fault.ChildrenIgnored) how = absurd how
 
-pub run_ends : {D C N : Type 0} (look : D → View) (tend : C → ChildrenView) (source : Source) (rules : Rules) (report : Report N)
+pub run_ends : {D C N : Type 0} (view : D → View) (tend : C → ChildrenView) (source : Source) (rules : Rules) (report : Report N)
     (p : Position D) (edge : EdgeView D) (ended : Result Unit Fault) (disk : D) (children : C)
-    → Ended look tend source rules report p edge ended disk children → IsRunEnd ended
-run_ends look tend source rules report p edge ended disk children ends_so =
-    ends look source rules report p (position (spot ends_so.last edge.client_view edge.events) edge.left) ended ends_so.ends
+    → Ended view tend source rules report p edge ended disk children → IsRunEnd ended
+run_ends view tend source rules report p edge ended disk children ends_so =
+    ends view source rules report p (position (spot ends_so.last edge.client_view edge.events) edge.left) ended ends_so.ends
 
 -- a session whose report nobody reads does not end because of its arguments, and neither does one that ended as sessions do
 pub unheard_ends : (T : Type 0) (f : Fault) → f ≡ fault.InputOrOutput → IsRunEnd {T = T} (Err f)

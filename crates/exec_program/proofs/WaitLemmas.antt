@@ -14,13 +14,13 @@ use Rattle.exec_program.specs.Starts.{site_of}
 use Rattle.exec_program.specs.Waits.{WaitsAt, WaitsFor}
 
 -- a journal in a directory was read, and the program waited for what is left, at the site of the options
-pub waits_in : {F L A S R W H D : Type 0} (asked : Asked F L A S R W H) (look : D → View) (o : Options) (old under new : D) (left : List Left)
+pub waits_in : {F L A S R W H D : Type 0} (asked : Asked F L A S R W H) (view : D → View) (o : Options) (old under new : D) (left : List Left)
     (place : JournalPlace) (folder : Bor (List ℕ)) (p : Place) (s : State) (site : SiteView)
-    → place ≡ Folder folder → OpensAt p s (look old) (look under) → new ≡ under → site ≡ site_of o
-    → asked.orphans folder.now o.orphans o.leave_orphans site s (Some left) → WaitsFor asked look o old new left place
-waits_in asked look o old under new left place folder p s site is found same at waited =
-    let reads : OpensAt p s (look old) (look new) = subst (λ (d : _). OpensAt p s (look old) (look d)) (sym same) found in
+    → place ≡ Folder folder → OpensAt p s (view old) (view under) → new ≡ under → site ≡ site_of o
+    → asked.orphans folder.now o.orphans o.leave_orphans site s (Some left) → WaitsFor asked view o old new left place
+waits_in asked view o old under new left place folder p s site is found same at waited =
+    let reads : OpensAt p s (view old) (view new) = subst (λ (d : _). OpensAt p s (view old) (view d)) (sym same) found in
     let receives : asked.orphans folder.now o.orphans o.leave_orphans (site_of o) s (Some left) =
     subst (λ (x : SiteView). asked.orphans folder.now o.orphans o.leave_orphans x s (Some left)) at waited in
-    let waits : WaitsAt asked o folder.now (look old) (look new) (Some left) = record { place = p; state = s; found = reads; waited = receives } in
-    subst (λ (x : JournalPlace). WaitsFor asked look o old new left x) (sym is) (inl waits)
+    let waits : WaitsAt asked o folder.now (view old) (view new) (Some left) = record { place = p; state = s; found = reads; waited = receives } in
+    subst (λ (x : JournalPlace). WaitsFor asked view o old new left x) (sym is) (inl waits)

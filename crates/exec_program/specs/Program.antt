@@ -32,29 +32,29 @@ Looks asked o Memory ended = asked.shown o None ended
 -- or over a fresh disk in memory. Over a disk it ends for want of memory only where the allocator refuses growths.
 abbrev pub RunsAt : {F L A S R W H : Type 0} → Bool → Asked F L A S R W H → (A → ChildrenView) → (S → Source)
     → (R → Option (List ℕ)) → (W → Option (List ℕ)) → (F → View) → Options → L → JournalPlace → Result Unit Fault → Type 0
-RunsAt {F} refuses asked tend gives left contents look o log (Folder folder) ended =
-    ((disk : F) × asked.files folder.now o.any_owner disk × RunsOn asked tend gives left contents look o log disk ended × IfErr ended (HasCause refuses))
+RunsAt {F} refuses asked tend gives left contents view o log (Folder folder) ended =
+    ((disk : F) × asked.files folder.now o.any_owner disk × RunsOn asked tend gives left contents view o log disk ended × IfErr ended (HasCause refuses))
     ⊎ ((f : Fault) × asked.no_files folder.now o.any_owner f × (ended ≡ Err f))
-RunsAt refuses asked tend gives left contents look o log Memory ended =
+RunsAt refuses asked tend gives left contents view o log Memory ended =
     (disk : RamDisk Global) × IsFresh (record { a = []; b = [] }) disk × RunsOn asked tend gives left contents view_of o log disk ended
     × IfErr ended (HasCause refuses)
 
 -- the same where the end of an agent process would be seen, and agents write where the options say
 abbrev pub RunsFor : {F L A S R W H : Type 0} → Bool → Asked F L A S R W H → (A → ChildrenView) → (S → Source)
     → (R → Option (List ℕ)) → (W → Option (List ℕ)) → (F → View) → Options → Result Unit Fault → Type 0
-RunsFor {L = L} refuses asked tend gives left contents look o ended =
+RunsFor {L = L} refuses asked tend gives left contents view o ended =
     ((ended ≡ Err fault.ChildrenIgnored) × asked.ignored true)
     ⊎ (((ended ≡ Err fault.Log) × ((is_some o.log || is_some o.logs) ≡ true)
     × asked.no_log (option_map (λ s. s.now) o.log) (option_map (λ s. s.now) o.logs))
     ⊎ ((log : L) × asked.ignored false × asked.log (option_map (λ s. s.now) o.log) (option_map (λ s. s.now) o.logs) log
-    × RunsAt refuses asked tend gives left contents look o log o.journal ended))
+    × RunsAt refuses asked tend gives left contents view o log o.journal ended))
 
 -- what a subcommand does with a journal, by these options
 abbrev pub DoesAs : {F L A S R W H : Type 0} → Bool → Asked F L A S R W H → (A → ChildrenView) → (S → Source)
     → (R → Option (List ℕ)) → (W → Option (List ℕ)) → (F → View) → Options → Subcommand → Result Unit Fault → Type 0
-DoesAs refuses asked tend gives left contents look o subcommand.Run ended = RunsFor refuses asked tend gives left contents look o ended
-DoesAs refuses asked tend gives left contents look o subcommand.Serve ended = RunsFor refuses asked tend gives left contents look o ended
-DoesAs refuses asked tend gives left contents look o _ ended = Looks asked o o.journal ended
+DoesAs refuses asked tend gives left contents view o subcommand.Run ended = RunsFor refuses asked tend gives left contents view o ended
+DoesAs refuses asked tend gives left contents view o subcommand.Serve ended = RunsFor refuses asked tend gives left contents view o ended
+DoesAs refuses asked tend gives left contents view o _ ended = Looks asked o o.journal ended
 
 -- where arguments give no options and a text answers them, that text is printed
 abbrev pub Prints : {F L A S R W H : Type 0} → Asked F L A S R W H → WordsFault → Type 0
@@ -67,9 +67,9 @@ Prints asked _ = ⊤
 -- where the allocator refuses growths.
 abbrev pub Does : {F L A S R W H : Type 0} → Bool → Asked F L A S R W H → (A → ChildrenView) → (S → Source)
     → (R → Option (List ℕ)) → (W → Option (List ℕ)) → (F → View) → Option (List ℕ) → List (List ℕ) → Result ℕ Fault → Type 0
-Does refuses asked tend gives left contents look named words ended =
+Does refuses asked tend gives left contents view named words ended =
     ((o : Options) × Gives named words o
-    × ((r : Result Unit Fault) × DoesAs refuses asked tend gives left contents look o o.subcommand r × (ended ≡ with_status r)))
+    × ((r : Result Unit Fault) × DoesAs refuses asked tend gives left contents view o o.subcommand r × (ended ≡ with_status r)))
     ⊎ (((o : OnceOptions) × GivesOnce words o × ((status : ℕ) × asked.once o status × (ended ≡ Ok status)))
     ⊎ ((f : WordsFault) × IsFault named words f × (f ≡ words_fault.Memory → IsTrue refuses)
     × ((r : Result Unit Fault) × IsWrittenAs f r × Prints asked f × (ended ≡ with_status r))))

@@ -46,12 +46,12 @@ Allows {L} may asks = (r : Request L) → asks r → may r
 
 -- a state at which the journal on this disk opens
 abbrev pub IsFoundOn : {D : Type 0} → (D → View) → D → State → Type 0
-IsFoundOn {D} look disk state = (p : Place) × ((new : D) × OpensAt p state (look disk) (look new))
+IsFoundOn {D} view disk state = (p : Place) × ((new : D) × OpensAt p state (view disk) (view new))
 
 -- the same on files that were asked for, of the directory that the options name
 abbrev pub IsFoundIn : {F L A S R W H : Type 0} → Asked F L A S R W H → (F → View) → Options → State → Type 0
-IsFoundIn {F} asked look o state =
-    (folder : List ℕ) × ((disk : F) × (folder_of o.journal ≡ Some folder) × asked.files folder o.any_owner disk × IsFoundOn look disk state)
+IsFoundIn {F} asked view o state =
+    (folder : List ℕ) × ((disk : F) × (folder_of o.journal ≡ Some folder) × asked.files folder o.any_owner disk × IsFoundOn view disk state)
 
 -- the requests of a session about the directory of its journal, which opens at these states
 abbrev pub IsOfFolder : {L : Type 0} → (State → Type 0) → Options → Request L → Type 0
@@ -89,9 +89,9 @@ IsOfLook o _ = ⊥
 
 -- the requests of a subcommand, by these options
 abbrev pub IsOfSubcommand : {F L A S R W H : Type 0} → Asked F L A S R W H → (F → View) → Options → Subcommand → Request L → Type 0
-IsOfSubcommand asked look o subcommand.Run r = IsOfRun (IsFoundIn asked look o) asked o r
-IsOfSubcommand asked look o subcommand.Serve r = IsOfRun (IsFoundIn asked look o) asked o r
-IsOfSubcommand asked look o _ r = IsOfLook o r
+IsOfSubcommand asked view o subcommand.Run r = IsOfRun (IsFoundIn asked view o) asked o r
+IsOfSubcommand asked view o subcommand.Serve r = IsOfRun (IsFoundIn asked view o) asked o r
+IsOfSubcommand asked view o _ r = IsOfLook o r
 
 -- the text that answers arguments which give no options
 abbrev pub IsOfFault : {L : Type 0} → WordsFault → Request L → Type 0
@@ -101,6 +101,6 @@ IsOfFault fault _ = ⊥
 -- These arguments call for this request, where the environment names this directory for a journal: by the options of a subcommand, to run
 -- one action, or to print a text.
 abbrev pub IsAskedFor : {F L A S R W H : Type 0} → Asked F L A S R W H → (F → View) → Option (List ℕ) → List (List ℕ) → Request L → Type 0
-IsAskedFor asked look named words r =
-    ((o : Options) × Gives named words o × IsOfSubcommand asked look o o.subcommand r)
+IsAskedFor asked view named words r =
+    ((o : Options) × Gives named words o × IsOfSubcommand asked view o o.subcommand r)
     ⊎ (((o : OnceOptions) × GivesOnce words o × (r ≡ RunOnce o)) ⊎ ((f : WordsFault) × IsFault named words f × IsOfFault f r))

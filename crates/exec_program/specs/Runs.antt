@@ -86,17 +86,17 @@ EndsBy asked o watch ran ended =
 
 -- What a session is given before its executor is opened: its agents, which write to this log, with a book of the capacity that a turn
 -- needs; the wait for what is left, which takes its disk from one state to another; and the time of the opening.
-pub record PreparedRun {F L A S R W H D : Type 0} (asked : Asked F L A S R W H) (tend : A → ChildrenView) (look : D → View) (o : Options)
+pub record PreparedRun {F L A S R W H D : Type 0} (asked : Asked F L A S R W H) (tend : A → ChildrenView) (view : D → View) (o : Options)
     (log : L) (old new : D) (agents : A) (left : List Left) (now : ℕ) : Type 0 where
   pub logs : asked.agents log agents
   pub fresh : tend agents ≡ fresh_agents book_room
-  pub waited : WaitsFor asked look o old new left o.journal
+  pub waited : WaitsFor asked view o old new left o.journal
   pub shown : asked.moment now
 
 -- An executor was opened over this disk, at the site that the options name, and the session that began then ended like this. Its report
 -- is the opening's, and is the first output (`Ended`: `Runs`).
 pub record Runs {F L A S R W H D : Type 0} (asked : Asked F L A S R W H) (tend : A → ChildrenView) (gives : S → Source)
-    (left : R → Option (List ℕ)) (contents : W → Option (List ℕ)) (look : D → View) (o : Options) (log : L) (begun : D)
+    (left : R → Option (List ℕ)) (contents : W → Option (List ℕ)) (view : D → View) (o : Options) (log : L) (begun : D)
     (ended : Result Unit Fault) : Type 0 where
   pub agents : A
   pub source : S
@@ -113,8 +113,8 @@ pub record Runs {F L A S R W H D : Type 0} (asked : Asked F L A S R W H) (tend :
   pub ran : Result Unit Fault
   pub last_disk : D
   pub last_agents : A
-  pub holds : PreparedRun asked tend look o log begun disk agents lives now
-  pub opened : Opened look (look disk) (tend agents) now executor report.interrupted.items report.dropped.items
+  pub holds : PreparedRun asked tend view o log begun disk agents lives now
+  pub opened : Opened view (view disk) (tend agents) now executor report.interrupted.items report.dropped.items
   pub at_site : executor.site ≡ site_of o
   pub of_site : asked.source (site_of o) source
   pub word : LeavesWord asked o.journal
@@ -122,13 +122,13 @@ pub record Runs {F L A S R W H D : Type 0} (asked : Asked F L A S R W H) (tend :
   pub writes : asked.writer (served_folder o) writer
   pub watches : asked.watch (served_folder o) watch
   pub held : IsHeldTo o lives rules
-  pub runs : Ended look tend (gives source) rules report
+  pub runs : Ended view tend (gives source) rules report
       (at_of executor (record { left = left reader; client_view = record { opened = executor; reported = []; written = contents writer }; events = [] }))
       edge ran last_disk last_agents
   pub ends : EndsBy asked o watch ran ended
 
 -- No executor was opened over this disk, for this cause.
-pub record RunsNot {F L A S R W H D : Type 0} (asked : Asked F L A S R W H) (tend : A → ChildrenView) (look : D → View) (o : Options)
+pub record RunsNot {F L A S R W H D : Type 0} (asked : Asked F L A S R W H) (tend : A → ChildrenView) (view : D → View) (o : Options)
     (log : L) (begun : D) (ended : Result Unit Fault) : Type 0 where
   pub agents : A
   pub last_agents : A
@@ -137,15 +137,15 @@ pub record RunsNot {F L A S R W H D : Type 0} (asked : Asked F L A S R W H) (ten
   pub lives : List Left
   pub now : ℕ
   pub why : OpenError
-  pub holds : PreparedRun asked tend look o log begun disk agents lives now
-  pub refused : NotOpened (look disk) (look last_disk) (tend agents) (tend last_agents) now why
+  pub holds : PreparedRun asked tend view o log begun disk agents lives now
+  pub refused : NotOpened (view disk) (view last_disk) (tend agents) (tend last_agents) now why
   pub ends : ended ≡ Err (opening_fault why)
 
 -- How the program ends over a disk: with a session; because no executor was opened; for want of memory before the disk was asked for
 -- anything; or because nobody reads which processes live on.
 abbrev pub RunsOn : {F L A S R W H D : Type 0} → Asked F L A S R W H → (A → ChildrenView) → (S → Source)
     → (R → Option (List ℕ)) → (W → Option (List ℕ)) → (D → View) → Options → L → D → Result Unit Fault → Type 0
-RunsOn asked tend gives left contents look o log begun ended =
-    Runs asked tend gives left contents look o log begun ended
-    ⊎ (RunsNot asked tend look o log begun ended
-    ⊎ ((ended ≡ Err fault.Memory) ⊎ ((ended ≡ Err fault.InputOrOutput) × IsUnheard asked look o begun o.journal)))
+RunsOn asked tend gives left contents view o log begun ended =
+    Runs asked tend gives left contents view o log begun ended
+    ⊎ (RunsNot asked tend view o log begun ended
+    ⊎ ((ended ≡ Err fault.Memory) ⊎ ((ended ≡ Err fault.InputOrOutput) × IsUnheard asked view o begun o.journal)))

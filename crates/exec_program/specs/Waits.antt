@@ -28,10 +28,10 @@ WaitsIn asked o folder old new left =
 
 -- the same of the journal here, where its disk goes from one state to another: in memory there is nothing to wait for
 abbrev pub WaitsFor : {F L A S R W H D : Type 0} → Asked F L A S R W H → (D → View) → Options → D → D → List Left → JournalPlace → Type 0
-WaitsFor asked look o old new left (Folder folder) = WaitsIn asked o folder.now (look old) (look new) left
-WaitsFor asked look o old new left Memory = (new ≡ old) × (left ≡ [])
+WaitsFor asked view o old new left (Folder folder) = WaitsIn asked o folder.now (view old) (view new) left
+WaitsFor asked view o old new left Memory = (new ≡ old) × (left ≡ [])
 
 -- the program waited for what is left in a directory, over this disk, and nobody reads the report
 abbrev pub IsUnheard : {F L A S R W H D : Type 0} → Asked F L A S R W H → (D → View) → Options → D → JournalPlace → Type 0
-IsUnheard {D = D} asked look o old (Folder folder) = (disk : D) × WaitsAt asked o folder.now (look old) (look disk) None
-IsUnheard asked look o old Memory = ⊥
+IsUnheard {D = D} asked view o old (Folder folder) = (disk : D) × WaitsAt asked o folder.now (view old) (view disk) None
+IsUnheard asked view o old Memory = ⊥

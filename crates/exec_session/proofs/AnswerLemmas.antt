@@ -27,12 +27,12 @@ use Rattle.exec_session.specs.Steps.{Sends, Steps}
 use Rattle.exec_session.proofs.EventLemmas.{here_keeps}
 use Rattle.exec_session.proofs.StepLemmas.{step_after}
 
-module _ {D : Type 0} (look : D → View) (source : Source) (rules : Rules) where
+module _ {D : Type 0} (view : D → View) (source : Source) (rules : Rules) where
   module _ (sends_so : Sending D) where
     -- the reply of an open executor
     pub open_answered : (found : Result Line Refusal) (reply : LineReply) (p noticed q : Spot D) → p.executor.is_open ≡ true
-        → IsOpenReply look source rules p noticed found reply → sends_so noticed q (Answered reply ∷ [])
-        → AnswersSo sends_so look source rules found p q
+        → IsOpenReply view source rules p noticed found reply → sends_so noticed q (Answered reply ∷ [])
+        → AnswersSo sends_so view source rules found p q
     open_answered found reply p noticed q is_open is sends_all = record {
       reply = reply;
       noticed = noticed;
@@ -42,7 +42,7 @@ module _ {D : Type 0} (look : D → View) (source : Source) (rules : Rules) wher
 
     -- the reply of a closed one
     pub closed_answered : (found : Result Line Refusal) (reply : LineReply) (p q : Spot D) → p.executor.is_open ≡ false
-        → IsClosedReply source found reply → sends_so p q (Answered reply ∷ []) → AnswersSo sends_so look source rules found p q
+        → IsClosedReply source found reply → sends_so p q (Answered reply ∷ []) → AnswersSo sends_so view source rules found p q
     closed_answered found reply p q closed is sends_all = record {
       reply = reply;
       noticed = p;
@@ -52,10 +52,10 @@ module _ {D : Type 0} (look : D → View) (source : Source) (rules : Rules) wher
 
     -- a request, at the clock reading
     pub request_answered : (now : ℕ) (request : Request) (x r y : ExecutorView D) (e : EdgeView D) (p m : Position D) (q : Spot D) (given : Reply)
-        → m ≡ noted p (Shown now) → at_of x e ≡ m → p.at.executor.is_open ≡ true → MakesRoom look rules now x r
-        → (r.is_open ≡ true → Serves look now request r y given) → (r.is_open ≡ false → (given ≡ Refused refusal.Disk) × (y ≡ r))
+        → m ≡ noted p (Shown now) → at_of x e ≡ m → p.at.executor.is_open ≡ true → MakesRoom view rules now x r
+        → (r.is_open ≡ true → Serves view now request r y given) → (r.is_open ≡ false → (given ≡ Refused refusal.Disk) × (y ≡ r))
         → (y.is_open ≡ false ↔ (given ≡ Refused refusal.Disk)) → sends_so (spot y e.client_view e.events) q (Answered (answer.Request given) ∷ [])
-        → AnswersSo sends_so look source rules (Ok (line.Request request)) p.at q
+        → AnswersSo sends_so view source rules (Ok (line.Request request)) p.at q
     request_answered now request x r y e p m q given is_noted is is_open room serves fails closes sends_all =
         let is_p = is ∙ is_noted in
         open_answered (Ok (line.Request request)) (answer.Request given) p.at (spot y e.client_view e.events) q is_open (record {
@@ -64,7 +64,7 @@ module _ {D : Type 0} (look : D → View) (source : Source) (rules : Rules) wher
           given = given;
           reported = refl;
           shown = ap (λ (P : Position D). moved P.at y) is_p;
-          room = subst (λ (z : ExecutorView D). MakesRoom look rules now z r) (ap (λ (P : Position D). P.at.executor) is_p) room;
+          room = subst (λ (z : ExecutorView D). MakesRoom view rules now z r) (ap (λ (P : Position D). P.at.executor) is_p) room;
           serves = serves;
           fails = fails;
           closes = closes;
@@ -72,51 +72,51 @@ module _ {D : Type 0} (look : D → View) (source : Source) (rules : Rules) wher
 
   -- the reply after what was kept, sent whole or in part
   pub answers_step : {T E : Type 0} (r : Result T E) (found : Result Line Refusal) (reply : LineReply) (p m q : Position D) → Keeps p m
-      → ((sends_so : Sending D) → sends_so m.at q.at (Answered reply ∷ []) → AnswersSo sends_so look source rules found p.at q.at)
+      → ((sends_so : Sending D) → sends_so m.at q.at (Answered reply ∷ []) → AnswersSo sends_so view source rules found p.at q.at)
       → Sends rules.form (Answered reply ∷ []) m q r
-      → Steps (Answers look source rules found p.at) (AnswerBreaks look source rules found p.at) p q r
+      → Steps (Answers view source rules found p.at) (AnswerBreaks view source rules found p.at) p q r
   answers_step r found reply p m q keeps answers sends =
       step_after p m q r keeps sends (λ sends_all. answers (SendsAll rules.form) sends_all) (λ sends_all. inl (answers (SendsPart rules.form) sends_all))
 
   -- a drain or a watch, whose reply is an open executor's
   pub drain_step : {T E : Type 0} (r : Result T E) (found : Result Line Refusal) (ends_idle : Bool) (limit : ℕ) (p q : Position D)
       → p.at.executor.is_open ≡ true
-      → ((noticed : Spot D) (reply : LineReply) → DrainsFor look ends_idle limit rules p.at noticed reply
-      → IsOpenReply look source rules p.at noticed found reply)
-      → (DrainBreaksFor look ends_idle limit rules p.at q.at → ReplyBreaks look rules p.at q.at found)
-      → Steps (DrainSent (SendsAll rules.form) look ends_idle limit rules p.at) (DrainEndsEarly look ends_idle limit rules p.at) p q r
-      → Steps (Answers look source rules found p.at) (AnswerBreaks look source rules found p.at) p q r
+      → ((noticed : Spot D) (reply : LineReply) → DrainsFor view ends_idle limit rules p.at noticed reply
+      → IsOpenReply view source rules p.at noticed found reply)
+      → (DrainBreaksFor view ends_idle limit rules p.at q.at → ReplyBreaks view rules p.at q.at found)
+      → Steps (DrainSent (SendsAll rules.form) view ends_idle limit rules p.at) (DrainEndsEarly view ends_idle limit rules p.at) p q r
+      → Steps (Answers view source rules found p.at) (AnswerBreaks view source rules found p.at) p q r
   drain_step r found ends_idle limit p q is_open is broke step =
       step_after p p q r (here_keeps p) step (λ reported. sent_so (SendsAll rules.form) reported) breaks
     where
-      sent_so : (sends_so : Sending D) → DrainSent sends_so look ends_idle limit rules p.at q.at
-          → AnswersSo sends_so look source rules found p.at q.at
+      sent_so : (sends_so : Sending D) → DrainSent sends_so view ends_idle limit rules p.at q.at
+          → AnswersSo sends_so view source rules found p.at q.at
       sent_so sends_so reported =
           open_answered sends_so found reported.reply p.at reported.noticed q.at is_open (is reported.noticed reported.reply reported.drains) reported.sends_all
 
-      breaks : DrainEndsEarly look ends_idle limit rules p.at q.at → AnswerBreaks look source rules found p.at q.at
+      breaks : DrainEndsEarly view ends_idle limit rules p.at q.at → AnswerBreaks view source rules found p.at q.at
       breaks (inl reported) = inl (sent_so (SendsPart rules.form) reported)
       breaks (inr early) = inr (is_open, broke early)
 
-module _ {D : Type 0} (look : D → View) (rules : Rules) (ends_idle : Bool) (limit n start : ℕ) (p m q : Position D) where
+module _ {D : Type 0} (view : D → View) (rules : Rules) (ends_idle : Bool) (limit n start : ℕ) (p m q : Position D) where
   abbrev Held : ℕ → Terms
   Held most = record { ends_idle = ends_idle; until = start + most; most = rules.most_turns }
 
   -- a drain from the clock reading on
-  pub drains_for : (end : DrainEnd) → n ≡ limit → m ≡ noted p (Shown start) → Drains look rules (Held n) start m.at q.at end
-      → DrainsFor look ends_idle limit rules p.at q.at (answer.Drain end)
+  pub drains_for : (end : DrainEnd) → n ≡ limit → m ≡ noted p (Shown start) → Drains view rules (Held n) start m.at q.at end
+      → DrainsFor view ends_idle limit rules p.at q.at (answer.Drain end)
   drains_for end same is drains = (
     start,
     end,
     refl,
-    subst (λ (l : ℕ). Drains look rules (Held l) start (following p.at (Shown start)) q.at end) same
-        (subst (λ (P : Position D). Drains look rules (Held n) start P.at q.at end) is drains),
+    subst (λ (l : ℕ). Drains view rules (Held l) start (following p.at (Shown start)) q.at end) same
+        (subst (λ (P : Position D). Drains view rules (Held n) start P.at q.at end) is drains),
   )
 
-  pub drain_breaks_for : n ≡ limit → m ≡ noted p (Shown start) → DrainBreaks look rules (Held n) start m.at q.at
-      → DrainBreaksFor look ends_idle limit rules p.at q.at
+  pub drain_breaks_for : n ≡ limit → m ≡ noted p (Shown start) → DrainBreaks view rules (Held n) start m.at q.at
+      → DrainBreaksFor view ends_idle limit rules p.at q.at
   drain_breaks_for same is breaks = (
     start,
-    subst (λ (l : ℕ). DrainBreaks look rules (Held l) start (following p.at (Shown start)) q.at) same
-        (subst (λ (P : Position D). DrainBreaks look rules (Held n) start P.at q.at) is breaks),
+    subst (λ (l : ℕ). DrainBreaks view rules (Held l) start (following p.at (Shown start)) q.at) same
+        (subst (λ (P : Position D). DrainBreaks view rules (Held n) start P.at q.at) is breaks),
   )

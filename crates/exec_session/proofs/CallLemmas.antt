@@ -31,7 +31,7 @@ use Rattle.exec_session.specs.Drains.{Drains, GoesOn, MakesTurn, Rests, at_start
 use Rattle.exec_session.specs.Leaving.{WindsDown, at_first, further as more_winding}
 use Rattle.exec_session.specs.Rules.{Rules, MakesRoom, is_tidy_due}
 use Rattle.exec_session.specs.Progress.{Answers}
-use Rattle.exec_session.specs.Looks.{Lines}
+use Rattle.exec_session.specs.Polls.{Lines}
 use Rattle.exec_session.specs.Runs.{GoesByCalls, MakesOwnTurn, NewsSo, OwnTurn, Reaches, answers, here, looks, news, no_news, passes, reads, batch, turn as one_turn, waits}
 use Rattle.exec_session.specs.Spots.{Pauses, Position, Spot, SendsAll, following}
 use Rattle.exec_session.specs.Together.{AnswersTogether}
@@ -42,24 +42,24 @@ use Rattle.exec_session.proofs.SendLemmas.{Plain, cleared_room, closed_plain, is
 use Rattle.exec_session.proofs.SendLemmas.{together_hold, turn_after_room}
 
 -- a tidy by a call, or none, and no message
-room_holds : {D : Type 0} (look : D → View) (rules : Rules) (now : ℕ) (x y : ExecutorView D) → x.is_open ≡ true
-    → MakesRoom look rules now x y → IsBacked look x y []
-room_holds look rules now x y is_open room = by (is_tidy_due rules x now room.pace) refl
+room_holds : {D : Type 0} (view : D → View) (rules : Rules) (now : ℕ) (x y : ExecutorView D) → x.is_open ≡ true
+    → MakesRoom view rules now x y → IsBacked view x y []
+room_holds view rules now x y is_open room = by (is_tidy_due rules x now room.pace) refl
   where
-    by : (b : Bool) → is_tidy_due rules x now room.pace ≡ b → IsBacked look x y []
-    by true due = let made = room.made due in tidy_holds look x y made.0 is_open made.1
-    by false none = none_holds look x y [] (room.none none) nothing
+    by : (b : Bool) → is_tidy_due rules x now room.pace ≡ b → IsBacked view x y []
+    by true due = let made = room.made due in tidy_holds view x y made.0 is_open made.1
+    by false none = none_holds view x y [] (room.none none) nothing
 
-module _ {D : Type 0} (look : D → View) where
+module _ {D : Type 0} (view : D → View) where
   abbrev Goes : Spot D → Spot D → Type 0
-  Goes p q = GoesByCalls look p q
+  Goes p q = GoesByCalls view p q
 
   -- no call; one step after another; and calls with the messages that were sent of them
   here_still : (p : Spot D) → Goes p p
   here_still p = record {
     items = [];
     reported = (refl, sym (append-nil p.client_view.reported));
-    holds = none_holds look p.executor p.executor [] refl nothing;
+    holds = none_holds view p.executor p.executor [] refl nothing;
   }
 
   stays : (p q : Spot D) → q ≡ p → Goes p q
@@ -72,34 +72,34 @@ module _ {D : Type 0} (look : D → View) where
       two.reported.0 ∙ one.reported.0,
       two.reported.1 ∙ ap (λ (ss : List SentItem). ss ++ two.items) one.reported.1 ∙ append_assoc p.client_view.reported one.items two.items,
     );
-    holds = both_hold look p.executor m.executor q.executor one.items two.items one.holds two.holds;
+    holds = both_hold view p.executor m.executor q.executor one.items two.items one.holds two.holds;
   }
 
-  sent_go : (p q : Spot D) (more : List SentItem) → IsSent p.client_view q.client_view more → IsBacked look p.executor q.executor more → Goes p q
+  sent_go : (p q : Spot D) (more : List SentItem) → IsSent p.client_view q.client_view more → IsBacked view p.executor q.executor more → Goes p q
   sent_go p q more reported holds = record { items = more; reported = reported; holds = holds }
 
   -- no message
-  quiet_go : (p q : Spot D) → q.client_view ≡ p.client_view → IsBacked look p.executor q.executor [] → Goes p q
+  quiet_go : (p q : Spot D) → q.client_view ≡ p.client_view → IsBacked view p.executor q.executor [] → Goes p q
   quiet_go p q same holds =
       sent_go p q [] (subst (λ (h : ClientView D). IsSent p.client_view h []) (sym same) (refl, sym (append-nil p.client_view.reported))) holds
 
   -- no call: one question at most
   unmoved : (p q : Spot D) → q.executor ≡ p.executor → q.client_view ≡ p.client_view → Goes p q
-  unmoved p q same client_view = quiet_go p q client_view (none_holds look p.executor q.executor [] same nothing)
+  unmoved p q same client_view = quiet_go p q client_view (none_holds view p.executor q.executor [] same nothing)
 
   -- a reply that acknowledges no command
   plain_go : (form : NoticeForm) (s q : Spot D) (reply : LineReply) → Plain s.executor reply → SendsAll form s q (Answered reply ∷ [])
       → Goes s q
   plain_go form s q reply plain sends_all =
       sent_go s q (Answered reply ∷ []) sends_all.receives.reported
-      (none_holds look s.executor q.executor (Answered reply ∷ []) sends_all.executor (states_nothing (Answered reply) plain.0))
+      (none_holds view s.executor q.executor (Answered reply ∷ []) sends_all.executor (states_nothing (Answered reply) plain.0))
 
   -- messages of an executor that went on by calls
-  sends_go : (form : NoticeForm) (p s q : Spot D) (more : List SentItem) → s.client_view ≡ p.client_view → IsBacked look p.executor s.executor more
+  sends_go : (form : NoticeForm) (p s q : Spot D) (more : List SentItem) → s.client_view ≡ p.client_view → IsBacked view p.executor s.executor more
       → SendsAll form s q more → Goes p q
   sends_go form p s q more same holds sends_all =
       sent_go p q more (subst (λ (h : ClientView D). IsSent h q.client_view more) same sends_all.receives.reported)
-      (subst (λ (x : ExecutorView D). IsBacked look p.executor x more) (sym sends_all.executor) holds)
+      (subst (λ (x : ExecutorView D). IsBacked view p.executor x more) (sym sends_all.executor) holds)
 
   -- a pause
   pauses_go : (since now : ℕ) (client_view : Bool) (p q : Spot D) → Pauses since now client_view p q → Goes p q
@@ -117,25 +117,25 @@ module _ {D : Type 0} (look : D → View) where
   module _ (rules : Rules) where
     -- a request, after a due tidy
     request_goes : (request : Request) (p s : Spot D) (reply : LineReply) → p.executor.is_open ≡ true
-        → ServesNow look rules request p s reply → IsBacked look p.executor s.executor (Answered reply ∷ [])
+        → ServesNow view rules request p s reply → IsBacked view p.executor s.executor (Answered reply ∷ [])
     request_goes request p s reply is_open serves =
-        subst (λ (r : LineReply). IsBacked look p.executor s.executor (Answered r ∷ [])) (sym serves.reported)
+        subst (λ (r : LineReply). IsBacked view p.executor s.executor (Answered r ∷ [])) (sym serves.reported)
         (by serves.middle.is_open refl)
       where
-        room : IsBacked look p.executor serves.middle []
-        room = room_holds look rules serves.now p.executor serves.middle is_open serves.room
+        room : IsBacked view p.executor serves.middle []
+        room = room_holds view rules serves.now p.executor serves.middle is_open serves.room
 
-        by : (b : Bool) → serves.middle.is_open ≡ b → IsBacked look p.executor s.executor (answered serves.given ∷ [])
+        by : (b : Bool) → serves.middle.is_open ≡ b → IsBacked view p.executor s.executor (answered serves.given ∷ [])
         by true open_still =
-            request_holds look serves.now request p.executor serves.middle s.executor serves.given room (serves.serves open_still)
+            request_holds view serves.now request p.executor serves.middle s.executor serves.given room (serves.serves open_still)
             serves.closes
         by false closed =
             let (refused, same) = serves.fails closed in
-            subst (λ (z : ExecutorView D). IsBacked look p.executor z (answered serves.given ∷ [])) (sym same)
-            (refused_hold look p.executor serves.middle 1 (serves.given ∷ []) (ap (λ (r : Reply). r ∷ []) refused) room)
+            subst (λ (z : ExecutorView D). IsBacked view p.executor z (answered serves.given ∷ [])) (sym same)
+            (refused_hold view p.executor serves.middle 1 (serves.given ∷ []) (ap (λ (r : Reply). r ∷ []) refused) room)
 
     -- a group commit
-    together_goes : (commands : List Command) (p q : Spot D) → p.executor.is_open ≡ true → AnswersTogether look rules commands p q
+    together_goes : (commands : List Command) (p q : Spot D) → p.executor.is_open ≡ true → AnswersTogether view rules commands p q
         → Goes p q
     together_goes commands p q is_open together =
         sent_go p q (map answered together.given) together.sends_all.receives.reported (by middle.is_open refl)
@@ -143,40 +143,40 @@ module _ {D : Type 0} (look : D → View) where
         middle : ExecutorView D
         middle = together.serves.middle
 
-        room : IsBacked look p.executor middle []
-        room = room_holds look rules together.now p.executor middle is_open together.serves.room
+        room : IsBacked view p.executor middle []
+        room = room_holds view rules together.now p.executor middle is_open together.serves.room
 
-        by : (b : Bool) → middle.is_open ≡ b → IsBacked look p.executor q.executor (map answered together.given)
+        by : (b : Bool) → middle.is_open ≡ b → IsBacked view p.executor q.executor (map answered together.given)
         by true open_still =
-            together_hold look together.now commands p.executor middle q.executor together.given room
+            together_hold view together.now commands p.executor middle q.executor together.given room
             (together.serves.takes open_still)
         by false closed =
             let (refused, same) = together.serves.fails closed in
-            subst (λ (z : ExecutorView D). IsBacked look p.executor z (map answered together.given)) (sym same)
-            (refused_hold look p.executor middle (length commands) together.given refused room)
+            subst (λ (z : ExecutorView D). IsBacked view p.executor z (map answered together.given)) (sym same)
+            (refused_hold view p.executor middle (length commands) together.given refused room)
 
     -- a turn of a drain
-    turn_goes : (now : ℕ) (p q : Spot D) (end : TurnEnd) → p.executor.is_open ≡ true → MakesTurn look rules now p q end → Goes p q
+    turn_goes : (now : ℕ) (p q : Spot D) (end : TurnEnd) → p.executor.is_open ≡ true → MakesTurn view rules now p q end → Goes p q
     turn_goes now p q end is_open made = by made.middle.is_open refl
       where
         cleared : ExecutorView D
         cleared = with_empty_book p.executor
 
-        room : IsBacked look p.executor made.middle []
-        room = cleared_room look p.executor cleared made.middle refl (room_holds look rules now cleared made.middle is_open made.room)
+        room : IsBacked view p.executor made.middle []
+        room = cleared_room view p.executor cleared made.middle refl (room_holds view rules now cleared made.middle is_open made.room)
 
         by : (b : Bool) → made.middle.is_open ≡ b → Goes p q
         by true open_still =
             sent_go p q (noticed q.executor) (made.sends_all open_still).receives.reported
-            (turn_after_room look now p.executor made.middle q.executor end room open_still (made.takes open_still))
+            (turn_after_room view now p.executor made.middle q.executor end room open_still (made.takes open_still))
         by false closed =
             let (ended, same) = made.fails closed in
             quiet_go p q (ap (λ (s : Spot D). s.client_view) same)
-            (subst (λ (z : ExecutorView D). IsBacked look p.executor z []) (sym (ap (λ (s : Spot D). s.executor) same)) room)
+            (subst (λ (z : ExecutorView D). IsBacked view p.executor z []) (sym (ap (λ (s : Spot D). s.executor) same)) room)
 
     -- turns after which it goes on, each from an executor that is still open
     pub turns_go : (t : Terms) (start : ℕ) (p : Spot D) (turns now : ℕ) (q : Spot D)
-        → p.executor.is_open ≡ true → GoesOn look rules t start p turns now q
+        → p.executor.is_open ≡ true → GoesOn view rules t start p turns now q
         → Goes p q × (q.executor.is_open ≡ true)
     turns_go t start p _ _ _ is_open at_start = (here_still p, is_open)
     turns_go t start p _ _ _ is_open (further n before after m reported q end gone_on made rests on) =
@@ -184,11 +184,11 @@ module _ {D : Type 0} (look : D → View) where
         let idle = not (any_busy reported.executor.state) in (
           both_go p m q so_far.0 (both_go m reported q (turn_goes before m reported end so_far.1 made) (rests_go start before reported q after rests)),
           ap (λ (x : ExecutorView D). x.is_open) (rests_same start before reported q after rests)
-              ∙ still_open t (n + 1) after end idle reported.executor.is_open (closes look rules before m reported end made) on,
+              ∙ still_open t (n + 1) after end idle reported.executor.is_open (closes view rules before m reported end made) on,
         )
 
     drain_goes : (t : Terms) (start : ℕ) (p q : Spot D) (end : DrainEnd) → p.executor.is_open ≡ true
-        → Drains look rules t start p q end → Goes p q
+        → Drains view rules t start p q end → Goes p q
     drain_goes t start p q end is_open drains =
         let so_far = turns_go t start p drains.turns drains.now drains.last is_open drains.gone_on in
         both_go p drains.last q so_far.0
@@ -197,7 +197,7 @@ module _ {D : Type 0} (look : D → View) where
 
     -- what an open executor does with a line, and then the reply
     open_goes : (source : Source) (p s q : Spot D) (found : Result Line Refusal) (reply : LineReply)
-        → p.executor.is_open ≡ true → IsOpenReply look source rules p s found reply → SendsAll rules.form s q (Answered reply ∷ [])
+        → p.executor.is_open ≡ true → IsOpenReply view source rules p s found reply → SendsAll rules.form s q (Answered reply ∷ [])
         → Goes p q
     open_goes source p s q (Ok (line.Request request)) reply is_open serves sends_all =
         sends_go rules.form p s q (Answered reply ∷ []) (ap (λ (t : Spot D). t.client_view) serves.shown)
@@ -211,7 +211,7 @@ module _ {D : Type 0} (look : D → View) where
         (drain_goes _ _ (following p (Shown now)) s end is_open drains))
         (plain_go rules.form s q reply (is_plain s.executor reply (answer.Drain end) is (refl, tt)) sends_all)
     open_goes source p s q (Ok line.Tidy) reply is_open (end, is, tidies, same) sends_all =
-        both_go p s q (quiet_go p s (ap (λ (t : Spot D). t.client_view) same) (tidy_holds look p.executor s.executor end is_open tidies))
+        both_go p s q (quiet_go p s (ap (λ (t : Spot D). t.client_view) same) (tidy_holds view p.executor s.executor end is_open tidies))
         (plain_go rules.form s q reply (is_plain s.executor reply (answer.Tidy end) is (refl, tt)) sends_all)
     open_goes source p s q (Ok line.Leave) reply is_open (is, same) sends_all =
         both_go p s q (stays p s same)
@@ -232,7 +232,7 @@ module _ {D : Type 0} (look : D → View) where
         both_go p s q (stays p s same)
         (plain_go rules.form s q reply (is_plain s.executor reply (answer.Request (Refused why)) is (refl, tt)) sends_all)
 
-    line_goes : (source : Source) (p q : Spot D) (found : Result Line Refusal) → Answers look source rules found p q → Goes p q
+    line_goes : (source : Source) (p q : Spot D) (found : Result Line Refusal) → Answers view source rules found p q → Goes p q
     line_goes source p q found given = by p.executor.is_open refl
       where
         by : (b : Bool) → p.executor.is_open ≡ b → Goes p q
@@ -249,7 +249,7 @@ module _ {D : Type 0} (look : D → View) where
     news_go before end p q (no_news none same) = stays p q same
 
     own_turn_goes : (before : TurnEnd) (now : ℕ) (p q : Spot D) (end : TurnEnd) → p.executor.is_open ≡ true
-        → MakesOwnTurn look rules before now p q end → Goes p q
+        → MakesOwnTurn view rules before now p q end → Goes p q
     own_turn_goes before now p q end is_open own =
         both_go p own.noticed q (both_go p (following p (Shown now)) own.noticed (unmoved p (following p (Shown now)) refl refl)
         (turn_goes now (following p (Shown now)) own.noticed end is_open own.made))
@@ -257,7 +257,7 @@ module _ {D : Type 0} (look : D → View) where
 
     -- line after line, and turns between them
     pub lines_go : (source : Source) (p : Position D) (own : OwnTurn) (n : ℕ) (lines : Lines) (q : Position D)
-        → Reaches look source rules p own n lines q → Goes p.at q.at
+        → Reaches view source rules p own n lines q → Goes p.at q.at
     lines_go source p _ _ _ _ here = here_still p.at
     lines_go source p _ _ _ _ (looks own n lines m event reaches is) =
         both_go p.at m.at _ (lines_go source p own n lines m reaches) (unmoved m.at (following m.at event) refl refl)
@@ -274,12 +274,12 @@ module _ {D : Type 0} (look : D → View) where
         both_go p.at m.at q (lines_go source p own n lines m reaches) (own_turn_goes own.end now m.at q end may.is_open made)
 
     -- turns that begin nothing
-    pub winds_go : (p : Spot D) (q : Spot D) → WindsDown look rules p q → Goes p q
+    pub winds_go : (p : Spot D) (q : Spot D) → WindsDown view rules p q → Goes p q
     winds_go p _ at_first = here_still p
     winds_go p _ (more_winding now m reported q winds one is_open paused) =
         both_go p m q (winds_go p m winds)
         (both_go m reported q
         (sent_go m reported (noticed reported.executor) one.client_view.sends_all.receives.reported
-        (finish_sent look one.client_view.now m.executor (with_empty_book m.executor) reported.executor one.client_view.end refl one.is_open
+        (finish_sent view one.client_view.now m.executor (with_empty_book m.executor) reported.executor one.client_view.end refl one.is_open
         one.client_view.takes))
         (pauses_go 0 now true reported q paused))

@@ -33,10 +33,10 @@ still_open t turns now end idle true closes e = refl
 still_open t turns now end idle false closes e = let is = sym (done t turns now end idle e) ∙ closes.0 refl in absurd cc
 
 -- a turn that closed the executor ended for the disk, in the tidy or in the turn itself
-pub closes : {D : Type 0} (look : D → View) (rules : Rules) (now : ℕ) (p q : Spot D)
+pub closes : {D : Type 0} (view : D → View) (rules : Rules) (now : ℕ) (p q : Spot D)
     (end : TurnEnd)
-    → MakesTurn look rules now p q end → (q.executor.is_open ≡ false) ↔ (end ≡ turn_end.Disk)
-closes {D} look rules now p q end made = by made.middle.is_open refl
+    → MakesTurn view rules now p q end → (q.executor.is_open ≡ false) ↔ (end ≡ turn_end.Disk)
+closes {D} view rules now p q end made = by made.middle.is_open refl
   where
     by : (b : Bool) → made.middle.is_open ≡ b → (q.executor.is_open ≡ false) ↔ (end ≡ turn_end.Disk)
     by true is_open = (made.takes is_open).closes

@@ -9,14 +9,14 @@ use Rattle.executor.specs.ExecutorView.{ExecutorView}
 use Rattle.exec_trace.specs.Edges.{EdgeView, rest_events}
 use Rattle.exec_trace.specs.Events.{later_of, last_shown}
 use Rattle.exec_trace.specs.declared.event.IoEvent.{IoEvent}
-use Rattle.exec_trace.specs.declared.event.IoEvent.TheVariants.{Asked, Looked, Peeked, Read, Rested, Sent, Shown}
+use Rattle.exec_trace.specs.declared.event.IoEvent.TheVariants.{Asked, Polled, Peeked, Read, Rested, Sent, Shown}
 use Rattle.exec_session.specs.Spots.{Keeps, Lasts, MayBreakOff, Pauses, Position, Spot, SendsAll, SendsPart, at_of, noted, paused, spot}
 
 -- a clock reading at the end is the last one
 pub shown_last : (es : List IoEvent) (now : ℕ) → last_shown (es ++ Shown now ∷ []) ≡ Some now
 shown_last [] now = refl
 shown_last (Shown moment ∷ es) now = ap (later_of moment) (shown_last es now)
-shown_last (Looked millis ready ∷ es) now = shown_last es now
+shown_last (Polled millis ready ∷ es) now = shown_last es now
 shown_last (Peeked has_line ∷ es) now = shown_last es now
 shown_last (Read done ∷ es) now = shown_last es now
 shown_last (Rested micros ∷ es) now = shown_last es now

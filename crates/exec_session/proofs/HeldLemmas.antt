@@ -38,11 +38,11 @@ found_at_once way is found.Empty = tt
 found_at_once way is found.End = tt
 
 -- an open executor replied to a held line with what the source gave
-pub answered_held : {D : Type 0} (sends_so : Sending D) (look : D → View) (source : Source) (rules : Rules)
+pub answered_held : {D : Type 0} (sends_so : Sending D) (view : D → View) (source : Source) (rules : Rules)
     (provider agent : List ℕ) (limit : Option ℕ) (given : Result (Vec ℕ) MetaFault) (p q : Spot D) → p.executor.is_open ≡ true
     → source provider agent limit given → sends_so p q (Answered (answer.Meta given) ∷ [])
-    → AnswersSo sends_so look source rules (Ok (line.Meta provider agent limit)) p q
-answered_held sends_so look source rules provider agent limit given p q is_open gives sends_all = record {
+    → AnswersSo sends_so view source rules (Ok (line.Meta provider agent limit)) p q
+answered_held sends_so view source rules provider agent limit given p q is_open gives sends_all = record {
   reply = answer.Meta given;
   noticed = p;
   answered = record {
@@ -52,8 +52,8 @@ answered_held sends_so look source rules provider agent limit given p q is_open 
   sends_all = sends_all;
 }
 
-pub held_err : {D E : Type 0} (look : D → View) (source : Source) (rules : Rules) (held : Held) (p q : Spot D) (r : Result Bool E)
-    → IsErr r → AnswersSo (SendsPart rules.form) look source rules (Ok (asks held)) p q → MayBreakOff q.events
-    → AnswersHeld look source rules held p q r
-held_err look source rules held p q (Ok done) bad broke cause = let none : ⊥ = cc in absurd none
-held_err look source rules held p q (Err fault) bad broke cause = (broke, cause)
+pub held_err : {D E : Type 0} (view : D → View) (source : Source) (rules : Rules) (held : Held) (p q : Spot D) (r : Result Bool E)
+    → IsErr r → AnswersSo (SendsPart rules.form) view source rules (Ok (asks held)) p q → MayBreakOff q.events
+    → AnswersHeld view source rules held p q r
+held_err view source rules held p q (Ok done) bad broke cause = let none : ⊥ = cc in absurd none
+held_err view source rules held p q (Err fault) bad broke cause = (broke, cause)

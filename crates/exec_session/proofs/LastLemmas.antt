@@ -2,8 +2,8 @@
 use Rattle.std.proofs.Common.{◌≡◌, ℕ, ◌+◌, ◌≤◌, ◌<◌, Bool, true, false, List, [], ◌∷◌, ◌++◌, length, refl, sym, ap, subst, ◌∙◌, arith, append_assoc, length-append, inl, inr}
 use Rattle.std.proofs.lemmas.List.{append-nil}
 use Rattle.exec_trace.specs.declared.event.IoEvent.{IoEvent}
-use Rattle.exec_trace.specs.declared.event.IoEvent.TheVariants.{Looked, Read}
-use Rattle.exec_session.specs.Looks.{HasLooked, Lines, misses_in, misses_of, reads_in, reads_of}
+use Rattle.exec_trace.specs.declared.event.IoEvent.TheVariants.{Polled, Read}
+use Rattle.exec_session.specs.Polls.{HasPolled, Lines, misses_in, misses_of, reads_in, reads_of}
 use Rattle.exec_session.specs.Spots.{Lasts, Position, Spot, following, noted}
 
 -- reads and polls add up
@@ -23,8 +23,8 @@ misses_join (x ∷ xs) ys =
 
 -- once a session has polled, it has also after more events, and since earlier ones
 pub looked_later : (lines : Lines) (reads misses reads' misses' : ℕ) (es es' : List IoEvent) → reads' ≤ reads → misses' ≤ misses
-    → reads_in es ≤ reads_in es' → misses_in es ≤ misses_in es' → HasLooked reads misses lines es → HasLooked reads' misses' lines es'
-looked_later (line ∷ lines) reads misses reads' misses' es es' le le' more more' looked = tt
+    → reads_in es ≤ reads_in es' → misses_in es ≤ misses_in es' → HasPolled reads misses lines es → HasPolled reads' misses' lines es'
+looked_later (line ∷ lines) reads misses reads' misses' es es' le le' more more' polled = tt
 looked_later [] reads misses reads' misses' es es' le le' more more' (inl missed) = inl (omega (arith, le', more', missed))
 looked_later [] reads misses reads' misses' es es' le le' more more' (inr read) = inr (omega (arith, le, more, read))
 
@@ -85,13 +85,13 @@ module _ {D : Type 0} where
   read_then p m q one two = omega (arith, one, lasts_reads m q two)
 
   -- one more poll that found nothing
-  pub one_miss : (p q : Position D) (millis : ℕ) (ready : Bool) → q ≡ noted p (Looked millis ready) → ready ≡ false
+  pub one_miss : (p q : Position D) (millis : ℕ) (ready : Bool) → q ≡ noted p (Polled millis ready) → ready ≡ false
       → misses_in p.at.events < misses_in q.at.events
   one_miss p q millis true same is = absurd cc
   one_miss p q millis false same is =
-      let one : misses_in (Looked millis false ∷ []) ≡ 1 = refl in
+      let one : misses_in (Polled millis false ∷ []) ≡ 1 = refl in
       let all = ap (λ (w : Position D). misses_in w.at.events) same in
-      omega (arith, all, misses_join p.at.events (Looked millis false ∷ []), one)
+      omega (arith, all, misses_join p.at.events (Polled millis false ∷ []), one)
 
   pub longer_then : (p m q : Spot D) → length p.events < length m.events → Lasts m q → length p.events < length q.events
   longer_then p m q one two = omega (arith, one, ap length two.grows, length-append m.events two.later)

@@ -9,7 +9,7 @@ use Rattle.ocf_types.specs.declared.reply.TurnEnd.TheVariants.{Done}
 use Rattle.disk_model.specs.View.{View}
 use Rattle.executor.specs.ExecutorView.{ExecutorView}
 use Rattle.exec_trace.specs.declared.event.IoEvent.{IoEvent}
-use Rattle.exec_trace.specs.declared.event.IoEvent.TheVariants.{Looked, Rested}
+use Rattle.exec_trace.specs.declared.event.IoEvent.TheVariants.{Polled, Rested}
 use Rattle.exec_session.specs.Answers.{Source}
 use Rattle.exec_session.specs.Breaks.{BreaksOff, OwnTurnBreaks, in_line, in_own_turn}
 use Rattle.exec_session.specs.Held.{asks, held_lines}
@@ -21,11 +21,11 @@ use Rattle.recurring.specs.Monitors.{IsFirstMoment}
 use Rattle.child_model.specs.declared.answer.Entry.{Entry}
 use Rattle.exec_session.specs.Pending.{IsClear}
 use Rattle.exec_session.specs.Rules.{Rules}
-use Rattle.exec_session.specs.Looks.{HasLooked, Lines, misses_in, reads_in}
+use Rattle.exec_session.specs.Polls.{HasPolled, Lines, misses_in, reads_in}
 use Rattle.exec_session.specs.Runs.{IsWait, MakesOwnTurn, MakesTurns, MayGoOn, MayRest, MayTurn, OwnTurn, Reaches, ReachesFault, ReachesLeave, answers, of_command, turn, turned}
 use Rattle.exec_session.specs.Spots.{Lasts, MayBreakOff, Position, Spot, SendsPart, following, noted, paused, position, spot}
 use Rattle.exec_session.specs.Progress.{Answers, AnswersSo}
-use Rattle.exec_session.specs.Waiting.{Comes, ComesOrEnds, GoesRound, HasCome, HasComeRound, IsReadTo, IsRound, IsSince, LooksOnce, MayBegin, MayTakeAfter, MayWait, Midway, Rounds, Stage, Waits, WaitsForThere, midway, more, still}
+use Rattle.exec_session.specs.Waiting.{Comes, ComesOrEnds, GoesRound, HasCome, HasComeRound, IsReadTo, IsRound, IsSince, PollsOnce, MayBegin, MayTakeAfter, MayWait, Midway, Rounds, Stage, Waits, WaitsForThere, midway, more, still}
 use Rattle.exec_session.specs.declared.context.Way.{Way}
 use Rattle.exec_session.specs.declared.context.Way.TheVariants.{Run, Serve}
 use Rattle.exec_session.specs.declared.held.Held.{Held}
@@ -34,7 +34,7 @@ use Rattle.exec_session.specs.declared.lines.Taken.{Taken}
 use Rattle.exec_session.specs.declared.lines.Taken.TheVariants as taken
 use Rattle.exec_session.specs.declared.pending.Pending.{Pending}
 use Rattle.exec_session.proofs.LastLemmas.{lasts_both, lasts_event, lasts_misses, lasts_noted, lasts_reads, lasts_same, looked_later}
-use Rattle.exec_session.proofs.WaitLemmas.{begins, come_more, first_come, go_open, looked, none_stays, waited}
+use Rattle.exec_session.proofs.WaitLemmas.{begins, come_more, first_come, go_open, polled, none_stays, waited}
 
 pub at_none : {A : Type 0} (o : Option A) (P : Type 0) (Q : A → Type 0) → o ≡ None → MatchOption o P Q → P
 at_none None P Q is m = m
@@ -144,7 +144,7 @@ module _ {D : Type 0} (since now : ℕ) where
           ∙ ap (λ (es : List IoEvent). position (spot m.at.executor m.at.client_view es) m.left) (append-nil m.at.events))) waits
 
 -- a poll that a wait may make
-pub wait_looked : {D : Type 0} (way : Way) (p q : Position D) (pending : Pending) → LooksOnce p q → MayWait way (midway p pending)
+pub wait_looked : {D : Type 0} (way : Way) (p q : Position D) (pending : Pending) → PollsOnce p q → MayWait way (midway p pending)
     → MayWait way (midway q pending)
 wait_looked way p q pending (inl same) may =
     subst (λ (w : Position _). MayWait way (midway w pending)) (sym same) may
@@ -152,25 +152,25 @@ wait_looked way p q pending (inr (ready, same)) may =
     subst (λ (w : Position _). MayWait way (midway w pending)) (sym same)
     (record { few = may.few; while_open = may.while_open; free = may.free })
 
-pub lasts_looked : {D : Type 0} (p q : Position D) → LooksOnce p q → Lasts p.at q.at
+pub lasts_looked : {D : Type 0} (p q : Position D) → PollsOnce p q → Lasts p.at q.at
 lasts_looked p q (inl same) = lasts_same p.at q.at (ap (λ (w : Position _). w.at) same)
-lasts_looked p q (inr (ready, same)) = lasts_noted p q (Looked 0 ready) same
+lasts_looked p q (inr (ready, same)) = lasts_noted p q (Polled 0 ready) same
 
-module _ {D : Type 0} (look : D → View) (source : Source) (rules : Rules) (p : Position D) (own : OwnTurn) where
+module _ {D : Type 0} (view : D → View) (source : Source) (rules : Rules) (p : Position D) (own : OwnTurn) where
   abbrev At : ℕ → Lines → Position D → Type 0
-  At n lines q = Reaches look source rules p own n lines q
+  At n lines q = Reaches view source rules p own n lines q
 
   abbrev Come : ℕ → Position D → List Command → Option Held → List ℕ → Type 0
   Come most place commands held kept =
-      HasCome look source rules p own most (record { place = place; commands = commands; held = held; kept = kept })
+      HasCome view source rules p own most (record { place = place; commands = commands; held = held; kept = kept })
 
   -- one poll, or none
   pub looked_once : (most : ℕ) (commands : List Command) (held : Option Held) (kept : List ℕ) (place place' : Position D)
-      → rules.way ≡ Serve → LooksOnce place place' → Come most place commands held kept → Come most place' commands held kept
+      → rules.way ≡ Serve → PollsOnce place place' → Come most place commands held kept → Come most place' commands held kept
   looked_once most commands held kept place place' way (inl same) come =
       subst (λ (w : Position D). Come most w commands held kept) (sym same) come
   looked_once most commands held kept place place' way (inr (ready, same)) come =
-      looked look source rules p own most commands held kept place place' (Looked 0 ready) (turns_serve rules.way way, refl) same come
+      polled view source rules p own most commands held kept place place' (Polled 0 ready) (turns_serve rules.way way, refl) same come
 
   -- waits, as steps of a session
   pub waits_come : (most : ℕ) (commands : List Command) (held : Option Held) (kept : List ℕ) (place : Position D) (place' : Position D)
@@ -178,7 +178,7 @@ module _ {D : Type 0} (look : D → View) (source : Source) (rules : Rules) (p :
       → Come most place' commands held kept
   waits_come most commands held kept place _ none rests still come = come
   waits_come most commands held kept place _ none rests (more m event waits is) come =
-      waited look source rules p own most commands held kept m (position (following m.at event) m.left) event none rests is refl
+      waited view source rules p own most commands held kept m (position (following m.at event) m.left) event none rests is refl
       (waits_come most commands held kept place m none rests waits come)
 
   -- the lines that are unanswered where no command waits
@@ -189,7 +189,7 @@ module _ {D : Type 0} (look : D → View) (source : Source) (rules : Rules) (p :
 
   -- a line asked for the end of the session
   pub come_leave : rules.way ≡ Serve → (most : ℕ) (commands : List Command) (o : Option Held) (kept : List ℕ) (place : Position D)
-      → commands ≡ [] → o ≡ Some held.Leave → Come most place commands o kept → ReachesLeave look source rules p place.at
+      → commands ≡ [] → o ≡ Some held.Leave → Come most place commands o kept → ReachesLeave view source rules p place.at
   come_leave way most commands o kept place none is come = record {
     serves = turns_serve rules.way way;
     own = own;
@@ -204,7 +204,7 @@ module _ {D : Type 0} (look : D → View) (source : Source) (rules : Rules) (p :
   -- the line that is held was answered, or broke off
   pub held_answered : rules.way ≡ Serve → (most : ℕ) → MayTakeAfter rules.way most → (commands : List Command) (held : Option Held)
       (h : Held) (kept : List ℕ) (place place' : Position D) → commands ≡ [] → held ≡ Some h → place'.left ≡ place.left
-      → Come most place commands held kept → Answers look source rules (Ok (asks h)) place.at place'.at
+      → Come most place commands held kept → Answers view source rules (Ok (asks h)) place.at place'.at
       → MayGoOn rules.way place'.at.executor → Come (most + 1) place' commands None kept
   held_answered way most may commands held h kept place place' none is same come answered goes_on = record {
     count = come.count + 1;
@@ -234,7 +234,7 @@ module _ {D : Type 0} (look : D → View) (source : Source) (rules : Rules) (p :
 
   pub held_breaks : (most : ℕ) (commands : List Command) (held : Option Held) (h : Held) (kept : List ℕ) (place : Position D) (s : Spot D)
       → commands ≡ [] → held ≡ Some h → Come most place commands held kept
-      → AnswersSo (SendsPart rules.form) look source rules (Ok (asks h)) place.at s × MayBreakOff s.events → BreaksOff look source rules p s
+      → AnswersSo (SendsPart rules.form) view source rules (Ok (asks h)) place.at s × MayBreakOff s.events → BreaksOff view source rules p s
   held_breaks most commands held h kept place s none is come (broke, cause) = record {
     own = own;
     count = come.count;
@@ -249,27 +249,27 @@ module _ {D : Type 0} (look : D → View) (source : Source) (rules : Rules) (p :
 
   -- an own turn may be made
   abbrev pub Turning : Option Held → Position D → Type 0
-  Turning held place = MayRest (held_lines held) × HasLooked own.reads own.misses (own.lines ++ held_lines held) place.at.events
+  Turning held place = MayRest (held_lines held) × HasPolled own.reads own.misses (own.lines ++ held_lines held) place.at.events
 
   may_turn : rules.way ≡ Serve → (most : ℕ) (commands : List Command) (held : Option Held) (kept : List ℕ) (place : Position D)
       → Turning held place → Come most place commands held kept → MayTurn rules.way own (held_lines held) place.at
-  may_turn way most commands held kept place (rests, looked) come = record {
+  may_turn way most commands held kept place (rests, polled) come = record {
     serves = turns_serve rules.way way;
     rests = rests;
     is_open = open_serves rules.way place.at.executor way come.goes_on;
-    looked = looked;
+    polled = polled;
   }
 
   -- this turn is made, since which nothing has ended or begun
   abbrev pub Turned : Option Held → Position D → Position D → ℕ → ℕ → TurnEnd → Type 0
   Turned held place place' now since end =
-      Turning held place × MakesOwnTurn look rules own.end now place.at place'.at end
+      Turning held place × MakesOwnTurn view rules own.end now place.at place'.at end
       × IsQuietSince place'.at.executor.children.book now own.since since
 
   one_turned : rules.way ≡ Serve → (most : ℕ) (commands : List Command) (held : Option Held) (kept : List ℕ) (place place' : Position D)
       (now since : ℕ) (end : TurnEnd) → commands ≡ [] → (come : Come most place commands held kept)
       → Turned held place place' now since end
-      → Reaches look source rules p (turned now since end (held_lines held) place'.at) 0 (held_lines held) (position place'.at come.left)
+      → Reaches view source rules p (turned now since end (held_lines held) place'.at) 0 (held_lines held) (position place'.at come.left)
   one_turned way most commands held kept place place' now since end none come (may, made, quiet) =
       turn own come.count (held_lines held) (position place.at come.left) place'.at end now since
       (none_but_held come.count commands held (position place.at come.left) none come.reached)
@@ -279,7 +279,7 @@ module _ {D : Type 0} (look : D → View) (source : Source) (rules : Rules) (p :
   pub turn_made : rules.way ≡ Serve → (most : ℕ) (commands : List Command) (held : Option Held) (kept : List ℕ) (place place' : Position D)
       (now since : ℕ) (end : TurnEnd) → commands ≡ [] → place'.left ≡ place.left → Come most place commands held kept
       → Turned held place place' now since end → place'.at.executor.is_open ≡ true
-      → HasCome look source rules p (turned now since end (held_lines held) place'.at) 0
+      → HasCome view source rules p (turned now since end (held_lines held) place'.at) 0
       (record { place = place'; commands = commands; held = held; kept = kept })
   turn_made way most commands held kept place place' now since end none same come made is_open = record {
     count = 0;
@@ -287,7 +287,7 @@ module _ {D : Type 0} (look : D → View) (source : Source) (rules : Rules) (p :
     left = come.left;
     mid = subst (λ (l : Option (List ℕ)). IsReadTo held come.left kept l) (sym same) come.mid;
     reached =
-        subst (λ (cs : List Command). Reaches look source rules p (turned now since end (held_lines held) place'.at) 0
+        subst (λ (cs : List Command). Reaches view source rules p (turned now since end (held_lines held) place'.at) 0
         (map of_command cs ++ held_lines held) (position place'.at come.left)) (sym none)
         (one_turned way most commands held kept place place' now since end none come made);
     goes_on = go_open rules.way place'.at.executor is_open;
@@ -295,7 +295,7 @@ module _ {D : Type 0} (look : D → View) (source : Source) (rules : Rules) (p :
 
   pub turn_closes : rules.way ≡ Serve → (most : ℕ) (commands : List Command) (held : Option Held) (kept : List ℕ) (place place' : Position D)
       (now since : ℕ) (end : TurnEnd) → commands ≡ [] → Come most place commands held kept → Turned held place place' now since end
-      → place'.at.executor.is_open ≡ false → ReachesFault look source rules p place'.at
+      → place'.at.executor.is_open ≡ false → ReachesFault view source rules p place'.at
   turn_closes way most commands held kept place place' now since end none come made closed = record {
     serves = turns_serve rules.way way;
     own = turned now since end (held_lines held) place'.at;
@@ -308,7 +308,7 @@ module _ {D : Type 0} (look : D → View) (source : Source) (rules : Rules) (p :
 
   pub turn_breaks : rules.way ≡ Serve → (most : ℕ) (commands : List Command) (held : Option Held) (kept : List ℕ) (place : Position D)
       (s : Spot D) → commands ≡ [] → Turning held place → Come most place commands held kept
-      → OwnTurnBreaks look rules own.end place.at s → MayBreakOff s.events → BreaksOff look source rules p s
+      → OwnTurnBreaks view rules own.end place.at s → MayBreakOff s.events → BreaksOff view source rules p s
   turn_breaks way most commands held kept place s none may come broke cause = record {
     own = own;
     count = come.count;
@@ -321,16 +321,16 @@ module _ {D : Type 0} (look : D → View) (source : Source) (rules : Rules) (p :
 
   -- a session that ends does so with more lines allowed, too
   pub ends_more : (n m : ℕ) (commands : List Command) (held : Option Held) (kept : List ℕ) (place : Position D) (step : Taken) → n ≤ m
-      → ComesOrEnds look source rules p own n (record { place = place; commands = commands; held = held; kept = kept }) step
-      → ComesOrEnds look source rules p own m (record { place = place; commands = commands; held = held; kept = kept }) step
-  ends_more n m commands held kept place taken.More le come = come_more look source rules p own n m commands held kept place le come
+      → ComesOrEnds view source rules p own n (record { place = place; commands = commands; held = held; kept = kept }) step
+      → ComesOrEnds view source rules p own m (record { place = place; commands = commands; held = held; kept = kept }) step
+  ends_more n m commands held kept place taken.More le come = come_more view source rules p own n m commands held kept place le come
   ends_more n m commands held kept place taken.End le come = come
   ends_more n m commands held kept place taken.Closed le come = come
   ends_more n m commands held kept place taken.Leaves le come = come
 
   -- a round that ends the session
   pub round_ends : (E : Type 0) (quiet : ℕ) (end : TurnEnd) (most : ℕ) (s : Midway D) (step : Taken) → step ≢ taken.More
-      → ComesOrEnds look source rules p own most s step → GoesRound {E = E} look source rules p quiet end s (Ok step)
+      → ComesOrEnds view source rules p own most s step → GoesRound {E = E} view source rules p quiet end s (Ok step)
   round_ends E quiet end most s taken.More ends come = absurd (ends refl)
   round_ends E quiet end most s taken.End ends come = come
   round_ends E quiet end most s taken.Closed ends come = come
@@ -338,8 +338,8 @@ module _ {D : Type 0} (look : D → View) (source : Source) (rules : Rules) (p :
 
   -- a round in `run`
   pub round_read : {E : Type 0} → rules.way ≡ Run → (quiet : ℕ) (end : TurnEnd) (most : ℕ) (s : Midway D) (r : Result Taken E)
-      → IsSince own quiet end (held_lines s.held) s.place.at → Comes look source rules p own most s r
-      → GoesRound look source rules p quiet end s r
+      → IsSince own quiet end (held_lines s.held) s.place.at → Comes view source rules p own most s r
+      → GoesRound view source rules p quiet end s r
   round_read way quiet end most s (Ok taken.More) since come =
       record { most = most; own = own; round = run_round rules.way way most; since = since; come = come }
   round_read way quiet end most s (Ok taken.End) since come = come
@@ -349,27 +349,27 @@ module _ {D : Type 0} (look : D → View) (source : Source) (rules : Rules) (p :
 
 -- a line is held, or a poll found nothing
 pub looked_held : (held : Option Held) (reads misses : ℕ) (es : List IoEvent) → (held ≡ None → misses < misses_in es)
-    → HasLooked reads misses (held_lines held) es
+    → HasPolled reads misses (held_lines held) es
 looked_held None reads misses es missed = inl (missed refl)
 looked_held (Some h) reads misses es missed = tt
 
 -- a line is held, or as many reads were made as there are between two turns
 pub looked_read : (held : Option Held) (reads misses : ℕ) (es : List IoEvent) → reads + 64 ≤ reads_in es
-    → HasLooked reads misses (held_lines held) es
+    → HasPolled reads misses (held_lines held) es
 looked_read None reads misses es read = inr read
 looked_read (Some h) reads misses es read = tt
 
 -- a line was held
 pub looked_some : (held held' : Option Held) (h : Held) (reads misses : ℕ) (es : List IoEvent) → held ≡ Some h
-    → HasLooked reads misses (held_lines held ++ held_lines held') es
+    → HasPolled reads misses (held_lines held ++ held_lines held') es
 looked_some held held' h reads misses es is =
-    subst (λ (o : Option Held). HasLooked reads misses (held_lines o ++ held_lines held') es) (sym is) tt
+    subst (λ (o : Option Held). HasPolled reads misses (held_lines o ++ held_lines held') es) (sym is) tt
 
 -- none was held before
 pub looked_none : (held held' : Option Held) (reads misses : ℕ) (es : List IoEvent) → held ≡ None
-    → HasLooked reads misses (held_lines held') es → HasLooked reads misses (held_lines held ++ held_lines held') es
-looked_none held held' reads misses es is looked =
-    subst (λ (o : Option Held). HasLooked reads misses (held_lines o ++ held_lines held') es) (sym is) looked
+    → HasPolled reads misses (held_lines held') es → HasPolled reads misses (held_lines held ++ held_lines held') es
+looked_none held held' reads misses es is polled =
+    subst (λ (o : Option Held). HasPolled reads misses (held_lines o ++ held_lines held') es) (sym is) polled
 
 -- a turn that ended like this is still the last one
 pub since_later : {D : Type 0} (own : OwnTurn) (quiet : ℕ) (end : TurnEnd) (lines lines' : Lines) (q q' : Spot D) → lines' ≡ lines
@@ -384,12 +384,12 @@ since_later own quiet end lines lines' q q' same lasts since = record {
 
 -- a poll of this round is after the turn before it
 pub looked_since : {D : Type 0} (own : OwnTurn) (quiet : ℕ) (end : TurnEnd) (before lines : Lines) (q q' : Spot D)
-    → IsSince own quiet end before q → HasLooked (reads_in q.events) (misses_in q.events) (before ++ lines) q'.events
-    → HasLooked own.reads own.misses (own.lines ++ lines) q'.events
-looked_since own quiet end before lines q q' since looked =
-    subst (λ (ls : Lines). HasLooked own.reads own.misses (ls ++ lines) q'.events) (sym since.unanswered)
+    → IsSince own quiet end before q → HasPolled (reads_in q.events) (misses_in q.events) (before ++ lines) q'.events
+    → HasPolled own.reads own.misses (own.lines ++ lines) q'.events
+looked_since own quiet end before lines q q' since polled =
+    subst (λ (ls : Lines). HasPolled own.reads own.misses (ls ++ lines) q'.events) (sym since.unanswered)
     (looked_later (before ++ lines) (reads_in q.events) (misses_in q.events) own.reads own.misses q'.events q'.events since.reads
-    since.misses (omega arith) (omega arith) looked)
+    since.misses (omega arith) (omega arith) polled)
 
 -- nothing has ended or begun since a time that is not before that of the turn
 pub quiet_later : (own : OwnTurn) (book : List Entry) (now quiet since : ℕ) → own.since ≤ quiet → IsQuietSince book now quiet since
@@ -398,20 +398,20 @@ quiet_later own book now quiet since le (inl began) = inl began
 quiet_later own book now quiet since le (inr (runs, later)) = inr (runs, omega (arith, le, later))
 
 -- a round that ends the session, whose last step kept this
-pub round_over : {D E : Type 0} (look : D → View) (source : Source) (rules : Rules) (s t : Stage D) (step : Taken) → step ≢ taken.More
+pub round_over : {D E : Type 0} (view : D → View) (source : Source) (rules : Rules) (s t : Stage D) (step : Taken) → step ≢ taken.More
     → Lasts s.at.place.at t.at.place.at
-    → ((p : Position D) → HasComeRound look source rules p s.quiet s.end s.at
-    → GoesRound {E = E} look source rules p t.quiet t.end t.at (Ok step)) → Rounds {E = E} look source rules s t (Ok step)
-round_over look source rules s t step ends lasts goes =
+    → ((p : Position D) → HasComeRound view source rules p s.quiet s.end s.at
+    → GoesRound {E = E} view source rules p t.quiet t.end t.at (Ok step)) → Rounds {E = E} view source rules s t (Ok step)
+round_over view source rules s t step ends lasts goes =
     record { lasts = lasts; longer = λ is. absurd (ends is); begins = λ is. absurd (ends is); goes = goes }
 
 -- a round that breaks off
-pub round_fails : {D E : Type 0} (look : D → View) (source : Source) (rules : Rules) (s t : Stage D) (r : Result Taken E) → IsErr r
+pub round_fails : {D E : Type 0} (view : D → View) (source : Source) (rules : Rules) (s t : Stage D) (r : Result Taken E) → IsErr r
     → Lasts s.at.place.at t.at.place.at
-    → ((p : Position D) → HasComeRound look source rules p s.quiet s.end s.at → BreaksOff look source rules p t.at.place.at)
-    → Rounds look source rules s t r
-round_fails look source rules s t (Ok x) bad lasts breaks = let none : ⊥ = cc in absurd none
-round_fails look source rules s t (Err e) bad lasts breaks = record { lasts = lasts; longer = tt; begins = tt; goes = breaks }
+    → ((p : Position D) → HasComeRound view source rules p s.quiet s.end s.at → BreaksOff view source rules p t.at.place.at)
+    → Rounds view source rules s t r
+round_fails view source rules s t (Ok x) bad lasts breaks = let none : ⊥ = cc in absurd none
+round_fails view source rules s t (Err e) bad lasts breaks = record { lasts = lasts; longer = tt; begins = tt; goes = breaks }
 
 pub closed_ends : taken.Closed ≢ taken.More
 closed_ends is = cc
@@ -420,22 +420,22 @@ pub leaves_ends : taken.Leaves ≢ taken.More
 leaves_ends is = cc
 
 -- a round that breaks off
-pub round_err : {D E : Type 0} (look : D → View) (source : Source) (rules : Rules) (p : Position D) (quiet : ℕ) (end : TurnEnd) (s : Midway D)
-    (r : Result Taken E) → IsErr r → BreaksOff look source rules p s.place.at → GoesRound look source rules p quiet end s r
-round_err look source rules p quiet end s (Ok x) bad breaks = let none : ⊥ = cc in absurd none
-round_err look source rules p quiet end s (Err e) bad breaks = breaks
+pub round_err : {D E : Type 0} (view : D → View) (source : Source) (rules : Rules) (p : Position D) (quiet : ℕ) (end : TurnEnd) (s : Midway D)
+    (r : Result Taken E) → IsErr r → BreaksOff view source rules p s.place.at → GoesRound view source rules p quiet end s r
+round_err view source rules p quiet end s (Ok x) bad breaks = let none : ⊥ = cc in absurd none
+round_err view source rules p quiet end s (Err e) bad breaks = breaks
 
 -- a round in `serve` begins after a turn
-pub round_begins : {D : Type 0} (look : D → View) (source : Source) (rules : Rules) (p : Position D) (quiet : ℕ) (end : TurnEnd)
-    (s : Midway D) → rules.way ≡ Serve → (come : HasComeRound look source rules p quiet end s) → HasCome look source rules p come.own 0 s
-round_begins look source rules p quiet end s way come =
-    subst (λ (n : ℕ). HasCome look source rules p come.own n s) (zero_round rules.way way come.most come.round) come.come
+pub round_begins : {D : Type 0} (view : D → View) (source : Source) (rules : Rules) (p : Position D) (quiet : ℕ) (end : TurnEnd)
+    (s : Midway D) → rules.way ≡ Serve → (come : HasComeRound view source rules p quiet end s) → HasCome view source rules p come.own 0 s
+round_begins view source rules p quiet end s way come =
+    subst (λ (n : ℕ). HasCome view source rules p come.own n s) (zero_round rules.way way come.most come.round) come.come
 
 -- the next round begins after a turn that ended like this
-pub round_again : {D : Type 0} (look : D → View) (source : Source) (rules : Rules) (p : Position D) (now quiet : ℕ) (end : TurnEnd)
-    (q : Spot D) (s : Midway D) → Lasts q s.place.at → HasCome look source rules p (turned now quiet end (held_lines s.held) q) 0 s
-    → HasComeRound look source rules p quiet end s
-round_again look source rules p now quiet end q s lasts come = record {
+pub round_again : {D : Type 0} (view : D → View) (source : Source) (rules : Rules) (p : Position D) (now quiet : ℕ) (end : TurnEnd)
+    (q : Spot D) (s : Midway D) → Lasts q s.place.at → HasCome view source rules p (turned now quiet end (held_lines s.held) q) 0 s
+    → HasComeRound view source rules p quiet end s
+round_again view source rules p now quiet end q s lasts come = record {
   most = 0;
   own = turned now quiet end (held_lines s.held) q;
   round = any_round rules.way;
@@ -450,10 +450,10 @@ round_again look source rules p now quiet end q s lasts come = record {
 }
 
 -- nothing is done yet
-pub first_round : {D : Type 0} (look : D → View) (source : Source) (rules : Rules) (p : Position D) (pending : Pending) (quiet : ℕ)
+pub first_round : {D : Type 0} (view : D → View) (source : Source) (rules : Rules) (p : Position D) (pending : Pending) (quiet : ℕ)
     (end : TurnEnd) → IsClear pending → end ≡ Done → p.at.executor.is_open ≡ true
-    → MayBegin rules.way (midway p pending) × HasComeRound look source rules p quiet end (midway p pending)
-first_round look source rules p pending quiet end clear none is_open = (
+    → MayBegin rules.way (midway p pending) × HasComeRound view source rules p quiet end (midway p pending)
+first_round view source rules p pending quiet end clear none is_open = (
   record { stays = none_stays rules.way (midway p pending) clear.none (λ _. clear.free); serves = λ _. (is_open, clear.none) },
   record {
     most = 0;
@@ -466,6 +466,6 @@ first_round look source rules p pending quiet end clear none is_open = (
       reads = omega arith;
       misses = omega arith;
     };
-    come = first_come look source rules p pending clear (go_open rules.way p.at.executor is_open);
+    come = first_come view source rules p pending clear (go_open rules.way p.at.executor is_open);
   },
 )

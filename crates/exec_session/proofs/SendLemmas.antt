@@ -62,76 +62,76 @@ pub status_plain : {D : Type 0} (x : ExecutorView D) (given : LineReply) → x.i
 status_plain x given is_open (inl (statuses, is, same)) = is_plain x given (answer.Status statuses) is (refl, (is_open, same))
 status_plain x given is_open (inr (is, refuses)) = is_plain x given _ is (refl, tt)
 
-module _ {D : Type 0} (look : D → View) where
+module _ {D : Type 0} (view : D → View) where
   -- one more message, which acknowledges no command and reports no result
-  pub one_more : (x y : ExecutorView D) (s : SentItem) → claims s ≡ false → IsBacked look x y [] → IsBacked look x y (s ∷ [])
-  one_more x y s none holds = both_hold look x y y [] (s ∷ []) holds (none_holds look y y (s ∷ []) refl (states_nothing s none))
+  pub one_more : (x y : ExecutorView D) (s : SentItem) → claims s ≡ false → IsBacked view x y [] → IsBacked view x y (s ∷ [])
+  one_more x y s none holds = both_hold view x y y [] (s ∷ []) holds (none_holds view y y (s ∷ []) refl (states_nothing s none))
 
   -- a request, after a due tidy
-  pub request_holds : (now : ℕ) (request : Request) (x m y : ExecutorView D) (r : Reply) → IsBacked look x m []
-      → Serves look now request m y r → ((y.is_open ≡ false) ↔ (r ≡ Refused Disk)) → IsBacked look x y (answered r ∷ [])
+  pub request_holds : (now : ℕ) (request : Request) (x m y : ExecutorView D) (r : Reply) → IsBacked view x m []
+      → Serves view now request m y r → ((y.is_open ≡ false) ↔ (r ≡ Refused Disk)) → IsBacked view x y (answered r ∷ [])
   request_holds now request x m y r room serves closes =
-      both_hold look x m y [] (answered r ∷ []) room (serves_holds look now request m y r serves (λ _. closes))
+      both_hold view x m y [] (answered r ∷ []) room (serves_holds view now request m y r serves (λ _. closes))
 
-  open_states : (now : ℕ) (request : Request) (x y : ExecutorView D) (r : Reply) → x.is_open ≡ true → ServesOpen look now request x y r
+  open_states : (now : ℕ) (request : Request) (x y : ExecutorView D) (r : Reply) → x.is_open ≡ true → ServesOpen view now request x y r
       → MayAnswer y r
   open_states now (asked.Question question) x y r is_open (answers, same, memory) =
       subst (λ (z : ExecutorView D). MayAnswer z r) (sym same) (may_answer x question is_open r answers)
-  open_states now (asked.Command command) x y r is_open obeys = obeys_plain y look x y r (event_of x.state now command) obeys.0
+  open_states now (asked.Command command) x y r is_open obeys = obeys_plain y view x y r (event_of x.state now command) obeys.0
 
-  pub request_states : (now : ℕ) (request : Request) (x y : ExecutorView D) (r : Reply) → x.is_open ≡ true → Serves look now request x y r
+  pub request_states : (now : ℕ) (request : Request) (x y : ExecutorView D) (r : Reply) → x.is_open ≡ true → Serves view now request x y r
       → MayAnswer y r
   request_states now request x y r is_open serves =
-      open_states now request x y r is_open (subst (λ (b : Bool). ServesWhile b look now request x y r) is_open serves)
+      open_states now request x y r is_open (subst (λ (b : Bool). ServesWhile b view now request x y r) is_open serves)
 
   -- a group commit, after a due tidy
-  pub together_hold : (now : ℕ) (commands : List Command) (x m y : ExecutorView D) (rs : List Reply) → IsBacked look x m []
-      → TakesCommands look now commands m y rs → IsBacked look x y (map answered rs)
+  pub together_hold : (now : ℕ) (commands : List Command) (x m y : ExecutorView D) (rs : List Reply) → IsBacked view x m []
+      → TakesCommands view now commands m y rs → IsBacked view x y (map answered rs)
   together_hold now commands x m y rs room takes =
-      both_hold look x m y [] (map answered rs) room (commands_hold look now commands m y rs takes)
+      both_hold view x m y [] (map answered rs) room (commands_hold view now commands m y rs takes)
 
-  pub together_states : (now : ℕ) (commands : List Command) (x y : ExecutorView D) (rs : List Reply) → TakesCommands look now commands x y rs
+  pub together_states : (now : ℕ) (commands : List Command) (x y : ExecutorView D) (rs : List Reply) → TakesCommands view now commands x y rs
       → AllByRecursion (MayAnswer y) rs
-  together_states now commands x y rs takes = commands_plain y look now commands x y rs takes
+  together_states now commands x y rs takes = commands_plain y view now commands x y rs takes
 
   -- each of them refused for the disk
-  pub refused_hold : (x y : ExecutorView D) (n : ℕ) (rs : List Reply) → rs ≡ replicate n (Refused Disk) → IsBacked look x y []
-      → IsBacked look x y (map answered rs)
+  pub refused_hold : (x y : ExecutorView D) (n : ℕ) (rs : List Reply) → rs ≡ replicate n (Refused Disk) → IsBacked view x y []
+      → IsBacked view x y (map answered rs)
   refused_hold x y n rs same room =
-      subst (λ (ts : List Reply). IsBacked look x y (map answered ts)) (sym same)
-      (both_hold look x y y [] (map answered (replicate n (Refused Disk))) room
-      (none_holds look y y (map answered (replicate n (Refused Disk))) refl (each_refused n)))
+      subst (λ (ts : List Reply). IsBacked view x y (map answered ts)) (sym same)
+      (both_hold view x y y [] (map answered (replicate n (Refused Disk))) room
+      (none_holds view y y (map answered (replicate n (Refused Disk))) refl (each_refused n)))
 
   pub refused_states : (y : ExecutorView D) (n : ℕ) (rs : List Reply) → rs ≡ replicate n (Refused Disk) → AllByRecursion (MayAnswer y) rs
   refused_states y n rs same = subst (λ (ts : List Reply). AllByRecursion (MayAnswer y) ts) (sym same) (refused_plain y n)
 
   -- a tidy after the book was emptied, and then a turn
-  pub cleared_room : (x c m : ExecutorView D) → c ≡ with_empty_book x → IsBacked look c m [] → IsBacked look x m []
-  cleared_room x c m cleared room = both_hold look x c m [] [] (cleared_holds look x c cleared) room
+  pub cleared_room : (x c m : ExecutorView D) → c ≡ with_empty_book x → IsBacked view c m [] → IsBacked view x m []
+  cleared_room x c m cleared room = both_hold view x c m [] [] (cleared_holds view x c cleared) room
 
-  pub turn_after_room : (now : ℕ) (x m y : ExecutorView D) (end : TurnEnd) → IsBacked look x m [] → m.is_open ≡ true
-      → TakesTurn look now m y end → IsBacked look x y (noticed y)
+  pub turn_after_room : (now : ℕ) (x m y : ExecutorView D) (end : TurnEnd) → IsBacked view x m [] → m.is_open ≡ true
+      → TakesTurn view now m y end → IsBacked view x y (noticed y)
   turn_after_room now x m y end room is_open takes =
-      both_hold look x m y [] (noticed y) room (turn_holds look now m y end is_open takes)
+      both_hold view x m y [] (noticed y) room (turn_holds view now m y end is_open takes)
 
   -- nothing was sent yet
-  pub new_holds : (client_view : ClientView D) (x : ExecutorView D) → IsNew client_view x → AllBacked look client_view x
+  pub new_holds : (client_view : ClientView D) (x : ExecutorView D) → IsNew client_view x → AllBacked view client_view x
   new_holds client_view x (opened, untold, is_open) =
-      subst (λ (o : ExecutorView D). IsBacked look o x client_view.reported) (sym opened)
-      (subst (λ (ss : List SentItem). IsBacked look x x ss) (sym untold) (none_holds look x x [] refl nothing))
+      subst (λ (o : ExecutorView D). IsBacked view o x client_view.reported) (sym opened)
+      (subst (λ (ss : List SentItem). IsBacked view x x ss) (sym untold) (none_holds view x x [] refl nothing))
 
   -- messages of an executor that went on by calls
-  pub after_sent : (client_view client_view' : ClientView D) (x y : ExecutorView D) (items : List SentItem) → AllBacked look client_view x → IsBacked look x y items
-      → IsSent client_view client_view' items → AllBacked look client_view' y
+  pub after_sent : (client_view client_view' : ClientView D) (x y : ExecutorView D) (items : List SentItem) → AllBacked view client_view x → IsBacked view x y items
+      → IsSent client_view client_view' items → AllBacked view client_view' y
   after_sent client_view client_view' x y items holds more reported =
-      subst (λ (o : ExecutorView D). IsBacked look o y client_view'.reported) (sym reported.0)
-      (subst (λ (ss : List SentItem). IsBacked look client_view.opened y ss) (sym reported.1)
-      (both_hold look client_view.opened x y client_view.reported items holds more))
+      subst (λ (o : ExecutorView D). IsBacked view o y client_view'.reported) (sym reported.0)
+      (subst (λ (ss : List SentItem). IsBacked view client_view.opened y ss) (sym reported.1)
+      (both_hold view client_view.opened x y client_view.reported items holds more))
 
   -- the report of an opening acknowledges nothing that was recorded since
   opening_report : (ns : List Notice) → BackedBy (map Reported ns) []
   opening_report [] = nothing
   opening_report (n ∷ ns) = states_else (Reported n) (map Reported ns) [] refl (opening_report ns)
 
-  pub reported_hold : (x : ExecutorView D) (ns : List Notice) → IsBacked look x x (map Reported ns)
-  reported_hold x ns = none_holds look x x (map Reported ns) refl (opening_report ns)
+  pub reported_hold : (x : ExecutorView D) (ns : List Notice) → IsBacked view x x (map Reported ns)
+  reported_hold x ns = none_holds view x x (map Reported ns) refl (opening_report ns)

@@ -13,7 +13,7 @@ use Rattle.exec_lines.specs.Buffer.{line_bytes}
 use Rattle.exec_lines.specs.Pieces.{IsMidLine}
 use Rattle.exec_trace.specs.Events.{is_failure}
 use Rattle.exec_trace.specs.declared.event.IoEvent.{IoEvent}
-use Rattle.exec_trace.specs.declared.event.IoEvent.TheVariants.{Looked, Peeked, Read}
+use Rattle.exec_trace.specs.declared.event.IoEvent.TheVariants.{Polled, Peeked, Read}
 use Rattle.exec_session.specs.Answers.{Source}
 use Rattle.exec_session.specs.Breaks.{BreaksOff, at_once, in_event, in_line, in_batch}
 use Rattle.exec_session.specs.Broken.{BatchBreaks}
@@ -21,7 +21,7 @@ use Rattle.exec_session.specs.Held.{asks, held_lines}
 use Rattle.exec_session.specs.Pending.{IsClear}
 use Rattle.exec_session.specs.Progress.{ReadsInput}
 use Rattle.exec_session.specs.Rules.{Rules}
-use Rattle.exec_session.specs.Looks.{IsThere, Lines, MayRead}
+use Rattle.exec_session.specs.Polls.{IsThere, Lines, MayRead}
 use Rattle.exec_session.specs.Runs.{IsLook, IsWait, MakesTurns, MayGoOn, MayRest, MayTake, OwnTurn, Reaches, ReachesFault, of_command, turned}
 use Rattle.exec_session.specs.Runs.{answers, here, looks, passes, reads, batch, waits}
 use Rattle.exec_session.specs.Spots.{MayBreakOff, Position, Spot, following, noted, position}
@@ -74,10 +74,10 @@ pub peeked_there : {D : Type 0} (p q : Position D) (has_line : Bool) → q ≡ n
 peeked_there p q has_line same is =
     record { before = p.at.events; last = Peeked has_line; is_last = ap (λ (w : Position _). w.at.events) same; there = is }
 
-pub looked_there : {D : Type 0} (p q : Position D) (millis : ℕ) (ready : Bool) → q ≡ noted p (Looked millis ready) → ready ≡ true
+pub looked_there : {D : Type 0} (p q : Position D) (millis : ℕ) (ready : Bool) → q ≡ noted p (Polled millis ready) → ready ≡ true
     → IsThere q.at.events
 looked_there p q millis ready same is =
-    record { before = p.at.events; last = Looked millis ready; is_last = ap (λ (w : Position _). w.at.events) same; there = is }
+    record { before = p.at.events; last = Polled millis ready; is_last = ap (λ (w : Position _). w.at.events) same; there = is }
 
 -- a fact about any value
 pub ok_always : {A E : Type 0} (P : A → Type 0) (r : Result A E) → ((x : A) → P x) → IfOk r P
@@ -105,10 +105,10 @@ open_while way s may some = by s.place.at.executor.is_open refl
     by false closed = absurd (some (may.while_open closed))
 
 -- an error of a step is that of a session that broke off
-pub comes_err : {D E : Type 0} (look : D → View) (source : Source) (rules : Rules) (p : Position D) (own : OwnTurn) (most : ℕ) (s : Midway D)
-    (r : Result Taken E) → IsErr r → BreaksOff look source rules p s.place.at → Comes look source rules p own most s r
-comes_err look source rules p own most s (Ok x) bad breaks = let none : ⊥ = cc in absurd none
-comes_err look source rules p own most s (Err e) bad breaks = breaks
+pub comes_err : {D E : Type 0} (view : D → View) (source : Source) (rules : Rules) (p : Position D) (own : OwnTurn) (most : ℕ) (s : Midway D)
+    (r : Result Taken E) → IsErr r → BreaksOff view source rules p s.place.at → Comes view source rules p own most s r
+comes_err view source rules p own most s (Ok x) bad breaks = let none : ⊥ = cc in absurd none
+comes_err view source rules p own most s (Err e) bad breaks = breaks
 
 -- while no line is held, a part of the next one was read
 pub mid_before : (held : Option Held) → held ≡ None → (left : Option (List ℕ)) (kept : List ℕ) (now : Option (List ℕ))
@@ -130,16 +130,16 @@ begins_free : (held : Option Held) (left now : Option (List ℕ)) (kept : List �
 begins_free held left now kept free same none =
     subst (λ (h : Option Held). IsReadTo h left kept now) (sym free) (begins left now kept same none)
 
-module _ {D : Type 0} (look : D → View) (source : Source) (rules : Rules) (p : Position D) (own : OwnTurn) where
+module _ {D : Type 0} (view : D → View) (source : Source) (rules : Rules) (p : Position D) (own : OwnTurn) where
   abbrev At : ℕ → Lines → Position D → Type 0
-  At n lines q = Reaches look source rules p own n lines q
+  At n lines q = Reaches view source rules p own n lines q
 
   abbrev Come : ℕ → Position D → List Command → Option Held → List ℕ → Type 0
   Come most place commands held kept =
-      HasCome look source rules p own most (record { place = place; commands = commands; held = held; kept = kept })
+      HasCome view source rules p own most (record { place = place; commands = commands; held = held; kept = kept })
 
   abbrev Finds : ℕ → List Command → Found → Position D → Type 0
-  Finds most commands what q = HasFound look source rules p own most commands what q
+  Finds most commands what q = HasFound view source rules p own most commands what q
 
   -- more lines were allowed
   pub come_more : (n m : ℕ) (commands : List Command) (held : Option Held) (kept : List ℕ) (place : Position D) → n ≤ m
@@ -154,11 +154,11 @@ module _ {D : Type 0} (look : D → View) (source : Source) (rules : Rules) (p :
   }
 
   -- a poll, and a wait
-  pub looked : (most : ℕ) (commands : List Command) (held : Option Held) (kept : List ℕ) (place place' : Position D) (event : IoEvent)
+  pub polled : (most : ℕ) (commands : List Command) (held : Option Held) (kept : List ℕ) (place place' : Position D) (event : IoEvent)
       → IsLook rules.way (map of_command commands ++ held_lines held) place.at.events event
       → place' ≡ position (following place.at event) place.left → Come most place commands held kept
       → Come most place' commands held kept
-  looked most commands held kept place place' event is same come =
+  polled most commands held kept place place' event is same come =
       subst (λ (w : Position D). Come most w commands held kept) (sym same) (record {
         count = come.count;
         few = come.few;
@@ -187,7 +187,7 @@ module _ {D : Type 0} (look : D → View) (source : Source) (rules : Rules) (p :
   -- the last question failed, or the loops have gone round as often as they can
   pub event_breaks : (most : ℕ) (commands : List Command) (held : Option Held) (kept : List ℕ) (place : Position D) (q : Spot D)
       (event : IoEvent) → is_failure event ≡ true → q ≡ following place.at event → Come most place commands held kept
-      → BreaksOff look source rules p q
+      → BreaksOff view source rules p q
   event_breaks most commands held kept place q event fails same come = record {
     own = own;
     count = come.count;
@@ -199,7 +199,7 @@ module _ {D : Type 0} (look : D → View) (source : Source) (rules : Rules) (p :
   }
 
   pub bound_breaks : (most : ℕ) (commands : List Command) (held : Option Held) (kept : List ℕ) (place : Position D)
-      → num_max ≤ length place.at.events → Come most place commands held kept → BreaksOff look source rules p place.at
+      → num_max ≤ length place.at.events → Come most place commands held kept → BreaksOff view source rules p place.at
   bound_breaks most commands held kept place many come = record {
     own = own;
     count = come.count;
@@ -332,7 +332,7 @@ module _ {D : Type 0} (look : D → View) (source : Source) (rules : Rules) (p :
   -- all that wait are answered
   batch_reached : (count most : ℕ) → ((n : ℕ) → n + 1 ≤ most → MayTake rules.way n) → (commands : List Command) (lines : Lines)
       (at at' : Spot D) (left : Option (List ℕ)) → count + length commands ≤ most → (commands ≢ [] → at.executor.is_open ≡ true)
-      → At count (map of_command commands ++ lines) (position at left) → AnswersAll look rules commands at at'
+      → At count (map of_command commands ++ lines) (position at left) → AnswersAll view rules commands at at'
       → (n : ℕ) × (n ≤ most) × At n lines (position at' left)
   batch_reached count most may [] lines at at' left few is_open reached same =
       (count, omega (arith, few), subst (λ (s : Spot D). At count lines (position s left)) (sym same) reached)
@@ -346,7 +346,7 @@ module _ {D : Type 0} (look : D → View) (source : Source) (rules : Rules) (p :
   -- their answer broke off
   batch_broken : (count : ℕ) (commands : List Command) (lines : Lines) (at s : Spot D) (left : Option (List ℕ))
       → (commands ≢ [] → at.executor.is_open ≡ true) → At count (map of_command commands ++ lines) (position at left)
-      → BatchBreaks look rules commands at s → MayBreakOff s.events → BreaksOff look source rules p s
+      → BatchBreaks view rules commands at s → MayBreakOff s.events → BreaksOff view source rules p s
   batch_broken count [] lines at s left is_open reached broke cause = absurd broke
   batch_broken count (first ∷ others) lines at s left is_open reached broke cause = record {
     own = own;
@@ -360,13 +360,13 @@ module _ {D : Type 0} (look : D → View) (source : Source) (rules : Rules) (p :
 
   pub come_batch_breaks : (most : ℕ) (commands : List Command) (held : Option Held) (kept : List ℕ) (place : Position D) (s : Spot D)
       → (commands ≢ [] → place.at.executor.is_open ≡ true) → Come most place commands held kept
-      → BatchBreaks look rules commands place.at s → MayBreakOff s.events → BreaksOff look source rules p s
+      → BatchBreaks view rules commands place.at s → MayBreakOff s.events → BreaksOff view source rules p s
   come_batch_breaks most commands held kept place s is_open come broke cause =
       batch_broken come.count commands (held_lines held) place.at s come.left is_open come.reached broke cause
 
   pub found_batch_breaks : (most : ℕ) (commands : List Command) (what : Found) (q : Position D) (s : Spot D)
       → (commands ≢ [] → q.at.executor.is_open ≡ true) → Finds most commands what q
-      → BatchBreaks look rules commands q.at s → MayBreakOff s.events → BreaksOff look source rules p s
+      → BatchBreaks view rules commands q.at s → MayBreakOff s.events → BreaksOff view source rules p s
   found_batch_breaks most commands what q s is_open finds broke cause =
       batch_broken finds.count commands (found_lines what) q.at s finds.left is_open finds.reached broke cause
 
@@ -374,8 +374,8 @@ module _ {D : Type 0} (look : D → View) (source : Source) (rules : Rules) (p :
   pub come_answered : (most : ℕ) → ((n : ℕ) → n + 1 ≤ most → MayTake rules.way n) → (commands commands' : List Command)
       (held : Option Held) (kept : List ℕ) (place place' : Position D) (step : Taken) → (commands ≢ [] → place.at.executor.is_open ≡ true)
       → commands' ≡ [] → place'.left ≡ place.left → Come most place commands held kept
-      → AnswersAll look rules commands place.at place'.at → IsTaken rules.way place'.at.executor false step
-      → ComesOrEnds look source rules p own most
+      → AnswersAll view rules commands place.at place'.at → IsTaken rules.way place'.at.executor false step
+      → ComesOrEnds view source rules p own most
       (record { place = place'; commands = commands'; held = held; kept = kept }) step
   come_answered most may commands commands' held kept place place' step is_open none same come answered is =
       by step is (batch_reached come.count most may commands (held_lines held) place.at place'.at come.left come.few is_open come.reached
@@ -383,7 +383,7 @@ module _ {D : Type 0} (look : D → View) (source : Source) (rules : Rules) (p :
     where
       by : (s : Taken) → IsTaken rules.way place'.at.executor false s
           → (n : ℕ) × (n ≤ most) × At n (held_lines held) (position place'.at come.left)
-          → ComesOrEnds look source rules p own most
+          → ComesOrEnds view source rules p own most
           (record { place = place'; commands = commands'; held = held; kept = kept }) s
       by taken.More (not_ended, goes_on) (n, few, reached) = record {
         count = n;
@@ -410,7 +410,7 @@ module _ {D : Type 0} (look : D → View) (source : Source) (rules : Rules) (p :
   -- the same before the line that was read is answered
   pub found_answered : (most : ℕ) → ((n : ℕ) → n + 1 ≤ most → MayTake rules.way n) → (commands : List Command) (what : Found)
       (q q' : Position D) → (commands ≢ [] → q.at.executor.is_open ≡ true) → q'.left ≡ q.left → Finds most commands what q
-      → AnswersAll look rules commands q.at q'.at → MayGoOn rules.way q'.at.executor → Finds most [] what q'
+      → AnswersAll view rules commands q.at q'.at → MayGoOn rules.way q'.at.executor → Finds most [] what q'
   found_answered most may commands what q q' is_open same finds answered goes_on =
       let (n, few, reached) = batch_reached finds.count most may commands (found_lines what) q.at q'.at finds.left finds.few is_open
       finds.reached answered in
@@ -425,8 +425,8 @@ module _ {D : Type 0} (look : D → View) (source : Source) (rules : Rules) (p :
 
   pub found_closed : (most : ℕ) → ((n : ℕ) → n + 1 ≤ most → MayTake rules.way n) → (commands : List Command) (what : Found)
       (q q' : Position D) → (commands ≢ [] → q.at.executor.is_open ≡ true) → Finds most commands what q
-      → AnswersAll look rules commands q.at q'.at → MakesTurns rules.way → q'.at.executor.is_open ≡ false
-      → ReachesFault look source rules p q'.at
+      → AnswersAll view rules commands q.at q'.at → MakesTurns rules.way → q'.at.executor.is_open ≡ false
+      → ReachesFault view source rules p q'.at
   found_closed most may commands what q q' is_open finds answered serves closed =
       let (n, few, reached) = batch_reached finds.count most may commands (found_lines what) q.at q'.at finds.left finds.few is_open
       finds.reached answered in
@@ -443,9 +443,9 @@ module _ {D : Type 0} (look : D → View) (source : Source) (rules : Rules) (p :
   -- a session that does not go on after them ends where it is
   pub step_ends : (most : ℕ) → ((n : ℕ) → n + 1 ≤ most → MayTake rules.way n) → (commands commands' : List Command) (held : Option Held)
       (kept : List ℕ) (what : Found) (q q' : Position D) (step : Taken) → (commands ≢ [] → q.at.executor.is_open ≡ true)
-      → Finds most commands what q → AnswersAll look rules commands q.at q'.at → step ≢ taken.More
+      → Finds most commands what q → AnswersAll view rules commands q.at q'.at → step ≢ taken.More
       → IsTaken rules.way q'.at.executor false step
-      → ComesOrEnds look source rules p own (most + 1)
+      → ComesOrEnds view source rules p own (most + 1)
       (record { place = q'; commands = commands'; held = held; kept = kept }) step
   step_ends most may commands commands' held kept what q q' taken.More is_open finds answered ends is = absurd (ends refl)
   step_ends most may commands commands' held kept what q q' taken.End is_open finds answered ends (ended, goes_on) = absurd cc
@@ -456,16 +456,16 @@ module _ {D : Type 0} (look : D → View) (source : Source) (rules : Rules) (p :
   -- the line that was read was answered, or there was no line
   pub found_taken : (E : Type 0) (most : ℕ) → MayTakeAfter rules.way most → (commands : List Command) (held : Option Held) (kept : List ℕ)
       (what : Found) (q q' : Position D) (has_ended : Bool) (step : Taken) → commands ≡ [] → held ≡ None → kept ≡ []
-      → q'.left ≡ q.left → Finds most [] what q → TakesFound {E = E} look source rules what q.at q'.at (Ok has_ended)
+      → q'.left ≡ q.left → Finds most [] what q → TakesFound {E = E} view source rules what q.at q'.at (Ok has_ended)
       → IsTaken rules.way q'.at.executor has_ended step
-      → ComesOrEnds look source rules p own (most + 1)
+      → ComesOrEnds view source rules p own (most + 1)
       (record { place = q'; commands = commands; held = held; kept = kept }) step
   found_taken E most may commands held kept what q q' has_ended step none free empty same finds takes is =
       by what finds takes
     where
       Ends : Taken → Type 0
       Ends s =
-          ComesOrEnds look source rules p own (most + 1)
+          ComesOrEnds view source rules p own (most + 1)
           (record { place = q'; commands = commands; held = held; kept = kept }) s
 
       -- after one line more
@@ -515,7 +515,7 @@ module _ {D : Type 0} (look : D → View) (source : Source) (rules : Rules) (p :
         is_closed = closed;
       }
 
-      by : (f : Found) → Finds most [] f q → TakesFound {E = E} look source rules f q.at q'.at (Ok has_ended) → Ends step
+      by : (f : Found) → Finds most [] f q → TakesFound {E = E} view source rules f q.at q'.at (Ok has_ended) → Ends step
       by (found.Line line) it (not_ended, answered) =
           further it.left (it.count + 1) (omega (arith, it.few)) (it.next ∙ sym same)
           (answers own it.count line (position q.at it.left) q'.at it.reached it.goes_on (may it.count (omega (arith, it.few))) answered)
@@ -529,10 +529,10 @@ module _ {D : Type 0} (look : D → View) (source : Source) (rules : Rules) (p :
           ended it same_at step (subst (λ (b : Bool). IsTaken rules.way q'.at.executor b step) at_end is)
 
   pub found_breaks : {E : Type 0} (most : ℕ) (what : Found) (q : Position D) (s : Spot D) (fault : E) → Finds most [] what q
-      → TakesFound look source rules what q.at s (Err fault) → BreaksOff look source rules p s
+      → TakesFound view source rules what q.at s (Err fault) → BreaksOff view source rules p s
   found_breaks most what q s fault finds broke = by what finds broke
     where
-      by : (f : Found) → Finds most [] f q → TakesFound look source rules f q.at s (Err fault) → BreaksOff look source rules p s
+      by : (f : Found) → Finds most [] f q → TakesFound view source rules f q.at s (Err fault) → BreaksOff view source rules p s
       by (found.Line line) it (breaks, cause) = record {
         own = own;
         count = it.count;
@@ -546,16 +546,16 @@ module _ {D : Type 0} (look : D → View) (source : Source) (rules : Rules) (p :
       by found.End it none = absurd none
 
 -- nothing is done yet
-pub first_come : {D : Type 0} (look : D → View) (source : Source) (rules : Rules) (p : Position D) (pending : Pending) → IsClear pending
-    → MayGoOn rules.way p.at.executor → HasCome look source rules p (turned 0 0 Done [] p.at) 0 (midway p pending)
-first_come look source rules p pending clear goes_on = record {
+pub first_come : {D : Type 0} (view : D → View) (source : Source) (rules : Rules) (p : Position D) (pending : Pending) → IsClear pending
+    → MayGoOn rules.way p.at.executor → HasCome view source rules p (turned 0 0 Done [] p.at) 0 (midway p pending)
+first_come view source rules p pending clear goes_on = record {
   count = 0;
   few = omega (arith, ap length clear.none);
   left = p.left;
   mid = begins_free pending.held p.left p.left (line_bytes pending.buffer) clear.free refl clear.buffer;
   reached =
-      subst (λ (cs : List Command). Reaches look source rules p (turned 0 0 Done [] p.at) 0 (map of_command cs ++ held_lines pending.held) p)
+      subst (λ (cs : List Command). Reaches view source rules p (turned 0 0 Done [] p.at) 0 (map of_command cs ++ held_lines pending.held) p)
       (sym clear.none)
-      (subst (λ (h : Option Held). Reaches look source rules p (turned 0 0 Done [] p.at) 0 (held_lines h) p) (sym clear.free) here);
+      (subst (λ (h : Option Held). Reaches view source rules p (turned 0 0 Done [] p.at) 0 (held_lines h) p) (sym clear.free) here);
   goes_on = goes_on;
 }

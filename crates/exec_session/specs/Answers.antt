@@ -85,54 +85,54 @@ IsClosedReply source (Err why) reply = reply ≡ refused refusal.Closed
 -- a drain from the next clock reading on, for at most this many milliseconds and turns
 abbrev pub DrainsFor : {D : Type 0} → (D → View) → Bool → ℕ → Rules → Spot D
     → Spot D → LineReply → Type 0
-DrainsFor look ends_idle limit rules p q reply =
+DrainsFor view ends_idle limit rules p q reply =
     (now : ℕ) × (end : DrainEnd) × (reply ≡ answer.Drain end)
-    × Drains look rules (record { ends_idle = ends_idle; until = now + limit; most = rules.most_turns }) now (following p (Shown now)) q end
+    × Drains view rules (record { ends_idle = ends_idle; until = now + limit; most = rules.most_turns }) now (following p (Shown now)) q end
 
 -- A drain, and then a reply that says how it ended, which is sent like this.
-pub record DrainSent {D : Type 0} (sends_so : Sending D) (look : D → View) (ends_idle : Bool) (limit : ℕ) (rules : Rules)
+pub record DrainSent {D : Type 0} (sends_so : Sending D) (view : D → View) (ends_idle : Bool) (limit : ℕ) (rules : Rules)
     (p q : Spot D) : Type 0 where
   pub reply : LineReply
   pub noticed : Spot D
-  pub drains : DrainsFor look ends_idle limit rules p noticed reply
+  pub drains : DrainsFor view ends_idle limit rules p noticed reply
   pub sends_all : sends_so noticed q (Answered reply ∷ [])
 
 -- An open executor serves a request: the clock is read, a due tidy is made, and then the request is served. If a disk fault closed the
 -- executor in the tidy, the request is refused for that and nothing else is done.
-pub record ServesNow {D : Type 0} (look : D → View) (rules : Rules) (request : Request)
+pub record ServesNow {D : Type 0} (view : D → View) (rules : Rules) (request : Request)
     (p q : Spot D) (reply : LineReply) : Type 0 where
   pub now : ℕ
   pub middle : ExecutorView D
   pub given : Reply
   pub reported : reply ≡ answer.Request given
   pub shown : q ≡ following (moved p q.executor) (Shown now)
-  pub room : MakesRoom look rules now p.executor middle
-  pub serves : middle.is_open ≡ true → Serves look now request middle q.executor given
+  pub room : MakesRoom view rules now p.executor middle
+  pub serves : middle.is_open ≡ true → Serves view now request middle q.executor given
   pub fails : middle.is_open ≡ false → (given ≡ Refused refusal.Disk) × (q.executor ≡ middle)
   pub closes : q.executor.is_open ≡ false ↔ (given ≡ Refused refusal.Disk)
 
 -- how a tidy ended that was asked for
 abbrev pub TidiesNow : {D : Type 0} → (D → View) → Spot D → Spot D → LineReply → Type 0
-TidiesNow look p q reply =
-    (end : TidyEnd) × (reply ≡ answer.Tidy end) × Tidies look p.executor q.executor end × (q ≡ moved p q.executor)
+TidiesNow view p q reply =
+    (end : TidyEnd) × (reply ≡ answer.Tidy end) × Tidies view p.executor q.executor end × (q ≡ moved p q.executor)
 
 -- the reply of an open executor to a line: from the spot at which the line is taken to that at which the reply is sent
 abbrev pub IsOpenReply : {D : Type 0} → (D → View) → Source → Rules → Spot D
     → Spot D → Result Line Refusal → LineReply → Type 0
-IsOpenReply look source rules p q (Ok (line.Request request)) reply = ServesNow look rules request p q reply
-IsOpenReply look source rules p q (Ok (line.Drain limit)) reply = DrainsFor look true limit rules p q reply
-IsOpenReply look source rules p q (Ok (line.Watch limit)) reply = DrainsFor look false limit rules p q reply
-IsOpenReply look source rules p q (Ok line.Tidy) reply = TidiesNow look p q reply
-IsOpenReply look source rules p q (Ok line.Leave) reply = (reply ≡ refused refusal.UnknownOp) × (q ≡ p)
-IsOpenReply look source rules p q (Ok line.Version) reply = (reply ≡ answer.Version) × (q ≡ p)
-IsOpenReply look source rules p q (Ok line.Status) reply = IsStatusReply p.executor reply × (q ≡ p)
-IsOpenReply look source rules p q (Ok (line.Meta provider agent limit)) reply =
+IsOpenReply view source rules p q (Ok (line.Request request)) reply = ServesNow view rules request p q reply
+IsOpenReply view source rules p q (Ok (line.Drain limit)) reply = DrainsFor view true limit rules p q reply
+IsOpenReply view source rules p q (Ok (line.Watch limit)) reply = DrainsFor view false limit rules p q reply
+IsOpenReply view source rules p q (Ok line.Tidy) reply = TidiesNow view p q reply
+IsOpenReply view source rules p q (Ok line.Leave) reply = (reply ≡ refused refusal.UnknownOp) × (q ≡ p)
+IsOpenReply view source rules p q (Ok line.Version) reply = (reply ≡ answer.Version) × (q ≡ p)
+IsOpenReply view source rules p q (Ok line.Status) reply = IsStatusReply p.executor reply × (q ≡ p)
+IsOpenReply view source rules p q (Ok (line.Meta provider agent limit)) reply =
     IsMetaReply source provider agent limit reply × (q ≡ p)
-IsOpenReply look source rules p q (Ok (line.Direct direct)) reply = (reply ≡ answer.Direct direct) × (q ≡ p)
-IsOpenReply look source rules p q (Err why) reply = (reply ≡ refused why) × (q ≡ p)
+IsOpenReply view source rules p q (Ok (line.Direct direct)) reply = (reply ≡ answer.Direct direct) × (q ≡ p)
+IsOpenReply view source rules p q (Err why) reply = (reply ≡ refused why) × (q ≡ p)
 
 -- the reply of an executor, open or closed
-pub record IsReply {D : Type 0} (look : D → View) (source : Source) (rules : Rules)
+pub record IsReply {D : Type 0} (view : D → View) (source : Source) (rules : Rules)
     (p q : Spot D) (found : Result Line Refusal) (reply : LineReply) : Type 0 where
-  pub while_open : p.executor.is_open ≡ true → IsOpenReply look source rules p q found reply
+  pub while_open : p.executor.is_open ≡ true → IsOpenReply view source rules p q found reply
   pub once_closed : p.executor.is_open ≡ false → IsClosedReply source found reply × (q ≡ p)

@@ -19,70 +19,70 @@ use Rattle.exec_session.specs.Leaving.{LeaveBreaks}
 use Rattle.exec_session.specs.Progress.{Answers, AnswersSo}
 use Rattle.exec_session.specs.Reports.{ReadyBreaks, ReportBreaks, SendsReady, SendsReport, ended}
 use Rattle.exec_session.specs.Rules.{Rules}
-use Rattle.exec_session.specs.Looks.{Lines}
+use Rattle.exec_session.specs.Polls.{Lines}
 use Rattle.exec_session.specs.Runs.{Finishes, MakesTurns, MayGoOn, MayTurn, NewsSo, OwnTurn, Reaches, of_command}
 use Rattle.exec_session.specs.Spots.{MayBreakOff, Position, Spot, SendsPart, following}
 use Rattle.exec_session.specs.Steps.{Steps}
 
 -- A session broke off in an own turn: the client received a prefix of its notices, or of the line that says how it ended.
-pub data OwnTurnBreaks {D : Type 0} (look : D → View) (rules : Rules) (before : TurnEnd) (p q : Spot D) : Type 0 where
-  in_notices : (now : ℕ) (end : TurnEnd) → TurnReceived (SendsPart rules.form) look rules now (following p (Shown now)) q end
-      → OwnTurnBreaks look rules before p q
-  in_end : (now : ℕ) (end : TurnEnd) (noticed : Spot D) → MakesTurn look rules now (following p (Shown now)) noticed end
-      → NewsSo (SendsPart rules.form) before end noticed q → OwnTurnBreaks look rules before p q
+pub data OwnTurnBreaks {D : Type 0} (view : D → View) (rules : Rules) (before : TurnEnd) (p q : Spot D) : Type 0 where
+  in_notices : (now : ℕ) (end : TurnEnd) → TurnReceived (SendsPart rules.form) view rules now (following p (Shown now)) q end
+      → OwnTurnBreaks view rules before p q
+  in_end : (now : ℕ) (end : TurnEnd) (noticed : Spot D) → MakesTurn view rules now (following p (Shown now)) noticed end
+      → NewsSo (SendsPart rules.form) before end noticed q → OwnTurnBreaks view rules before p q
 
 -- a session broke off in answering a line: in the reply, or, if the executor is open, before it
 abbrev pub AnswerBreaks : {D : Type 0} → (D → View) → Source → Rules → Result Line Refusal → Spot D → Spot D → Type 0
-AnswerBreaks look source rules found p q =
-    AnswersSo (SendsPart rules.form) look source rules found p q
-    ⊎ ((p.executor.is_open ≡ true) × ReplyBreaks look rules p q found)
+AnswerBreaks view source rules found p q =
+    AnswersSo (SendsPart rules.form) view source rules found p q
+    ⊎ ((p.executor.is_open ≡ true) × ReplyBreaks view rules p q found)
 
 -- a line is answered, or its answer breaks off
 abbrev pub AnswersLine : {D E : Type 0} → (D → View) → Source → Rules → Result Line Refusal → Position D → Position D
     → Result Unit E → Type 0
-AnswersLine look source rules found p q result =
-    Steps (Answers look source rules found p.at) (AnswerBreaks look source rules found p.at) p q result
+AnswersLine view source rules found p q result =
+    Steps (Answers view source rules found p.at) (AnswerBreaks view source rules found p.at) p q result
 
 -- After a position that a session has reached, with these lines unanswered, it did at most one thing more, of which the client received a
 -- prefix: it asked something that failed; or it answered the next line, or a drain's turns up to one of them, or a group commit; or it
 -- made a turn, or sent that a disk fault ends it, or made an orderly end.
-pub data BreaksIn {D : Type 0} (look : D → View) (source : Source) (rules : Rules) (own : OwnTurn) (lines : Lines)
+pub data BreaksIn {D : Type 0} (view : D → View) (source : Source) (rules : Rules) (own : OwnTurn) (lines : Lines)
     (m : Position D) (q : Spot D) : Type 0 where
-  at_once : q ≡ m.at → BreaksIn look source rules own lines m q
-  in_event : (event : IoEvent) → is_failure event ≡ true → q ≡ following m.at event → BreaksIn look source rules own lines m q
+  at_once : q ≡ m.at → BreaksIn view source rules own lines m q
+  in_event : (event : IoEvent) → is_failure event ≡ true → q ≡ following m.at event → BreaksIn view source rules own lines m q
   in_line : (found : Result Line Refusal) → lines ≡ found ∷ [] → MayGoOn rules.way m.at.executor
-      → AnswerBreaks look source rules found m.at q → BreaksIn look source rules own lines m q
+      → AnswerBreaks view source rules found m.at q → BreaksIn view source rules own lines m q
   in_batch : (commands : List Command) (others : Lines) → lines ≡ map of_command commands ++ others → m.at.executor.is_open ≡ true
-      → BatchBreaks look rules commands m.at q → BreaksIn look source rules own lines m q
-  in_own_turn : MayTurn rules.way own lines m.at → OwnTurnBreaks look rules own.end m.at q
-      → BreaksIn look source rules own lines m q
+      → BatchBreaks view rules commands m.at q → BreaksIn view source rules own lines m q
+  in_own_turn : MayTurn rules.way own lines m.at → OwnTurnBreaks view rules own.end m.at q
+      → BreaksIn view source rules own lines m q
   in_fault : MakesTurns rules.way → m.at.executor.is_open ≡ false → SendsPart rules.form m.at q (ended Disk ∷ [])
-      → BreaksIn look source rules own lines m q
-  in_leave : MakesTurns rules.way → lines ≡ Ok line.Leave ∷ [] → m.at.executor.is_open ≡ true → LeaveBreaks look rules m.at q
-      → BreaksIn look source rules own lines m q
+      → BreaksIn view source rules own lines m q
+  in_leave : MakesTurns rules.way → lines ≡ Ok line.Leave ∷ [] → m.at.executor.is_open ≡ true → LeaveBreaks view rules m.at q
+      → BreaksIn view source rules own lines m q
 
 -- Line after line was answered, up to a position after which the session broke off: the last question failed, or the loops have gone
 -- round as often as they can.
-pub record BreaksOff {D : Type 0} (look : D → View) (source : Source) (rules : Rules) (p : Position D) (q : Spot D) : Type 0 where
+pub record BreaksOff {D : Type 0} (view : D → View) (source : Source) (rules : Rules) (p : Position D) (q : Spot D) : Type 0 where
   pub own : OwnTurn
   pub count : ℕ
   pub lines : Lines
   pub last : Position D
-  pub reached : Reaches look source rules p own count lines last
-  pub breaks : BreaksIn look source rules own lines last q
+  pub reached : Reaches view source rules p own count lines last
+  pub breaks : BreaksIn view source rules own lines last q
   pub cause : MayBreakOff q.events
 
 -- a session finished, or broke off before
 abbrev pub EndsOrBreaks : {D E : Type 0} → (D → View) → Source → Rules → Position D → Position D → Result Unit E → Type 0
-EndsOrBreaks look source rules p q (Ok done) = Finishes look source rules p q
-EndsOrBreaks look source rules p q (Err fault) = BreaksOff look source rules p q.at
+EndsOrBreaks view source rules p q (Ok done) = Finishes view source rules p q
+EndsOrBreaks view source rules p q (Err fault) = BreaksOff view source rules p q.at
 
 -- A session broke off while it sent the report, or that it is ready, or after that.
-pub data RunBreaks {D N : Type 0} (look : D → View) (source : Source) (rules : Rules) (report : Report N)
+pub data RunBreaks {D N : Type 0} (view : D → View) (source : Source) (rules : Rules) (report : Report N)
     (p : Position D) (q : Spot D) : Type 0 where
-  in_report : ReportBreaks rules.form report p.at q → RunBreaks look source rules report p q
+  in_report : ReportBreaks rules.form report p.at q → RunBreaks view source rules report p q
   in_ready : (opening_report : Spot D) → SendsReport rules.form report p.at opening_report
-      → ReadyBreaks rules.way rules.form opening_report q → RunBreaks look source rules report p q
+      → ReadyBreaks rules.way rules.form opening_report q → RunBreaks view source rules report p q
   after_ready : (opening_report begun : Spot D) → SendsReport rules.form report p.at opening_report
       → SendsReady rules.way rules.form opening_report begun
-      → BreaksOff look source rules (record p { at = begun }) q → RunBreaks look source rules report p q
+      → BreaksOff view source rules (record p { at = begun }) q → RunBreaks view source rules report p q

@@ -17,18 +17,18 @@ use Rattle.exec_session.specs.declared.drain.Terms.{Terms}
 
 -- A turn at this time, the last clock reading: the book is emptied, a due tidy is made, then the turn, and its notices are sent like
 -- this. If a disk fault closed the executor in the tidy, no turn is made and nothing is sent.
-pub record TurnReceived {D : Type 0} (sends_so : Sending D) (look : D → View) (rules : Rules) (now : ℕ) (p q : Spot D)
+pub record TurnReceived {D : Type 0} (sends_so : Sending D) (view : D → View) (rules : Rules) (now : ℕ) (p q : Spot D)
     (end : TurnEnd) : Type 0 where
   pub shown : last_shown p.events ≡ Some now
   pub middle : ExecutorView D
-  pub room : MakesRoom look rules now (with_empty_book p.executor) middle
-  pub takes : middle.is_open ≡ true → TakesTurn look now middle q.executor end
+  pub room : MakesRoom view rules now (with_empty_book p.executor) middle
+  pub takes : middle.is_open ≡ true → TakesTurn view now middle q.executor end
   pub sends_all : middle.is_open ≡ true → sends_so (moved p q.executor) q (noticed q.executor)
   pub fails : middle.is_open ≡ false → (end ≡ Disk) × (q ≡ moved p middle)
 
 -- the client receives all of them
 abbrev pub MakesTurn : {D : Type 0} → (D → View) → Rules → ℕ → Spot D → Spot D → TurnEnd → Type 0
-MakesTurn look rules now p q end = TurnReceived (SendsAll rules.form) look rules now p q end
+MakesTurn view rules now p q end = TurnReceived (SendsAll rules.form) view rules now p q end
 
 -- After a turn at the second time, in a drain since the first: a short pause, then the client still reads, and then the clock shows the
 -- third time.
@@ -49,16 +49,16 @@ end_at t turns now end e = end_after t turns now end (not (any_busy e.state))
 
 -- This many turns were made, none of which ended the drain, each at the clock reading after the one before. The first was at the start,
 -- and the next will be at this time.
-pub data GoesOn {D : Type 0} (look : D → View) (rules : Rules) (t : Terms) (start : ℕ)
+pub data GoesOn {D : Type 0} (view : D → View) (rules : Rules) (t : Terms) (start : ℕ)
     (p : Spot D) : ℕ → ℕ → Spot D → Type 0 where
-  at_start : GoesOn look rules t start p 0 start p
+  at_start : GoesOn view rules t start p 0 start p
   further : (turns now after : ℕ) (m reported q : Spot D) (end : TurnEnd)
-      → GoesOn look rules t start p turns now m → MakesTurn look rules now m reported end → Rests start now reported q after
+      → GoesOn view rules t start p turns now m → MakesTurn view rules now m reported end → Rests start now reported q after
       → end_at t (turns + 1) after end reported.executor ≡ None
-      → GoesOn look rules t start p (turns + 1) after q
+      → GoesOn view rules t start p (turns + 1) after q
 
 -- A whole drain from this start: turns after which it goes on, and the one that ends it.
-pub record Drains {D : Type 0} (look : D → View) (rules : Rules) (t : Terms) (start : ℕ)
+pub record Drains {D : Type 0} (view : D → View) (rules : Rules) (t : Terms) (start : ℕ)
     (p q : Spot D) (end : DrainEnd) : Type 0 where
   pub turns : ℕ
   pub now : ℕ
@@ -66,7 +66,7 @@ pub record Drains {D : Type 0} (look : D → View) (rules : Rules) (t : Terms) (
   pub last : Spot D
   pub reported : Spot D
   pub turn_end : TurnEnd
-  pub gone_on : GoesOn look rules t start p turns now last
-  pub made : MakesTurn look rules now last reported turn_end
+  pub gone_on : GoesOn view rules t start p turns now last
+  pub made : MakesTurn view rules now last reported turn_end
   pub rests : Rests start now reported q after
   pub ended : end_at t (turns + 1) after turn_end reported.executor ≡ Some end

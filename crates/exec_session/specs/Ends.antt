@@ -18,38 +18,38 @@ use Rattle.exec_session.specs.Spots.{Position, Spot, position, spot}
 
 -- The report is sent first, and in `serve` the line that the session is ready; then all lines are answered, or in `serve` a disk fault
 -- ends the session.
-pub record Runs {D N : Type 0} (look : D → View) (source : Source) (rules : Rules) (report : Report N)
+pub record Runs {D N : Type 0} (view : D → View) (source : Source) (rules : Rules) (report : Report N)
     (p q : Position D) : Type 0 where
   pub opening_report : Spot D
   pub report_first : SendsReport rules.form report p.at opening_report
   pub begun : Spot D
   pub ready : SendsReady rules.way rules.form opening_report begun
-  pub lines : Finishes look source rules (record p { at = begun }) q
+  pub lines : Finishes view source rules (record p { at = begun }) q
 
 -- how a session from one position to another ends
 abbrev pub EndsAs : {D N T : Type 0} → (D → View) → Source → Rules → Report N → Position D
     → Position D → Result T Fault → Type 0
-EndsAs look source rules report p q (Ok done) = Runs look source rules report p q × (q.at.executor.is_open ≡ true)
-EndsAs look source rules report p q (Err Disk) =
-    Runs look source rules report p q × (q.at.executor.is_open ≡ false)
-EndsAs look source rules report p q (Err InputOrOutput) = RunBreaks look source rules report p q.at
-EndsAs look source rules report p q (Err ReplyMemory) = RunBreaks look source rules report p q.at
-EndsAs look source rules report p q (Err _) = ⊥
+EndsAs view source rules report p q (Ok done) = Runs view source rules report p q × (q.at.executor.is_open ≡ true)
+EndsAs view source rules report p q (Err Disk) =
+    Runs view source rules report p q × (q.at.executor.is_open ≡ false)
+EndsAs view source rules report p q (Err InputOrOutput) = RunBreaks view source rules report p q.at
+EndsAs view source rules report p q (Err ReplyMemory) = RunBreaks view source rules report p q.at
+EndsAs view source rules report p q (Err _) = ⊥
 
 -- A session that begins at this position ended, and its edge shows this. At its end all agent processes are given up, and the agents and
 -- the disk are given back.
-pub record Ended {D C N : Type 0} (look : D → View) (tend : C → ChildrenView) (source : Source) (rules : Rules) (report : Report N)
+pub record Ended {D C N : Type 0} (view : D → View) (tend : C → ChildrenView) (source : Source) (rules : Rules) (report : Report N)
     (p : Position D) (edge : EdgeView D) (ended : Result Unit Fault) (disk : D) (children : C) : Type 0 where
   pub last : ExecutorView D
-  pub ends : EndsAs look source rules report p (position (spot last edge.client_view edge.events) edge.left) ended
+  pub ends : EndsAs view source rules report p (position (spot last edge.client_view edge.events) edge.left) ended
   pub disk_is : disk ≡ last.disk
   pub children_are : tend children ≡ given_up last.children
 
 -- However a session ends, its executor went on by calls alone since it was opened, and is closed; and all that its client was sent is
 -- backed by what they recorded. This disk and these agents are those that it gave back.
-pub record ClosesByCalls {D : Type 0} (look : D → View) (opened : ExecutorView D) (client_view : ClientView D) (disk : D) (children : ChildrenView) : Type 0 where
+pub record ClosesByCalls {D : Type 0} (view : D → View) (opened : ExecutorView D) (client_view : ClientView D) (disk : D) (children : ChildrenView) : Type 0 where
   pub last : ExecutorView D
-  pub holds : IsBacked look opened last client_view.reported
+  pub holds : IsBacked view opened last client_view.reported
   pub is_closed : last.is_open ≡ false
   pub disk_is : disk ≡ last.disk
   pub children_are : children ≡ last.children

@@ -7,7 +7,7 @@ use Rattle.exec_commands.specs.declared.line.Line.TheVariants as line
 use Rattle.exec_session.specs.Answers.{Source}
 use Rattle.exec_session.specs.Progress.{Answers, AnswersSo}
 use Rattle.exec_session.specs.Rules.{Rules}
-use Rattle.exec_session.specs.Looks.{Lines}
+use Rattle.exec_session.specs.Polls.{Lines}
 use Rattle.exec_session.specs.Spots.{MayBreakOff, Spot, SendsPart}
 use Rattle.exec_session.specs.declared.context.Way.{Way}
 use Rattle.exec_session.specs.declared.context.Way.TheVariants.{Run}
@@ -40,7 +40,7 @@ MayTakeAtOnce way _ = ⊤
 
 -- the held line was answered; or its agent has not answered by now and nothing was done; or its reply broke off
 abbrev pub AnswersHeld : {D E : Type 0} → (D → View) → Source → Rules → Held → Spot D → Spot D → Result Bool E → Type 0
-AnswersHeld look source rules held p q (Ok true) = Answers look source rules (Ok (asks held)) p q
-AnswersHeld look source rules held p q (Ok false) = q ≡ p
-AnswersHeld look source rules held p q (Err fault) =
-    AnswersSo (SendsPart rules.form) look source rules (Ok (asks held)) p q × MayBreakOff q.events
+AnswersHeld view source rules held p q (Ok true) = Answers view source rules (Ok (asks held)) p q
+AnswersHeld view source rules held p q (Ok false) = q ≡ p
+AnswersHeld view source rules held p q (Err fault) =
+    AnswersSo (SendsPart rules.form) view source rules (Ok (asks held)) p q × MayBreakOff q.events

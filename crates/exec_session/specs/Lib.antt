@@ -7,7 +7,7 @@ pub mod Gathered
 pub mod Held
 pub mod Leaving
 pub mod Limits
-pub mod Looks
+pub mod Polls
 pub mod Pausing
 pub mod Pending
 pub mod Reports

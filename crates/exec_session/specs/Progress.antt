@@ -45,13 +45,13 @@ ReadsInput way old new found.Empty = PassesLine old new
 ReadsInput way old new (found.Line line) = ReadsLine way old new line
 
 -- A line that was read is answered: the client is sent the notices of a drain, and then only the reply, which is sent like this.
-pub record AnswersSo {D : Type 0} (sends_so : Sending D) (look : D → View) (source : Source) (rules : Rules)
+pub record AnswersSo {D : Type 0} (sends_so : Sending D) (view : D → View) (source : Source) (rules : Rules)
     (found : Result Line Refusal) (p q : Spot D) : Type 0 where
   pub reply : LineReply
   pub noticed : Spot D
-  pub answered : IsReply look source rules p noticed found reply
+  pub answered : IsReply view source rules p noticed found reply
   pub sends_all : sends_so noticed q (Answered reply ∷ [])
 
 -- the client receives all of it
 abbrev pub Answers : {D : Type 0} → (D → View) → Source → Rules → Result Line Refusal → Spot D → Spot D → Type 0
-Answers look source rules found p q = AnswersSo (SendsAll rules.form) look source rules found p q
+Answers view source rules found p q = AnswersSo (SendsAll rules.form) view source rules found p q

@@ -61,8 +61,8 @@ is_tidy_due rules x now pace =
 
 -- If a tidy is due at this time, one is made, and else nothing is done. The time of a piece, at least a millisecond, was measured in the
 -- last tidy, or is a guess.
-pub record MakesRoom {D : Type 0} (look : D → View) (rules : Rules) (now : ℕ) (old new : ExecutorView D) : Type 0 where
+pub record MakesRoom {D : Type 0} (view : D → View) (rules : Rules) (now : ℕ) (old new : ExecutorView D) : Type 0 where
   pub pace : ℕ
   pub some_time : 1 ≤ pace
-  pub made : is_tidy_due rules old now pace ≡ true → (end : TidyEnd) × Tidies look old new end
+  pub made : is_tidy_due rules old now pace ≡ true → (end : TidyEnd) × Tidies view old new end
   pub none : is_tidy_due rules old now pace ≡ false → new ≡ old

@@ -17,12 +17,12 @@ use Rattle.exec_commands.specs.declared.line.Line.{Line}
 use Rattle.exec_commands.specs.declared.line.Line.TheVariants as line
 use Rattle.exec_session.specs.Answers.{Source}
 use Rattle.exec_trace.specs.declared.event.IoEvent.{IoEvent}
-use Rattle.exec_trace.specs.declared.event.IoEvent.TheVariants.{Asked, Looked, Peeked, Read, Rested, Shown}
+use Rattle.exec_trace.specs.declared.event.IoEvent.TheVariants.{Asked, Polled, Peeked, Read, Rested, Shown}
 use Rattle.exec_session.specs.Drains.{MakesTurn}
 use Rattle.exec_session.specs.Leaving.{LeavesFrom}
 use Rattle.exec_session.specs.Limits.{lines_a_turn}
 use Rattle.exec_session.specs.Pausing.{IsQuietSince, MayPause}
-use Rattle.exec_session.specs.Looks.{FollowsRead, HasLooked, Lines, MayRead, misses_in, reads_in}
+use Rattle.exec_session.specs.Polls.{FollowsRead, HasPolled, Lines, MayRead, misses_in, reads_in}
 use Rattle.exec_session.specs.Reports.{ended}
 use Rattle.exec_session.specs.Rules.{Rules}
 use Rattle.exec_session.specs.Progress.{Answers, PassesLine, ReadsLine}
@@ -60,10 +60,10 @@ pub data NewsSo {D : Type 0} (sends_so : Sending D) (before end : TurnEnd) (p q 
 
 -- A turn that a session makes by itself after one that ended like this, at this time, the clock reading at its beginning: the client
 -- receives its notices, and its end if that is news.
-pub record MakesOwnTurn {D : Type 0} (look : D → View) (rules : Rules) (before : TurnEnd) (now : ℕ) (p q : Spot D) (end : TurnEnd)
+pub record MakesOwnTurn {D : Type 0} (view : D → View) (rules : Rules) (before : TurnEnd) (now : ℕ) (p q : Spot D) (end : TurnEnd)
     : Type 0 where
   pub noticed : Spot D
-  pub made : MakesTurn look rules now (following p (Shown now)) noticed end
+  pub made : MakesTurn view rules now (following p (Shown now)) noticed end
   pub reported : NewsSo (SendsAll rules.form) before end noticed q
 
 -- a command as a line
@@ -77,7 +77,7 @@ read_to p left = position (following p.at (Read true)) left
 -- A question that a session asks, after these events and with these lines unanswered, on the way to its next line: in `serve` a poll
 -- without a wait; after a read, whether a further line is there; and a read, of a part of a line or of none.
 abbrev pub IsLook : Way → Lines → List IoEvent → IoEvent → Type 0
-IsLook way lines events (Looked millis ready) = MakesTurns way × (millis ≡ 0)
+IsLook way lines events (Polled millis ready) = MakesTurns way × (millis ≡ 0)
 IsLook way lines events (Peeked has_line) = FollowsRead events
 IsLook way lines events (Read done) = (done ≡ true) × MayRead lines events
 IsLook way lines events _ = ⊥
@@ -86,7 +86,7 @@ IsLook way lines events _ = ⊥
 -- of the input, short or until the first monitor is due, and a second at most; a pause of that length; a clock reading; and whether
 -- anybody still reads the output.
 abbrev pub IsWait : {D : Type 0} → ℕ → ℕ → Spot D → IoEvent → Type 0
-IsWait since now p (Looked millis ready) = MayPause since now p.executor p.events (millis * 1000)
+IsWait since now p (Polled millis ready) = MayPause since now p.executor p.events (millis * 1000)
 IsWait since now p (Rested micros) = MayPause since now p.executor p.events micros
 IsWait since now p (Shown moment) = ⊤
 IsWait since now p (Asked client_view) = client_view ≡ true
@@ -127,88 +127,88 @@ pub record MayTurn {D : Type 0} (way : Way) (own : OwnTurn) (lines : Lines) (p :
   pub serves : MakesTurns way
   pub rests : MayRest lines
   pub is_open : p.executor.is_open ≡ true
-  pub looked : HasLooked own.reads own.misses (own.lines ++ lines) p.events
+  pub polled : HasPolled own.reads own.misses (own.lines ++ lines) p.events
 
 -- A session has come from one position to another. It read line after line, in their order, without a gap, and has not answered these
 -- yet. It answered the others in that order; commands that were read one after the other may be a group commit. In `serve` it made turns
 -- between them, and polled for lines after each before the next one. No command waits for a line that is not there. Each clock reading of
 -- an answer or a turn comes after the read of the last line before it. Only in `run` does a session go on once its executor is closed.
 -- The turn is the last own one, and the number counts the lines that were answered or passed over since then.
-pub data Reaches {D : Type 0} (look : D → View) (source : Source) (rules : Rules) (p : Position D)
+pub data Reaches {D : Type 0} (view : D → View) (source : Source) (rules : Rules) (p : Position D)
     : OwnTurn → ℕ → Lines → Position D → Type 0 where
-  here : Reaches look source rules p (turned 0 0 Done [] p.at) 0 [] p
-  looks : (own : OwnTurn) (n : ℕ) (lines : Lines) (m : Position D) (event : IoEvent) → Reaches look source rules p own n lines m
-      → IsLook rules.way lines m.at.events event → Reaches look source rules p own n lines (position (following m.at event) m.left)
-  waits : (own : OwnTurn) (n : ℕ) (lines : Lines) (m : Position D) (event : IoEvent) → Reaches look source rules p own n lines m
-      → MayGoOn rules.way m.at.executor → MayRest lines → IsWait own.since own.now m.at event → Reaches look source rules p own n lines (position (following m.at event) m.left)
+  here : Reaches view source rules p (turned 0 0 Done [] p.at) 0 [] p
+  looks : (own : OwnTurn) (n : ℕ) (lines : Lines) (m : Position D) (event : IoEvent) → Reaches view source rules p own n lines m
+      → IsLook rules.way lines m.at.events event → Reaches view source rules p own n lines (position (following m.at event) m.left)
+  waits : (own : OwnTurn) (n : ℕ) (lines : Lines) (m : Position D) (event : IoEvent) → Reaches view source rules p own n lines m
+      → MayGoOn rules.way m.at.executor → MayRest lines → IsWait own.since own.now m.at event → Reaches view source rules p own n lines (position (following m.at event) m.left)
   reads : (own : OwnTurn) (n : ℕ) (commands : List Command) (m : Position D) (left : Option (List ℕ)) (found : Result Line Refusal)
-      → Reaches look source rules p own n (map of_command commands) m → MayGoOn rules.way m.at.executor
+      → Reaches view source rules p own n (map of_command commands) m → MayGoOn rules.way m.at.executor
       → MayRead (map of_command commands) m.at.events → ReadsLine rules.way m.left left found
-      → Reaches look source rules p own n (map of_command commands ++ found ∷ []) (read_to m left)
-  passes : (own : OwnTurn) (n : ℕ) (m : Position D) (left : Option (List ℕ)) → Reaches look source rules p own n [] m
+      → Reaches view source rules p own n (map of_command commands ++ found ∷ []) (read_to m left)
+  passes : (own : OwnTurn) (n : ℕ) (m : Position D) (left : Option (List ℕ)) → Reaches view source rules p own n [] m
       → MayGoOn rules.way m.at.executor → MayTake rules.way n → PassesLine m.left left
-      → Reaches look source rules p own (n + 1) [] (position m.at left)
+      → Reaches view source rules p own (n + 1) [] (position m.at left)
   answers : (own : OwnTurn) (n : ℕ) (found : Result Line Refusal) (m : Position D) (q : Spot D)
-      → Reaches look source rules p own n (found ∷ []) m → MayGoOn rules.way m.at.executor → MayTake rules.way n
-      → Answers look source rules found m.at q → Reaches look source rules p own (n + 1) [] (position q m.left)
+      → Reaches view source rules p own n (found ∷ []) m → MayGoOn rules.way m.at.executor → MayTake rules.way n
+      → Answers view source rules found m.at q → Reaches view source rules p own (n + 1) [] (position q m.left)
   batch : (own : OwnTurn) (n : ℕ) (first : Command) (others : List Command) (lines : Lines) (m : Position D) (q : Spot D)
-      → Reaches look source rules p own n (map of_command (first ∷ others) ++ lines) m → m.at.executor.is_open ≡ true
-      → MayTake rules.way (n + length others) → AnswersTogether look rules (first ∷ others) m.at q
-      → Reaches look source rules p own (n + length others + 1) lines (position q m.left)
+      → Reaches view source rules p own n (map of_command (first ∷ others) ++ lines) m → m.at.executor.is_open ≡ true
+      → MayTake rules.way (n + length others) → AnswersTogether view rules (first ∷ others) m.at q
+      → Reaches view source rules p own (n + length others + 1) lines (position q m.left)
   turn : (own : OwnTurn) (n : ℕ) (lines : Lines) (m : Position D) (q : Spot D) (end : TurnEnd) (now since : ℕ)
-      → Reaches look source rules p own n lines m → MayTurn rules.way own lines m.at → MakesOwnTurn look rules own.end now m.at q end
+      → Reaches view source rules p own n lines m → MayTurn rules.way own lines m.at → MakesOwnTurn view rules own.end now m.at q end
       → IsQuietSince q.executor.children.book now own.since since
-      → Reaches look source rules p (turned now since end lines q) 0 lines (position q m.left)
+      → Reaches view source rules p (turned now since end lines q) 0 lines (position q m.left)
 
 -- the same up to the end of the input
-pub record ReachesEnd {D : Type 0} (look : D → View) (source : Source) (rules : Rules) (p : Position D) (q : Spot D) : Type 0 where
+pub record ReachesEnd {D : Type 0} (view : D → View) (source : Source) (rules : Rules) (p : Position D) (q : Spot D) : Type 0 where
   pub own : OwnTurn
   pub count : ℕ
   pub left : Option (List ℕ)
-  pub reached : Reaches look source rules p own count [] (position q left)
+  pub reached : Reaches view source rules p own count [] (position q left)
   pub end : IsAtEnd left
   pub goes_on : MayGoOn rules.way q.executor
 
 -- the same up to a disk fault that has closed the executor, in `serve`
-pub record ReachesFault {D : Type 0} (look : D → View) (source : Source) (rules : Rules) (p : Position D) (q : Spot D) : Type 0 where
+pub record ReachesFault {D : Type 0} (view : D → View) (source : Source) (rules : Rules) (p : Position D) (q : Spot D) : Type 0 where
   pub serves : MakesTurns rules.way
   pub own : OwnTurn
   pub count : ℕ
   pub lines : Lines
   pub left : Option (List ℕ)
-  pub reached : Reaches look source rules p own count lines (position q left)
+  pub reached : Reaches view source rules p own count lines (position q left)
   pub is_closed : q.executor.is_open ≡ false
 
 -- the same up to a line that asks for the end of the session, in `serve`, and is not answered yet
-pub record ReachesLeave {D : Type 0} (look : D → View) (source : Source) (rules : Rules) (p : Position D) (q : Spot D) : Type 0 where
+pub record ReachesLeave {D : Type 0} (view : D → View) (source : Source) (rules : Rules) (p : Position D) (q : Spot D) : Type 0 where
   pub serves : MakesTurns rules.way
   pub own : OwnTurn
   pub count : ℕ
   pub left : Option (List ℕ)
-  pub reached : Reaches look source rules p own count (Ok line.Leave ∷ []) (position q left)
+  pub reached : Reaches view source rules p own count (Ok line.Leave ∷ []) (position q left)
   pub is_open : q.executor.is_open ≡ true
 
 -- A disk fault ended a session in `serve`: nothing more was done, no line was answered, and the last line that the client received is
 -- that of the fault.
-pub record EndsByFault {D : Type 0} (look : D → View) (source : Source) (rules : Rules) (p : Position D) (q : Spot D) : Type 0 where
+pub record EndsByFault {D : Type 0} (view : D → View) (source : Source) (rules : Rules) (p : Position D) (q : Spot D) : Type 0 where
   pub last : Spot D
-  pub fault : ReachesFault look source rules p last
+  pub fault : ReachesFault view source rules p last
   pub sends_all : SendsAll rules.form last q (ended Disk ∷ [])
 
 -- The last line that was read asked a session in `serve` to end, and it made an orderly end.
-pub record EndsInOrder {D : Type 0} (look : D → View) (source : Source) (rules : Rules) (p : Position D) (q : Spot D) : Type 0 where
+pub record EndsInOrder {D : Type 0} (view : D → View) (source : Source) (rules : Rules) (p : Position D) (q : Spot D) : Type 0 where
   pub last : Spot D
-  pub asked : ReachesLeave look source rules p last
-  pub leaves : LeavesFrom look rules last q
+  pub asked : ReachesLeave view source rules p last
+  pub leaves : LeavesFrom view rules last q
 
 -- all lines were answered; or, in `serve`, a disk fault ended the session, or a line asked for its end
 abbrev pub Finishes : {D : Type 0} → (D → View) → Source → Rules → Position D → Position D → Type 0
-Finishes look source rules p q =
-    ReachesEnd look source rules p q.at
-    ⊎ (EndsByFault look source rules p q.at ⊎ EndsInOrder look source rules p q.at)
+Finishes view source rules p q =
+    ReachesEnd view source rules p q.at
+    ⊎ (EndsByFault view source rules p q.at ⊎ EndsInOrder view source rules p q.at)
 
 -- Calls alone lead from one spot to another, with these messages, which are backed by what the calls recorded.
-pub record GoesByCalls {D : Type 0} (look : D → View) (p q : Spot D) : Type 0 where
+pub record GoesByCalls {D : Type 0} (view : D → View) (p q : Spot D) : Type 0 where
   pub items : List SentItem
   pub reported : IsSent p.client_view q.client_view items
-  pub holds : IsBacked look p.executor q.executor items
+  pub holds : IsBacked view p.executor q.executor items

@@ -13,27 +13,27 @@ use Rattle.exec_session.specs.Spots.{Spot, Sending, SendsAll, following, moved}
 
 -- An open executor serves a group commit at this time: a due tidy is made, and then it takes the commands. If a disk fault closed the
 -- executor in the tidy, each is refused for that and nothing else is done.
-pub record ServesTogether {D : Type 0} (look : D → View) (rules : Rules) (now : ℕ) (commands : List Command)
+pub record ServesTogether {D : Type 0} (view : D → View) (rules : Rules) (now : ℕ) (commands : List Command)
     (old new : ExecutorView D) (given : List Reply) : Type 0 where
   pub middle : ExecutorView D
-  pub room : MakesRoom look rules now old middle
-  pub takes : middle.is_open ≡ true → TakesCommands look now commands middle new given
+  pub room : MakesRoom view rules now old middle
+  pub takes : middle.is_open ≡ true → TakesCommands view now commands middle new given
   pub fails : middle.is_open ≡ false → (given ≡ replicate (length commands) (Refused Disk)) × (new ≡ middle)
 
 -- The clock is read, and the group commit is served at that time; then only its replies are sent like this, in their order.
-pub record TogetherReceived {D : Type 0} (sends_so : Sending D) (look : D → View) (rules : Rules) (commands : List Command)
+pub record TogetherReceived {D : Type 0} (sends_so : Sending D) (view : D → View) (rules : Rules) (commands : List Command)
     (p q : Spot D) : Type 0 where
   pub now : ℕ
   pub given : List Reply
-  pub serves : ServesTogether look rules now commands p.executor q.executor given
+  pub serves : ServesTogether view rules now commands p.executor q.executor given
   pub sends_all : sends_so (following (moved p q.executor) (Shown now)) q (map answered given)
 
 -- the client receives all of them
 abbrev pub AnswersTogether : {D : Type 0} → (D → View) → Rules → List Command → Spot D → Spot D → Type 0
-AnswersTogether look rules commands p q = TogetherReceived (SendsAll rules.form) look rules commands p q
+AnswersTogether view rules commands p q = TogetherReceived (SendsAll rules.form) view rules commands p q
 
 -- the commands that wait, if any, are answered as a group commit
 abbrev pub AnswersAll : {D : Type 0} → (D → View) → Rules → List Command → Spot D
     → Spot D → Type 0
-AnswersAll look rules [] p q = q ≡ p
-AnswersAll look rules (first ∷ others) p q = AnswersTogether look rules (first ∷ others) p q
+AnswersAll view rules [] p q = q ≡ p
+AnswersAll view rules (first ∷ others) p q = AnswersTogether view rules (first ∷ others) p q

@@ -8,7 +8,7 @@ use Rattle.executor.specs.ExecutorView.{ExecutorView}
 use Rattle.exec_lines.specs.Buffer.{line_bytes}
 use Rattle.exec_lines.specs.Pieces.{IsMidLine}
 use Rattle.exec_trace.specs.declared.event.IoEvent.{IoEvent}
-use Rattle.exec_trace.specs.declared.event.IoEvent.TheVariants.{Looked}
+use Rattle.exec_trace.specs.declared.event.IoEvent.TheVariants.{Polled}
 use Rattle.exec_session.specs.Answers.{Source}
 use Rattle.exec_session.specs.Breaks.{AnswerBreaks, BreaksOff}
 use Rattle.exec_session.specs.Gathered.{waiting}
@@ -16,7 +16,7 @@ use Rattle.exec_session.specs.Held.{held_lines}
 use Rattle.exec_session.specs.Limits.{lines_a_turn, most_together}
 use Rattle.exec_session.specs.Progress.{Answers, PassesLine}
 use Rattle.exec_session.specs.Rules.{Rules}
-use Rattle.exec_session.specs.Looks.{IsThere, Lines, misses_in, reads_in}
+use Rattle.exec_session.specs.Polls.{IsThere, Lines, misses_in, reads_in}
 use Rattle.exec_session.specs.Runs.{IsWait, MakesTurns, MayGoOn, MayTake, OwnTurn, Reaches, ReachesEnd, ReachesFault, ReachesLeave, of_command}
 use Rattle.exec_session.specs.Spots.{Lasts, MayBreakOff, Position, Spot, following, position}
 use Rattle.exec_session.specs.declared.context.Way.{Way}
@@ -73,19 +73,19 @@ IsReadTo (Some held) left kept now = (now ≡ left) × (kept ≡ [])
 
 -- A session has come this far from a position: the commands that wait and the line that is held were read and are not answered, its last
 -- own turn ended like this, and of at most this many lines since then the others were answered.
-pub record HasCome {D : Type 0} (look : D → View) (source : Source) (rules : Rules)
+pub record HasCome {D : Type 0} (view : D → View) (source : Source) (rules : Rules)
     (p : Position D) (own : OwnTurn) (most : ℕ) (s : Midway D) : Type 0 where
   pub count : ℕ
   pub few : count + length s.commands ≤ most
   pub left : Option (List ℕ)
   pub mid : IsReadTo s.held left s.kept s.place.left
   pub reached :
-      Reaches look source rules p own count (map of_command s.commands ++ held_lines s.held) (position s.place.at left)
+      Reaches view source rules p own count (map of_command s.commands ++ held_lines s.held) (position s.place.at left)
   pub goes_on : MayGoOn rules.way s.place.at.executor
 
 -- one poll without a wait, or none
-abbrev pub LooksOnce : {D : Type 0} → Position D → Position D → Type 0
-LooksOnce p q = (q ≡ p) ⊎ ((ready : Bool) × (q ≡ position (following p.at (Looked 0 ready)) p.left))
+abbrev pub PollsOnce : {D : Type 0} → Position D → Position D → Type 0
+PollsOnce p q = (q ≡ p) ⊎ ((ready : Bool) × (q ≡ position (following p.at (Polled 0 ready)) p.left))
 
 -- A session waited after a turn at the second time, where nothing has ended or begun since the first: question after question.
 pub data Waits {D : Type 0} (since now : ℕ) (p : Position D) : Position D → Type 0 where
@@ -106,34 +106,34 @@ IsFound found.Empty left now = PassesLine left now
 IsFound found.End left now = IsAtEnd left
 
 -- A session has come so far that these commands wait, and has read what comes next, which is not answered.
-pub record HasFound {D : Type 0} (look : D → View) (source : Source) (rules : Rules)
+pub record HasFound {D : Type 0} (view : D → View) (source : Source) (rules : Rules)
     (p : Position D) (own : OwnTurn) (most : ℕ) (commands : List Command) (found : Found) (q : Position D) : Type 0 where
   pub count : ℕ
   pub few : count + length commands ≤ most
   pub left : Option (List ℕ)
   pub next : IsFound found left q.left
-  pub reached : Reaches look source rules p own count (map of_command commands ++ found_lines found) (position q.at left)
+  pub reached : Reaches view source rules p own count (map of_command commands ++ found_lines found) (position q.at left)
   pub goes_on : MayGoOn rules.way q.at.executor
 
 -- What was found was answered, or passed over, or is the end of the input, as the result says; or the answer broke off.
 abbrev pub TakesFound : {D E : Type 0} → (D → View) → Source → Rules → Found → Spot D → Spot D → Result Bool E → Type 0
-TakesFound look source rules (found.Line line) p q (Ok has_ended) = (has_ended ≡ false) × Answers look source rules line p q
-TakesFound look source rules found.Empty p q (Ok has_ended) = (has_ended ≡ false) × (q ≡ p)
-TakesFound look source rules found.End p q (Ok has_ended) = (has_ended ≡ true) × (q ≡ p)
-TakesFound look source rules (found.Line line) p q (Err fault) = AnswerBreaks look source rules line p q × MayBreakOff q.events
-TakesFound look source rules _ p q (Err fault) = ⊥
+TakesFound view source rules (found.Line line) p q (Ok has_ended) = (has_ended ≡ false) × Answers view source rules line p q
+TakesFound view source rules found.Empty p q (Ok has_ended) = (has_ended ≡ false) × (q ≡ p)
+TakesFound view source rules found.End p q (Ok has_ended) = (has_ended ≡ true) × (q ≡ p)
+TakesFound view source rules (found.Line line) p q (Err fault) = AnswerBreaks view source rules line p q × MayBreakOff q.events
+TakesFound view source rules _ p q (Err fault) = ⊥
 
 -- the session has come this far, or to the end of the input, or to a disk fault, or to the line that asks for its end
 abbrev pub ComesOrEnds : {D : Type 0} → (D → View) → Source → Rules → Position D → OwnTurn → ℕ → Midway D → Taken → Type 0
-ComesOrEnds look source rules p own most s More = HasCome look source rules p own most s
-ComesOrEnds look source rules p own most s End = ReachesEnd look source rules p s.place.at
-ComesOrEnds look source rules p own most s Closed = ReachesFault look source rules p s.place.at
-ComesOrEnds look source rules p own most s Leaves = ReachesLeave look source rules p s.place.at
+ComesOrEnds view source rules p own most s More = HasCome view source rules p own most s
+ComesOrEnds view source rules p own most s End = ReachesEnd view source rules p s.place.at
+ComesOrEnds view source rules p own most s Closed = ReachesFault view source rules p s.place.at
+ComesOrEnds view source rules p own most s Leaves = ReachesLeave view source rules p s.place.at
 
 -- the same, or it broke off
 abbrev pub Comes : {D E : Type 0} → (D → View) → Source → Rules → Position D → OwnTurn → ℕ → Midway D → Result Taken E → Type 0
-Comes look source rules p own most s (Ok taken) = ComesOrEnds look source rules p own most s taken
-Comes look source rules p own most s (Err fault) = BreaksOff look source rules p s.place.at
+Comes view source rules p own most s (Ok taken) = ComesOrEnds view source rules p own most s taken
+Comes view source rules p own most s (Err fault) = BreaksOff view source rules p s.place.at
 
 -- in this mode a session may take a line after at most this many since its last turn
 abbrev pub MayTakeAfter : Way → ℕ → Type 0
@@ -141,21 +141,21 @@ MayTakeAfter way most = (n : ℕ) → n ≤ most → MayTake way n
 
 -- A step of a session that has found this, with no part of a further line: the log grows; what was read may stay unanswered, and no
 -- further line was begun; and a session that had come so far comes further by it, or ends, or breaks off.
-pub record Takes {D E : Type 0} (look : D → View) (source : Source) (rules : Rules) (found : Found) (s t : Midway D)
+pub record Takes {D E : Type 0} (view : D → View) (source : Source) (rules : Rules) (found : Found) (s t : Midway D)
     (result : Result Taken E) : Type 0 where
   pub lasts : Lasts s.place.at t.place.at
   pub stays : MayStay rules.way t
   pub between : IsBetween t
   pub comes : (p : Position D) (own : OwnTurn) (most : ℕ) → MayTakeAfter rules.way most
-      → HasFound look source rules p own most s.commands found s.place → Comes look source rules p own (most + 1) t result
+      → HasFound view source rules p own most s.commands found s.place → Comes view source rules p own (most + 1) t result
 
 -- The lines that are there are taken: the log grows, and a session that has taken no line since its last turn comes further, by as many
 -- lines as there may be between two turns, or ends, or breaks off.
-pub record TakesLines {D E : Type 0} (look : D → View) (source : Source) (rules : Rules) (s t : Midway D) (result : Result Taken E)
+pub record TakesLines {D E : Type 0} (view : D → View) (source : Source) (rules : Rules) (s t : Midway D) (result : Result Taken E)
     : Type 0 where
   pub lasts : Lasts s.place.at t.place.at
-  pub comes : (p : Position D) (own : OwnTurn) → HasCome look source rules p own 0 s
-      → Comes look source rules p own lines_a_turn t result
+  pub comes : (p : Position D) (own : OwnTurn) → HasCome view source rules p own 0 s
+      → Comes view source rules p own lines_a_turn t result
 
 -- whether the input has ended, and whether the session goes on: in `serve` it does not once its executor is closed
 abbrev pub IsTaken : {D : Type 0} → Way → ExecutorView D → Bool → Taken → Type 0
@@ -184,21 +184,21 @@ pub record IsSince {D : Type 0} (own : OwnTurn) (since : ℕ) (end : TurnEnd) (l
   pub misses : own.misses ≤ misses_in p.events
 
 -- a session whose last own turn ended like this is at the beginning of a round
-pub record HasComeRound {D : Type 0} (look : D → View) (source : Source) (rules : Rules) (p : Position D) (quiet : ℕ) (end : TurnEnd)
+pub record HasComeRound {D : Type 0} (view : D → View) (source : Source) (rules : Rules) (p : Position D) (quiet : ℕ) (end : TurnEnd)
     (s : Midway D) : Type 0 where
   pub most : ℕ
   pub own : OwnTurn
   pub round : IsRound rules.way most
   pub since : IsSince own quiet end (held_lines s.held) s.place.at
-  pub come : HasCome look source rules p own most s
+  pub come : HasCome view source rules p own most s
 
 -- a round leads to the beginning of the next one, or ends the session, or breaks off
 abbrev pub GoesRound : {D E : Type 0} → (D → View) → Source → Rules → Position D → ℕ → TurnEnd → Midway D → Result Taken E → Type 0
-GoesRound look source rules p quiet own s (Ok More) = HasComeRound look source rules p quiet own s
-GoesRound look source rules p quiet own s (Ok End) = ReachesEnd look source rules p s.place.at
-GoesRound look source rules p quiet own s (Ok Closed) = ReachesFault look source rules p s.place.at
-GoesRound look source rules p quiet own s (Ok Leaves) = ReachesLeave look source rules p s.place.at
-GoesRound look source rules p quiet own s (Err fault) = BreaksOff look source rules p s.place.at
+GoesRound view source rules p quiet own s (Ok More) = HasComeRound view source rules p quiet own s
+GoesRound view source rules p quiet own s (Ok End) = ReachesEnd view source rules p s.place.at
+GoesRound view source rules p quiet own s (Ok Closed) = ReachesFault view source rules p s.place.at
+GoesRound view source rules p quiet own s (Ok Leaves) = ReachesLeave view source rules p s.place.at
+GoesRound view source rules p quiet own s (Err fault) = BreaksOff view source rules p s.place.at
 
 -- where a session is between two rounds: the time since which nothing has ended or begun, and how its last own turn ended
 pub record Stage (D : Type 0) : Type 0 where
@@ -212,10 +212,10 @@ stage at quiet end = record { at = at; quiet = quiet; end = end }
 
 -- A round: the log grows, by at least one event where the session goes on, and then a further round may begin; and a session that was at
 -- the beginning of this round comes to that of the next, or ends, or breaks off.
-pub record Rounds {D E : Type 0} (look : D → View) (source : Source) (rules : Rules) (s t : Stage D) (result : Result Taken E)
+pub record Rounds {D E : Type 0} (view : D → View) (source : Source) (rules : Rules) (s t : Stage D) (result : Result Taken E)
     : Type 0 where
   pub lasts : Lasts s.at.place.at t.at.place.at
   pub longer : IfOk result (λ taken. taken ≡ More → length s.at.place.at.events < length t.at.place.at.events)
   pub begins : IfOk result (λ taken. taken ≡ More → MayBegin rules.way t.at)
-  pub goes : (p : Position D) → HasComeRound look source rules p s.quiet s.end s.at
-      → GoesRound look source rules p t.quiet t.end t.at result
+  pub goes : (p : Position D) → HasComeRound view source rules p s.quiet s.end s.at
+      → GoesRound view source rules p t.quiet t.end t.at result

@@ -3,7 +3,7 @@ ghost use Rattle.std.specs.Prelude.{◌≡◌, ◌≢◌, ℕ, ◌+◌, ◌<◌,
 ghost use Rattle.exec_session.specs.Gathered.{waiting};
 ghost use Rattle.exec_session.specs.Held.{MayTakeAtOnce};
 ghost use Rattle.exec_session.specs.Limits.{most_together};
-ghost use Rattle.exec_session.specs.Looks.{IsThere, reads_in};
+ghost use Rattle.exec_session.specs.Polls.{IsThere, reads_in};
 ghost use Rattle.exec_session.specs.Rules.{rules_of};
 ghost use Rattle.exec_session.specs.Runs.{MayGoOn, OwnTurn, of_command};
 ghost use Rattle.exec_session.specs.Spots.{Lasts, Position};

@@ -3,7 +3,7 @@ ghost use Rattle.std.specs.Prelude.{◌≡◌, ℕ, true};
 ghost use Rattle.exec_session.specs.Drains.{GoesOn};
 ghost use Rattle.exec_session.specs.Leaving.{WindsDown};
 ghost use Rattle.exec_session.specs.Rules.{Rules};
-ghost use Rattle.exec_session.specs.Looks.{Lines};
+ghost use Rattle.exec_session.specs.Polls.{Lines};
 ghost use Rattle.exec_session.specs.Runs.{GoesByCalls, OwnTurn, Reaches};
 ghost use Rattle.exec_session.specs.Spots.{Position, Spot};
 ghost use Rattle.exec_session.specs.declared.drain.Terms.{Terms};

@@ -2,10 +2,10 @@
 ghost use Rattle.std.specs.Prelude.{◌≡◌, ◌<◌, ◌++◌, [], true, false, IfOk, IsTrue, None};
 ghost use Rattle.exec_session.specs.Gathered.{waiting};
 ghost use Rattle.exec_session.specs.Held.{held_lines};
-ghost use Rattle.exec_session.specs.Looks.{HasLooked, IsThere, misses_in, reads_in};
+ghost use Rattle.exec_session.specs.Polls.{HasPolled, IsThere, misses_in, reads_in};
 ghost use Rattle.exec_session.specs.Rules.{rules_of};
 ghost use Rattle.exec_session.specs.Runs.{MayGoOn};
-ghost use Rattle.exec_session.specs.Waiting.{LooksOnce, MayWait, TakesLines, midway};
+ghost use Rattle.exec_session.specs.Waiting.{PollsOnce, MayWait, TakesLines, midway};
 ghost use Rattle.exec_session.specs.declared.lines.Taken.TheVariants.{More};
 
 use crate::context::{RunContext, Way};
@@ -33,11 +33,11 @@ fn may_read<R: Input, D: Disk + Drop, C: Children + Drop, T: Client<D, C>, K: Cl
     ensures there { IsTrue result → IsThere worker.new.at.events }
     ensures missed { result ≡ false → held.now ≡ None
         → misses_in worker.old.at.events < misses_in worker.new.at.events }
-    ensures looks { LooksOnce worker.old worker.new }
+    ensures looks { PollsOnce worker.old worker.new }
 {
     match held {
         Some(_) => false,
-        None => worker.look(0),
+        None => worker.poll(0),
     }
 }
 
@@ -54,8 +54,8 @@ impl<'a, R: Input, D: Disk + Drop, C: Children + Drop, T: Client<D, C>, K: Clock
         requires way { context.now.way ≡ Way.Serve }
         requires waits { MayWait context.now.way (midway self.old.worker self.old.pending) }
         ensures waits { MayWait context.now.way (midway self.new.worker self.new.pending) }
-        ensures looked { IfOk result (λ taken. taken ≡ More
-            → HasLooked (reads_in self.old.worker.at.events) (misses_in self.old.worker.at.events)
+        ensures polled { IfOk result (λ taken. taken ≡ More
+            → HasPolled (reads_in self.old.worker.at.events) (misses_in self.old.worker.at.events)
             (held_lines self.new.pending.held) self.new.worker.at.events) }
         ensures takes { TakesLines D.view (M.gives context.now.metadata.now) (rules_of context.now)
             (midway self.old.worker self.old.pending) (midway self.new.worker self.new.pending) result }
@@ -77,8 +77,8 @@ impl<'a, R: Input, D: Disk + Drop, C: Children + Drop, T: Client<D, C>, K: Clock
         requires way { context.now.way ≡ Way.Serve }
         requires waits { MayWait context.now.way (midway self.old.worker self.old.pending) }
         ensures none { IfOk result (λ taken. taken ≡ More → waiting self.new.pending.gathered ≡ []) }
-        ensures looked { IfOk result (λ taken. taken ≡ More
-            → HasLooked (reads_in self.old.worker.at.events) (misses_in self.old.worker.at.events)
+        ensures polled { IfOk result (λ taken. taken ≡ More
+            → HasPolled (reads_in self.old.worker.at.events) (misses_in self.old.worker.at.events)
             (held_lines self.new.pending.held) self.new.worker.at.events) }
         ensures goes_on { IfOk result
             (λ taken. taken ≡ More → MayGoOn context.now.way self.new.worker.at.executor) }
@@ -102,8 +102,8 @@ impl<'a, R: Input, D: Disk + Drop, C: Children + Drop, T: Client<D, C>, K: Clock
         requires open { self.old.worker.at.executor.is_open ≡ true }
         requires none { waiting self.old.pending.gathered ≡ [] }
         ensures none { IfOk result (λ taken. taken ≡ More → waiting self.new.pending.gathered ≡ []) }
-        ensures looked { IfOk result (λ taken. taken ≡ More
-            → HasLooked (reads_in self.old.worker.at.events) (misses_in self.old.worker.at.events)
+        ensures polled { IfOk result (λ taken. taken ≡ More
+            → HasPolled (reads_in self.old.worker.at.events) (misses_in self.old.worker.at.events)
             (held_lines self.old.pending.held ++ held_lines self.new.pending.held)
             self.new.worker.at.events) }
         ensures goes_on { IfOk result

@@ -64,7 +64,7 @@ fn wait_for_line<R: Input, D: Disk + Drop, C: Children + Drop, T: Client<D, C>, 
     if micros < 1_000 {
         worker.rest(micros);
     } else {
-        worker.look(look_millis(micros));
+        worker.poll(look_millis(micros));
     }
 }
 

@@ -12,7 +12,7 @@ ghost use Rattle.exec_session.specs.Pausing.{IsQuietSince};
 ghost use Rattle.exec_session.specs.Progress.{IsNotedAs};
 ghost use Rattle.exec_session.specs.Runs.{IsNew};
 ghost use Rattle.exec_session.specs.Spots.{Pauses, at_of, following, noted, paused, position};
-ghost use Rattle.exec_trace.specs.declared.event.IoEvent.TheVariants.{Asked, Looked, Peeked, Read, Shown};
+ghost use Rattle.exec_trace.specs.declared.event.IoEvent.TheVariants.{Asked, Polled, Peeked, Read, Shown};
 
 use crate::context::Way;
 use crate::lines::Found;
@@ -119,10 +119,10 @@ impl<'a, R: Input, D: Disk + Drop, C: Children + Drop, T: Client<D, C>, K: Clock
     }
 
     /// Polls the input for at most this many milliseconds. Whether a read would not block.
-    pub fn look(&mut self, millis: u32) -> bool
-        ensures noted { self.new ≡ noted self.old (Looked millis result) }
+    pub fn poll(&mut self, millis: u32) -> bool
+        ensures noted { self.new ≡ noted self.old (Polled millis result) }
     {
-        self.edge.look(millis)
+        self.edge.poll(millis)
     }
 
     /// Whether what was read already holds a whole line.

@@ -18,7 +18,7 @@ use Rattle.ocf_types.specs.State.{at_id}
 use Rattle.exec_state.specs.declared.registered.Registered.{Registered}
 use Rattle.recurring.specs.declared.monitor.Monitor.{Monitor}
 use Rattle.recurring.specs.Monitors.{recurs, all_due_at}
-use Rattle.exec_state.specs.Seen.{seen, seen_all, monitors_all, look_all}
+use Rattle.exec_state.specs.Seen.{seen, seen_all, monitors_all, find_all_due}
 use Rattle.exec_state.specs.Lawful.{recurs_by_id, recurring_by_id}
 
 -- no key equals the id
@@ -50,71 +50,71 @@ module _ {A : Type 0} where
 
 module _ {H A : Type 0} (look : Registered H → A) where
   -- the keys stay the same
-  pub keys-look_all : (es : List (List ℕ × Registered H)) → keys_of (look_all look es) ≡ keys_of es
-  keys-look_all [] = refl
-  keys-look_all (e ∷ es) = ap (λ (ks : List (List ℕ)). e.0 ∷ ks) (keys-look_all es)
+  pub keys-find_all_due : (es : List (List ℕ × Registered H)) → keys_of (find_all_due look es) ≡ keys_of es
+  keys-find_all_due [] = refl
+  keys-find_all_due (e ∷ es) = ap (λ (ks : List (List ℕ)). e.0 ∷ ks) (keys-find_all_due es)
 
-  pub length-look_all : (es : List (List ℕ × Registered H)) → length (look_all look es) ≡ length es
-  length-look_all [] = refl
-  length-look_all (e ∷ es) = ap suc (length-look_all es)
+  pub length-find_all_due : (es : List (List ℕ × Registered H)) → length (find_all_due look es) ≡ length es
+  length-find_all_due [] = refl
+  length-find_all_due (e ∷ es) = ap suc (length-find_all_due es)
 
-  absent_seen : (id : List ℕ) (es : List (List ℕ × Registered H)) → IsAbsent id es → IsAbsent id (look_all look es)
-  absent_seen id es h = subst (λ (ks : List (List ℕ)). AllByRecursion (λ k. bytes_eq id k ≡ false) ks) (sym (keys-look_all es)) h
+  absent_seen : (id : List ℕ) (es : List (List ℕ × Registered H)) → IsAbsent id es → IsAbsent id (find_all_due look es)
+  absent_seen id es h = subst (λ (ks : List (List ℕ)). AllByRecursion (λ k. bytes_eq id k ≡ false) ks) (sym (keys-find_all_due es)) h
 
   -- a write at the id
-  pub look_all-set_value : (id : List ℕ) (f : A → A) (es : List (List ℕ × Registered H)) (v w : Registered H)
+  pub find_all_due-set_value : (id : List ℕ) (f : A → A) (es : List (List ℕ × Registered H)) (v w : Registered H)
       → IsDistinct bytes_eq (keys_of es)
       → lookup (bytes_eq id) es ≡ Some v → look w ≡ f (look v)
-      → look_all look (set_value (bytes_eq id) es w) ≡ at_id id f (look_all look es)
-  look_all-set_value id f [] v w distinct at is = refl
-  look_all-set_value id f (e ∷ es) v w distinct at is =
-      by (bytes_eq id e.0) refl (look_all-set_value id f es v w (IsDistinct-tail bytes_eq e.0 (keys_of es) distinct))
+      → find_all_due look (set_value (bytes_eq id) es w) ≡ at_id id f (find_all_due look es)
+  find_all_due-set_value id f [] v w distinct at is = refl
+  find_all_due-set_value id f (e ∷ es) v w distinct at is =
+      by (bytes_eq id e.0) refl (find_all_due-set_value id f es v w (IsDistinct-tail bytes_eq e.0 (keys_of es) distinct))
     where
       by : (b : Bool) → bytes_eq id e.0 ≡ b
           → (lookup (bytes_eq id) es ≡ Some v → look w ≡ f (look v)
-          → look_all look (set_value (bytes_eq id) es w) ≡ at_id id f (look_all look es))
-          → look_all look (set_value (bytes_eq id) (e ∷ es) w) ≡ at_id id f (look_all look (e ∷ es))
+          → find_all_due look (set_value (bytes_eq id) es w) ≡ at_id id f (find_all_due look es))
+          → find_all_due look (set_value (bytes_eq id) (e ∷ es) w) ≡ at_id id f (find_all_due look (e ∷ es))
       by true same rest =
           let here : Some e.1 ≡ Some v = rw same at at in
           let value : e.1 ≡ v = cc in
           let now : look w ≡ f (look e.1) = is ∙ ap (λ (r : Registered H). f (look r)) (sym value) in
-          rw same (ap (λ (r : A). (e.0, r) ∷ look_all look es) now
+          rw same (ap (λ (r : A). (e.0, r) ∷ find_all_due look es) now
           ∙ ap (λ (xs : List (List ℕ × A)). (e.0, f (look e.1)) ∷ xs)
-          (sym (at_id-absent id f (look_all look es) (absent_seen id es (absent_after id e es distinct same)))))
+          (sym (at_id-absent id f (find_all_due look es) (absent_seen id es (absent_after id e es distinct same)))))
       by false other rest = rw other (ap (λ (xs : List (List ℕ × A)). (e.0, look e.1) ∷ xs) (rest (rw other at at) is))
 
   -- without the id
-  pub look_all-remove_entry : (id : List ℕ) (es : List (List ℕ × Registered H)) → IsDistinct bytes_eq (keys_of es)
-      → look_all look (remove_entry (bytes_eq id) es) ≡ filter (λ e. not (bytes_eq id e.0)) (look_all look es)
-  look_all-remove_entry id [] distinct = refl
-  look_all-remove_entry id (e ∷ es) distinct =
-      by (bytes_eq id e.0) refl (look_all-remove_entry id es (IsDistinct-tail bytes_eq e.0 (keys_of es) distinct))
+  pub find_all_due-remove_entry : (id : List ℕ) (es : List (List ℕ × Registered H)) → IsDistinct bytes_eq (keys_of es)
+      → find_all_due look (remove_entry (bytes_eq id) es) ≡ filter (λ e. not (bytes_eq id e.0)) (find_all_due look es)
+  find_all_due-remove_entry id [] distinct = refl
+  find_all_due-remove_entry id (e ∷ es) distinct =
+      by (bytes_eq id e.0) refl (find_all_due-remove_entry id es (IsDistinct-tail bytes_eq e.0 (keys_of es) distinct))
     where
       by : (b : Bool) → bytes_eq id e.0 ≡ b
-          → look_all look (remove_entry (bytes_eq id) es) ≡ filter (λ e. not (bytes_eq id e.0)) (look_all look es)
-          → look_all look (remove_entry (bytes_eq id) (e ∷ es)) ≡ filter (λ e. not (bytes_eq id e.0)) (look_all look (e ∷ es))
-      by true same rest = rw same (sym (others-absent id (look_all look es) (absent_seen id es (absent_after id e es distinct same))))
+          → find_all_due look (remove_entry (bytes_eq id) es) ≡ filter (λ e. not (bytes_eq id e.0)) (find_all_due look es)
+          → find_all_due look (remove_entry (bytes_eq id) (e ∷ es)) ≡ filter (λ e. not (bytes_eq id e.0)) (find_all_due look (e ∷ es))
+      by true same rest = rw same (sym (others-absent id (find_all_due look es) (absent_seen id es (absent_after id e es distinct same))))
       by false other rest = rw other (ap (λ (xs : List (List ℕ × A)). (e.0, look e.1) ∷ xs) rest)
 
   -- a write at an index
-  pub look_all-set_value_at : (f : A → A) (es : List (List ℕ × Registered H)) (i : ℕ) (v w : Registered H) (d : List ℕ × A)
+  pub find_all_due-set_value_at : (f : A → A) (es : List (List ℕ × Registered H)) (i : ℕ) (v w : Registered H) (d : List ℕ × A)
       → slice_get (values_of es) i ≡ Some v → look w ≡ f (look v)
-      → look_all look (set_value_at es i w) ≡ set (look_all look es) i (on_value f (get_or (look_all look es) i d))
-  look_all-set_value_at f [] i v w d at is = refl
-  look_all-set_value_at f (e ∷ es) zero v w d at is =
+      → find_all_due look (set_value_at es i w) ≡ set (find_all_due look es) i (on_value f (get_or (find_all_due look es) i d))
+  find_all_due-set_value_at f [] i v w d at is = refl
+  find_all_due-set_value_at f (e ∷ es) zero v w d at is =
       let value : e.1 ≡ v = cc in
-      ap (λ (r : A). (e.0, r) ∷ look_all look es) (is ∙ ap (λ (r : Registered H). f (look r)) (sym value))
-  look_all-set_value_at f (e ∷ es) (suc i) v w d at is =
-      ap (λ (xs : List (List ℕ × A)). (e.0, look e.1) ∷ xs) (look_all-set_value_at f es i v w d at is)
+      ap (λ (r : A). (e.0, r) ∷ find_all_due look es) (is ∙ ap (λ (r : Registered H). f (look r)) (sym value))
+  find_all_due-set_value_at f (e ∷ es) (suc i) v w d at is =
+      ap (λ (xs : List (List ℕ × A)). (e.0, look e.1) ∷ xs) (find_all_due-set_value_at f es i v w d at is)
 
   -- a write that the function does not see
-  pub look_all-same_at : (es : List (List ℕ × Registered H)) (i : ℕ) (v w : Registered H)
-      → slice_get (values_of es) i ≡ Some v → look w ≡ look v → look_all look (set_value_at es i w) ≡ look_all look es
-  look_all-same_at [] i v w at is = refl
-  look_all-same_at (e ∷ es) zero v w at is =
+  pub find_all_due-same_at : (es : List (List ℕ × Registered H)) (i : ℕ) (v w : Registered H)
+      → slice_get (values_of es) i ≡ Some v → look w ≡ look v → find_all_due look (set_value_at es i w) ≡ find_all_due look es
+  find_all_due-same_at [] i v w at is = refl
+  find_all_due-same_at (e ∷ es) zero v w at is =
       let value : e.1 ≡ v = cc in
-      ap (λ (r : A). (e.0, r) ∷ look_all look es) (is ∙ ap look (sym value))
-  look_all-same_at (e ∷ es) (suc i) v w at is = ap (λ (xs : List (List ℕ × A)). (e.0, look e.1) ∷ xs) (look_all-same_at es i v w at is)
+      ap (λ (r : A). (e.0, r) ∷ find_all_due look es) (is ∙ ap look (sym value))
+  find_all_due-same_at (e ∷ es) (suc i) v w at is = ap (λ (xs : List (List ℕ × A)). (e.0, look e.1) ∷ xs) (find_all_due-same_at es i v w at is)
 
 -- a write at the index of an id is one at the id
 place_is : {A : Type 0} (id : List ℕ) (es : List (List ℕ × A)) (i : ℕ) (w : A) → i < length (keys_of es)

@@ -37,10 +37,10 @@ impl<A: Grows> State<A> {
 
     /// Computes the next moment at which a resource may begin an action, unless it is cached since the last event. Contracts
     /// see no change.
-    pub fn look(&mut self)
+    pub fn find_next_due(&mut self)
         ensures { self.new ≡ self.old }
     {
-        self.registry.look();
+        self.registry.find_next_due();
     }
 
     /// The least moment, in milliseconds, at which a recurring monitor is due; `None` exactly when there is no monitor.

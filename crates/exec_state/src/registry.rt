@@ -303,7 +303,7 @@ impl<A: Grows> Registry<A> {
     }
 
     /// Computes the next moment at which a resource may begin an action, unless it is cached since the last change.
-    pub(crate) fn look(&mut self)
+    pub(crate) fn find_next_due(&mut self)
         ensures { self.new ≡ self.old }
     {
         if self.rests_until == 0 {

@@ -7,7 +7,7 @@ ghost use Rattle.exec_client.specs.ClientView.{Receives, ReceivesPart, IsSent};
 ghost use Rattle.exec_client.specs.MaySend.{MaySend};
 ghost use Rattle.exec_client.specs.SentItem.{sent_in};
 ghost use Rattle.exec_trace.specs.Edges.{EdgeView, noting, rested};
-ghost use Rattle.exec_trace.specs.declared.event.IoEvent.TheVariants.{Asked, Looked, Peeked, Read, Sent, Shown};
+ghost use Rattle.exec_trace.specs.declared.event.IoEvent.TheVariants.{Asked, Polled, Peeked, Read, Sent, Shown};
 
 use crate::event::IoEvent;
 use crate::failed::Failed;
@@ -82,11 +82,11 @@ impl<'a, R: Input, D: Disk + Drop, C: Children + Drop, T: Client<D, C>, K: Clock
     }
 
     /// Polls the input for at most this many milliseconds. Whether a read would not block.
-    pub fn look(&mut self, millis: u32) -> bool
-        ensures noted { self.new ≡ noting self.old (Looked millis result) }
+    pub fn poll(&mut self, millis: u32) -> bool
+        ensures noted { self.new ≡ noting self.old (Polled millis result) }
     {
         let ready = self.reader.is_ready(millis);
-        self.past.note(&IoEvent::Looked { millis, ready });
+        self.past.note(&IoEvent::Polled { millis, ready });
         ready
     }
 

@@ -4,7 +4,7 @@
 #[derive(Clone, Copy, Debug, PartialEq, Eq)]
 pub enum IoEvent {
     /// The input was polled for at most this many milliseconds: whether a read would not block.
-    Looked { millis: u32, ready: bool },
+    Polled { millis: u32, ready: bool },
     /// Whether what was read already holds a whole line.
     Peeked { has_line: bool },
     /// A read: whether it succeeded.

@@ -24,10 +24,10 @@ use Rattle.exec_ledger.specs.Scenes.{Scene, following, due_after_all, scene}
 use Rattle.exec_turn.specs.Turns.{BeginsBatch, Finishes, PollsBatch, StartsBatch, Turns, TurnsAs, end_of}
 
 -- a turn that did nothing
-pub book_full : {D : Type 0} (kind : TurnKind) (look : D → View) (k : D) (x : Scene) (from : ChildrenView)
-    → kind turn_end.BookFull x no_effects [] → Leaves look k k x.state x.state no_effects
-    → TurnsAs kind look k k x x.state x.due from from [] turn_end.BookFull
-book_full kind look k x from does leaves = record {
+pub book_full : {D : Type 0} (kind : TurnKind) (view : D → View) (k : D) (x : Scene) (from : ChildrenView)
+    → kind turn_end.BookFull x no_effects [] → Leaves view k k x.state x.state no_effects
+    → TurnsAs kind view k k x x.state x.due from from [] turn_end.BookFull
+book_full kind view k x from does leaves = record {
   effects = no_effects;
   book = sym (append-nil from.book);
   log = sym (append-nil from.log);
@@ -43,12 +43,12 @@ book_full kind look k x from does leaves = record {
 both_entries : (was first second : List Entry) {mid now : List Entry} → mid ≡ was ++ first → now ≡ mid ++ second → now ≡ was ++ (first ++ second)
 both_entries was first second one two = two ∙ ap (λ (l : List Entry). l ++ second) one ∙ append_assoc was first second
 
-module _ {D : Type 0} {look : D → View} {at : ℕ} {k0 k1 : D} {s0 s1 : State} {d0 d1 : Due} {p0 p1 : Place} {a0 a1 : Bool} {from c1 : ChildrenView}
+module _ {D : Type 0} {view : D → View} {at : ℕ} {k0 k1 : D} {s0 s1 : State} {d0 d1 : Due} {p0 p1 : Place} {a0 a1 : Bool} {from c1 : ChildrenView}
     {n1 : List Notice} where
   -- the batch of results failed
-  results_failed : (kind : TurnKind) {f : DiskFault} (p : PollsBatch look k0 k1 (scene s0 d0 p0 at a0) (scene s1 d1 p1 at a1) from c1 n1 (Err f))
+  results_failed : (kind : TurnKind) {f : DiskFault} (p : PollsBatch view k0 k1 (scene s0 d0 p0 at a0) (scene s1 d1 p1 at a1) from c1 n1 (Err f))
       → kind turn_end.Disk (scene s0 d0 p0 at a0) (record { entries = polls at p.answers; events = []; pending = results at p.answers }) n1
-      → TurnsAs kind look k0 k1 (scene s0 d0 p0 at a0) s1 d1 from c1 n1 turn_end.Disk
+      → TurnsAs kind view k0 k1 (scene s0 d0 p0 at a0) s1 d1 from c1 n1 turn_end.Disk
   results_failed kind p does = record {
     effects = record { entries = polls at p.answers; events = []; pending = results at p.answers };
     book = p.book;
@@ -61,17 +61,17 @@ module _ {D : Type 0} {look : D → View} {at : ℕ} {k0 k1 : D} {s0 s1 : State}
     cause = λ _. p.cause;
   }
 
-  pub no_results : {f : DiskFault} → PollsBatch look k0 k1 (scene s0 d0 p0 at a0) (scene s1 d1 p1 at a1) from c1 n1 (Err f)
-      → Turns look k0 k1 (scene s0 d0 p0 at a0) s1 d1 from c1 n1 turn_end.Disk
+  pub no_results : {f : DiskFault} → PollsBatch view k0 k1 (scene s0 d0 p0 at a0) (scene s1 d1 p1 at a1) from c1 n1 (Err f)
+      → Turns view k0 k1 (scene s0 d0 p0 at a0) s1 d1 from c1 n1 turn_end.Disk
   no_results p = results_failed IsTurn p (inl (p.answers, p.each, refl, p.reported_is))
 
-  pub finish_failed : {f : DiskFault} → PollsBatch look k0 k1 (scene s0 d0 p0 at a0) (scene s1 d1 p1 at a1) from c1 n1 (Err f)
-      → Finishes look k0 k1 (scene s0 d0 p0 at a0) s1 d1 from c1 n1 turn_end.Disk
+  pub finish_failed : {f : DiskFault} → PollsBatch view k0 k1 (scene s0 d0 p0 at a0) (scene s1 d1 p1 at a1) from c1 n1 (Err f)
+      → Finishes view k0 k1 (scene s0 d0 p0 at a0) s1 d1 from c1 n1 turn_end.Disk
   finish_failed p = results_failed IsFinish p (p.answers, p.each, refl, p.reported_is)
 
   -- the batch of results was recorded, and nothing begins
-  pub finish_done : {u : Unit} → PollsBatch look k0 k1 (scene s0 d0 p0 at a0) (scene s1 d1 p1 at a1) from c1 n1 (Ok u)
-      → Finishes look k0 k1 (scene s0 d0 p0 at a0) s1 d1 from c1 n1 turn_end.Done
+  pub finish_done : {u : Unit} → PollsBatch view k0 k1 (scene s0 d0 p0 at a0) (scene s1 d1 p1 at a1) from c1 n1 (Ok u)
+      → Finishes view k0 k1 (scene s0 d0 p0 at a0) s1 d1 from c1 n1 turn_end.Done
   finish_done p = record {
     effects = record { entries = polls at p.answers; events = results at p.answers; pending = [] };
     book = p.book;
@@ -84,7 +84,7 @@ module _ {D : Type 0} {look : D → View} {at : ℕ} {k0 k1 : D} {s0 s1 : State}
     cause = λ bad. let none : ⊥ = cc in absurd none;
   }
 
-  module _ {u : Unit} (p : PollsBatch look k0 k1 (scene s0 d0 p0 at a0) (scene s1 d1 p1 at a1) from c1 n1 (Ok u)) where
+  module _ {u : Unit} (p : PollsBatch view k0 k1 (scene s0 d0 p0 at a0) (scene s1 d1 p1 at a1) from c1 n1 (Ok u)) where
     due1 : d1 ≡ due_after_all s0 d0 (results at p.answers)
     due1 = ap (λ (x : Scene). x.due) p.moves
 
@@ -94,11 +94,11 @@ module _ {D : Type 0} {look : D → View} {at : ℕ} {k0 k1 : D} {s0 s1 : State}
 
     -- the batch of begins failed
     pub no_begins : {k2 : D} {s2 : State} {d2 : Due} {p2 : Place} {a2 : Bool} {begun : List Active} {f : DiskFault}
-        → BeginsBatch look k1 k2 (scene s1 d1 p1 at a1) (scene s2 d2 p2 at a2) begun (Err f)
-        → Turns look k0 k2 (scene s0 d0 p0 at a0) s2 d2 from c1 n1 turn_end.Disk
+        → BeginsBatch view k1 k2 (scene s1 d1 p1 at a1) (scene s2 d2 p2 at a2) begun (Err f)
+        → Turns view k0 k2 (scene s0 d0 p0 at a0) s2 d2 from c1 n1 turn_end.Disk
     no_begins {k2 = k2} {s2 = s2} {begun = begun} b =
         let batch = b.recorded in
-        let both = joined look k0 k1 k2 s0 s1 s2 (record { entries = polls at p.answers; events = results at p.answers; pending = [] })
+        let both = joined view k0 k1 k2 s0 s1 s2 (record { entries = polls at p.answers; events = results at p.answers; pending = [] })
         (record { entries = []; events = []; pending = begins at begun }) refl p.crash batch.crash in
         record {
           effects = record { entries = polls at p.answers; events = results at p.answers; pending = begins at begun };
@@ -107,7 +107,7 @@ module _ {D : Type 0} {look : D → View} {at : ℕ} {k0 k1 : D} {s0 s1 : State}
           site = p.site;
           does = inr (inl (p.answers, b.end, begun, p.each, picks begun b.end b.picked, refl, p.reported_is));
           crash =
-              subst (λ (did : Effects). Leaves look k0 k2 s0 s2 did) (λ i. record {
+              subst (λ (did : Effects). Leaves view k0 k2 s0 s2 did) (λ i. record {
                 entries = append-nil (polls at p.answers) i;
                 events = append-nil (results at p.answers) i;
                 pending = begins at begun;
@@ -118,8 +118,8 @@ module _ {D : Type 0} {look : D → View} {at : ℕ} {k0 k1 : D} {s0 s1 : State}
         }
 
     module _ {k2 : D} {s2 : State} {d2 : Due} {p2 : Place} {a2 : Bool} {begun : List Active} {end : TurnEnd}
-        (b : BeginsBatch look k1 k2 (scene s1 d1 p1 at a1) (scene s2 d2 p2 at a2) begun (Ok end))
-        (lawful : (look k2).honest → Lawful (look k2)) where
+        (b : BeginsBatch view k1 k2 (scene s1 d1 p1 at a1) (scene s2 d2 p2 at a2) begun (Ok end))
+        (lawful : (view k2).honest → Lawful (view k2)) where
       abbrev before : List Event
       before = results at p.answers ++ begins at begun
 
@@ -141,20 +141,20 @@ module _ {D : Type 0} {look : D → View} {at : ℕ} {k0 k1 : D} {s0 s1 : State}
 
       module _ (answers : List Started) (each : map (λ a. a.what) answers ≡ begun) where
         abbrev entries : List Entry
-        entries = polls at p.answers ++ starts (look k2).clock answers
+        entries = polls at p.answers ++ starts (view k2).clock answers
 
-        begun_leaves : Leaves look k0 k2 s0 s2 (record { entries = entries; events = before; pending = [] })
+        begun_leaves : Leaves view k0 k2 s0 s2 (record { entries = entries; events = before; pending = [] })
         begun_leaves =
-            joined look k0 k1 k2 s0 s1 s2 (record { entries = polls at p.answers; events = results at p.answers; pending = [] })
-            (record { entries = starts (look k2).clock answers; events = begins at begun; pending = [] }) refl p.crash
-            (then_started look k1 k2 s1 s2 at (look k2).clock begun answers lawful refl each b.recorded.crash)
+            joined view k0 k1 k2 s0 s1 s2 (record { entries = polls at p.answers; events = results at p.answers; pending = [] })
+            (record { entries = starts (view k2).clock answers; events = begins at begun; pending = [] }) refl p.crash
+            (then_started view k1 k2 s1 s2 at (view k2).clock begun answers lawful refl each b.recorded.crash)
 
-        ended : (k3 : D) (s3 : State) (es pending : List Event) → Leaves look k2 k3 s2 s3 (record { entries = []; events = es; pending = pending })
-            → Leaves look k0 k3 s0 s3 (record { entries = entries; events = before ++ es; pending = pending })
+        ended : (k3 : D) (s3 : State) (es pending : List Event) → Leaves view k2 k3 s2 s3 (record { entries = []; events = es; pending = pending })
+            → Leaves view k0 k3 s0 s3 (record { entries = entries; events = before ++ es; pending = pending })
         ended k3 s3 es pending last =
-            subst (λ (l : List Entry). Leaves look k0 k3 s0 s3 (record { entries = l; events = before ++ es; pending = pending }))
+            subst (λ (l : List Entry). Leaves view k0 k3 s0 s3 (record { entries = l; events = before ++ es; pending = pending }))
             (append-nil entries)
-            (joined look k0 k2 k3 s0 s2 s3 (record { entries = entries; events = before; pending = [] })
+            (joined view k0 k2 k3 s0 s2 s3 (record { entries = entries; events = before; pending = [] })
             (record { entries = []; events = es; pending = pending }) refl begun_leaves last)
 
         abbrev all_reported : TurnReport end (scene s0 d0 p0 at a0)
@@ -162,7 +162,7 @@ module _ {D : Type 0} {look : D → View} {at : ℕ} {k0 k1 : D} {s0 s1 : State}
           polled = p.answers;
           begun = begun;
           started = answers;
-          clock = (look k2).clock;
+          clock = (view k2).clock;
           each_polled = p.each;
           picked = picks begun end picked;
           each_started = each;
@@ -170,16 +170,16 @@ module _ {D : Type 0} {look : D → View} {at : ℕ} {k0 k1 : D} {s0 s1 : State}
 
       -- the batch of refused starts failed
       pub no_refusals : {k3 : D} {s3 : State} {d3 : Due} {p3 : Place} {a3 : Bool} {c2 : ChildrenView} {n3 : List Notice} {f : DiskFault}
-          → StartsBatch look k2 k3 (scene s2 d2 p2 at a2) (scene s3 d3 p3 at a3) begun c1 c2 n1 n3 (Err f)
-          → Turns look k0 k3 (scene s0 d0 p0 at a0) s3 d3 from c2 n3 turn_end.Disk
+          → StartsBatch view k2 k3 (scene s2 d2 p2 at a2) (scene s3 d3 p3 at a3) begun c1 c2 n1 n3 (Err f)
+          → Turns view k0 k3 (scene s0 d0 p0 at a0) s3 d3 from c2 n3 turn_end.Disk
       no_refusals {k3 = k3} {s3 = s3} x = let batch = x.recorded in record {
         effects = record { entries = entries x.answers x.each; events = before; pending = refusals at x.answers };
-        book = both_entries from.book (polls at p.answers) (starts (look k2).clock x.answers) p.book x.book;
-        log = both_entries from.log (polls at p.answers) (starts (look k2).clock x.answers) p.log x.log;
+        book = both_entries from.book (polls at p.answers) (starts (view k2).clock x.answers) p.book x.book;
+        log = both_entries from.log (polls at p.answers) (starts (view k2).clock x.answers) p.log x.log;
         site = x.site ∙ p.site;
         does = inr (inr (end, all_reported x.answers x.each, refl, x.reported_is ∙ p.reported_is));
         crash =
-            subst (λ (l : List Event). Leaves look k0 k3 s0 s3
+            subst (λ (l : List Event). Leaves view k0 k3 s0 s3
             (record { entries = entries x.answers x.each; events = l; pending = refusals at x.answers })) (append-nil before)
             (ended x.answers x.each k3 s3 [] (refusals at x.answers) batch.crash);
         due_is = batch.moves.1 ∙ due2;
@@ -212,8 +212,8 @@ module _ {D : Type 0} {look : D → View} {at : ℕ} {k0 k1 : D} {s0 s1 : State}
 
       -- all batches were recorded
       pub whole_turn : {k3 : D} {s3 : State} {d3 : Due} {p3 : Place} {a3 : Bool} {c2 : ChildrenView} {n3 : List Notice} {z : Unit}
-          → StartsBatch look k2 k3 (scene s2 d2 p2 at a2) (scene s3 d3 p3 at a3) begun c1 c2 n1 n3 (Ok z)
-          → Turns look k0 k3 (scene s0 d0 p0 at a0) s3 d3 from c2 n3 end
+          → StartsBatch view k2 k3 (scene s2 d2 p2 at a2) (scene s3 d3 p3 at a3) begun c1 c2 n1 n3 (Ok z)
+          → Turns view k0 k3 (scene s0 d0 p0 at a0) s3 d3 from c2 n3 end
       whole_turn {k3 = k3} {s3 = s3} {d3 = d3} {n3 = n3} x =
           let batch = x.recorded in
           let due3 : d3 ≡ due_after_all s0 d0 (before ++ refusals at x.answers) = ap (λ (y : Scene). y.due) batch.moves
@@ -225,8 +225,8 @@ module _ {D : Type 0} {look : D → View} {at : ℕ} {k0 k1 : D} {s0 s1 : State}
           let did : Effects = record { entries = entries x.answers x.each; events = before ++ refusals at x.answers; pending = [] } in
           record {
             effects = did;
-            book = both_entries from.book (polls at p.answers) (starts (look k2).clock x.answers) p.book x.book;
-            log = both_entries from.log (polls at p.answers) (starts (look k2).clock x.answers) p.log x.log;
+            book = both_entries from.book (polls at p.answers) (starts (view k2).clock x.answers) p.book x.book;
+            log = both_entries from.log (polls at p.answers) (starts (view k2).clock x.answers) p.log x.log;
             site = x.site ∙ p.site;
             does = is_whole end (scene s0 d0 p0 at a0) did n3 picked (
               all_reported x.answers x.each,
@@ -241,20 +241,20 @@ module _ {D : Type 0} {look : D → View} {at : ℕ} {k0 k1 : D} {s0 s1 : State}
           }
 
 -- the same with other notices
-pub polled_reported : {D : Type 0} {look : D → View} {k l : D} {x y : Scene} {from to : ChildrenView} {n m : List Notice} {r : Result Unit DiskFault}
-    → m ≡ n → PollsBatch look k l x y from to n r → PollsBatch look k l x y from to m r
-polled_reported {look = look} {k = k} {l = l} {x = x} {y = y} {from = from} {to = to} {r = r} same polled =
-    subst (λ (reported : List Notice). PollsBatch look k l x y from to reported r) (sym same) polled
+pub polled_reported : {D : Type 0} {view : D → View} {k l : D} {x y : Scene} {from to : ChildrenView} {n m : List Notice} {r : Result Unit DiskFault}
+    → m ≡ n → PollsBatch view k l x y from to n r → PollsBatch view k l x y from to m r
+polled_reported {view = view} {k = k} {l = l} {x = x} {y = y} {from = from} {to = to} {r = r} same polled =
+    subst (λ (reported : List Notice). PollsBatch view k l x y from to reported r) (sym same) polled
 
 -- a disk fault ends a turn as such
-pub failed_end : {D : Type 0} {look : D → View} {old new : D} {x : Scene} {t : State} {due : Due} {from to : ChildrenView} {reported : List Notice}
-    (r : Result TurnEnd DiskFault) → IsErr r → Turns look old new x t due from to reported turn_end.Disk → Turns look old new x t due from to reported (end_of r)
+pub failed_end : {D : Type 0} {view : D → View} {old new : D} {x : Scene} {t : State} {due : Due} {from to : ChildrenView} {reported : List Notice}
+    (r : Result TurnEnd DiskFault) → IsErr r → Turns view old new x t due from to reported turn_end.Disk → Turns view old new x t due from to reported (end_of r)
 failed_end (Ok end) bad turns = let none : ⊥ = cc in absurd none
 failed_end (Err f) bad turns = turns
 
 -- picks end neither with a full book nor with a disk fault
-pub picks_ended : {D : Type 0} {look : D → View} {k l : D} {x y : Scene} {begun : List Active} {end : TurnEnd}
-    → BeginsBatch look k l x y begun (Ok end) → (end ≡ turn_end.BookFull → ⊥) × (end ≡ turn_end.Disk → ⊥)
+pub picks_ended : {D : Type 0} {view : D → View} {k l : D} {x y : Scene} {begun : List Active} {end : TurnEnd}
+    → BeginsBatch view k l x y begun (Ok end) → (end ≡ turn_end.BookFull → ⊥) × (end ≡ turn_end.Disk → ⊥)
 picks_ended {x = x} {begun = begun} {end = end} b = (λ is. (so is).0.0, λ is. (so is).0.0)
   where
     so : {reported : TurnEnd} → end ≡ reported → PickedAt reported x begun

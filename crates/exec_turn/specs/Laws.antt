@@ -37,11 +37,11 @@ asked_starts at clock (x ∷ xs) run u asked = ⊎_elim
     (asked_in (starts clock (x ∷ [])) (starts clock xs) run u asked)
 
 -- Starts may be added to a part that recorded their begins: what a crash leaves from then on has all begins.
-pub then_started : {D : Type 0} (look : D → View) (old new : D) (s t : State) (at clock : ℕ) (bs : List Active) (xs : List Started)
-    → ((look new).honest → Lawful (look new)) → clock ≡ (look new).clock → map (λ x. x.what) xs ≡ bs
-    → Leaves look old new s t (record { entries = []; events = begins at bs; pending = [] })
-    → Leaves look old new s t (record { entries = starts clock xs; events = begins at bs; pending = [] })
-then_started look old new s t at clock bs xs lawful same each leaves = record {
+pub then_started : {D : Type 0} (view : D → View) (old new : D) (s t : State) (at clock : ℕ) (bs : List Active) (xs : List Started)
+    → ((view new).honest → Lawful (view new)) → clock ≡ (view new).clock → map (λ x. x.what) xs ≡ bs
+    → Leaves view old new s t (record { entries = []; events = begins at bs; pending = [] })
+    → Leaves view old new s t (record { entries = starts clock xs; events = begins at bs; pending = [] })
+then_started view old new s t at clock bs xs lawful same each leaves = record {
   state = leaves.state;
   crash = leaves.crash;
   now = leaves.now;
@@ -52,13 +52,13 @@ then_started look old new s t at clock bs xs lawful same each leaves = record {
     split = refl;
     begins = subst (λ (l : List Active). HasBegin run (begins at l)) each found.1;
     counted = found.0 ∙ same;
-    before = subst (λ (l : List Event). CrashesTo (look old) (look new) (Prefix s l)) (append-nil (begins at bs)) leaves.crash;
+    before = subst (λ (l : List Event). CrashesTo (view old) (view new) (Prefix s l)) (append-nil (begins at bs)) leaves.crash;
     holds = holds;
-    following = started (look new) (Prefix (after_all s (begins at bs)) []) (λ h c now. ([], [], refl, holds h c now)) lawful;
+    following = started (view new) (Prefix (after_all s (begins at bs)) []) (λ h c now. ([], [], refl, holds h c now)) lawful;
   };
   reserved = leaves.reserved;
 }
   where
-    holds : (look new).honest → (c : Image) → (look new).now c → FoundAs (after_all s (begins at bs)) c
+    holds : (view new).honest → (c : Image) → (view new).now c → FoundAs (after_all s (begins at bs)) c
     holds h c now = subst (λ (x : State). FoundAs x c) leaves.state
-        (settles look old new s t (record { entries = []; events = begins at bs; pending = [] }) refl leaves h c now)
+        (settles view old new s t (record { entries = []; events = begins at bs; pending = [] }) refl leaves h c now)

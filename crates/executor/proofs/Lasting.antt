@@ -26,30 +26,30 @@ pub record Lasts {D : Type 0} (x y : ExecutorView D) : Type 0 where
 same_lasts : {D : Type 0} (x y : ExecutorView D) → y ≡ x → Lasts x y
 same_lasts x y same = record { opening_report = ap (λ (z : ExecutorView _). z.opening_report) same; refuses = ap (λ (z : ExecutorView _). z.refuses) same }
 
-module _ {D : Type 0} (look : D → View) where
-  obeyed : (v : Result Event Refusal) (x y : ExecutorView D) (r : Reply) → Obeys look v (ledger_of x) (ledger_of y) r → y.refuses ≡ x.refuses
+module _ {D : Type 0} (view : D → View) where
+  obeyed : (v : Result Event Refusal) (x y : ExecutorView D) (r : Reply) → Obeys view v (ledger_of x) (ledger_of y) r → y.refuses ≡ x.refuses
   obeyed (Err refusal) x y r obeys = ap (λ (h : LedgerView D). h.refuses) obeys.1
   obeyed (Ok e) x y r obeys = obeys.allocator
 
-  served : (now : ℕ) (request : Request) (x y : ExecutorView D) (r : Reply) → ServesOpen look now request x y r → Lasts x y
+  served : (now : ℕ) (request : Request) (x y : ExecutorView D) (r : Reply) → ServesOpen view now request x y r → Lasts x y
   served now (asked.Question q) x y r serves = same_lasts x y serves.1
   served now (asked.Command c) x y r serves =
       record { opening_report = serves.1.opening_report; refuses = obeyed (event_of x.state now c) x y r serves.0 }
 
-  taken : (b : Bool) (i : Input) (x y : ExecutorView D) (r : Reply) (d : Effects) → TakesWhile b look i x y r d → Lasts x y
+  taken : (b : Bool) (i : Input) (x y : ExecutorView D) (r : Reply) (d : Effects) → TakesWhile b view i x y r d → Lasts x y
   taken true (input.Request now request) x y r d takes = served now request x y r takes.serves
   taken true (input.Turn now) x y r d takes = record { opening_report = takes.takes.opening_report; refuses = takes.takes.allocator }
   taken false i x y r d takes = same_lasts x y takes.1
 
-  finished : (b : Bool) (now : ℕ) (x y : ExecutorView D) (end : TurnEnd) (d : Effects) → FinishedWhile b look now x y end d → Lasts x y
+  finished : (b : Bool) (now : ℕ) (x y : ExecutorView D) (end : TurnEnd) (d : Effects) → FinishedWhile b view now x y end d → Lasts x y
   finished true now x y end d (takes, does) = record { opening_report = takes.opening_report; refuses = takes.allocator }
   finished false now x y end d takes = same_lasts x y takes.1
 
-  tidied : (b : Bool) (x y : ExecutorView D) (end : TidyEnd) → TidiesWhile b look x y end → Lasts x y
+  tidied : (b : Bool) (x y : ExecutorView D) (end : TidyEnd) → TidiesWhile b view x y end → Lasts x y
   tidied true x y end tidies = record { opening_report = tidies.1.opening_report; refuses = ap (λ (h : LedgerView D). h.refuses) tidies.0.same }
   tidied false x y end tidies = same_lasts x y tidies.1
 
-  pub call_lasts : (e : Exchange) (x y : ExecutorView D) (d : Effects) → Does look e x y d → Lasts x y
+  pub call_lasts : (e : Exchange) (x y : ExecutorView D) (d : Effects) → Does view e x y d → Lasts x y
   call_lasts (Took i r) x y d does = taken x.is_open i x y r d does
   call_lasts (Batch now cs rs) x y d does =
       record { opening_report = does.beside.opening_report; refuses = ap (λ (h : LedgerView D). h.refuses) does.takes.records.went.same }
@@ -60,7 +60,7 @@ module _ {D : Type 0} (look : D → View) where
   call_lasts Abandoned x y d does =
       record { opening_report = ap (λ (z : ExecutorView D). z.opening_report) does.0; refuses = ap (λ (z : ExecutorView D). z.refuses) does.0 }
 
-  pub report_stays : (x y : ExecutorView D) (es : List Exchange) (d : Effects) → Calls look x es y d → y.opening_report ≡ x.opening_report
+  pub report_stays : (x y : ExecutorView D) (es : List Exchange) (d : Effects) → Calls view x es y d → y.opening_report ≡ x.opening_report
   report_stays x y [] d calls = (same_lasts x y calls.0).opening_report
   report_stays x y (e ∷ es) d (mid, first, later, does, calls, is) =
       report_stays mid y es later calls ∙ (call_lasts e x mid first does).opening_report

@@ -25,22 +25,22 @@ use Rattle.executor.specs.ExecutorView.{ChildrenInvariant, ExecutorView, ledger_
 use Rattle.executor.specs.TidyCalls.{TidiesWhile}
 use Rattle.executor.proofs.Keeping.{kept_tends}
 
-module _ {D : Type 0} (look : D → View) (now : ℕ) where
+module _ {D : Type 0} (view : D → View) (now : ℕ) where
   -- a ledger that ended open began open
-  pub command_open : (b : Bool) (c : Command) (r : Reply) (h k : LedgerView D) → TakesCommand look now c h k r → k.is_open ≡ true → h.is_open ≡ b
+  pub command_open : (b : Bool) (c : Command) (r : Reply) (h k : LedgerView D) → TakesCommand view now c h k r → k.is_open ≡ true → h.is_open ≡ b
       → h.is_open ≡ true
   command_open true c r h k takes is was = was
   command_open false c r h k takes is was = sym (ap (λ (x : LedgerView D). x.is_open) (of_closed _ _ was takes).1) ∙ is
 
-  group_open : (s : CommitGroup) (h k : LedgerView D) → TakesGroup look now s h k → k.is_open ≡ true → h.is_open ≡ true
+  group_open : (s : CommitGroup) (h k : LedgerView D) → TakesGroup view now s h k → k.is_open ≡ true → h.is_open ≡ true
   group_open (Single c r) h k takes is = command_open h.is_open c r h k takes is refl
   group_open (GroupedBatch cs rs) h k takes is = takes.was_open
 
-  groups_open : (ss : List CommitGroup) (h k : LedgerView D) → TakesGroups look now ss h k → k.is_open ≡ true → h.is_open ≡ true
+  groups_open : (ss : List CommitGroup) (h k : LedgerView D) → TakesGroups view now ss h k → k.is_open ≡ true → h.is_open ≡ true
   groups_open [] h k same is = sym (ap (λ (x : LedgerView D). x.is_open) same) ∙ is
   groups_open (s ∷ ss) h k (mid, one, rest) is = group_open s h mid one (groups_open ss mid k rest is)
 
-  pub commands_open : (cs : List Command) (rs : List Reply) (h k : LedgerView D) → LedgerTakesCommands look now cs h k rs → k.is_open ≡ true
+  pub commands_open : (cs : List Command) (rs : List Reply) (h k : LedgerView D) → LedgerTakesCommands view now cs h k rs → k.is_open ≡ true
       → h.is_open ≡ true
   commands_open cs rs h k takes is = groups_open takes.groups h k takes.takes is
 
@@ -64,14 +64,14 @@ question_kept s q r answers = given_kept (reply_to s q) r (by q) answers
     by (question.History id) is = sent_kept (resource_at s id) _ (λ x bad. cc) is
 
 -- a tidy of a ledger is one of its executor, and leaves what is beside it
-pub tidy_taken : {D : Type 0} (look : D → View) (b : Bool) (x : ExecutorView D) (h : LedgerView D) (end : TidyEnd)
-    → While b (LedgerTidies look (ledger_of x) h end) ((end ≡ Closed) × (h ≡ ledger_of x)) → TidiesWhile b look x (with_ledger x h) end
-tidy_taken look true x h end tidies = (tidies, still_beside x h)
-tidy_taken look false x h end tidies = (tidies.0, same_view x (with_ledger x h) tidies.1 (still_beside x h))
+pub tidy_taken : {D : Type 0} (view : D → View) (b : Bool) (x : ExecutorView D) (h : LedgerView D) (end : TidyEnd)
+    → While b (LedgerTidies view (ledger_of x) h end) ((end ≡ Closed) × (h ≡ ledger_of x)) → TidiesWhile b view x (with_ledger x h) end
+tidy_taken view true x h end tidies = (tidies, still_beside x h)
+tidy_taken view false x h end tidies = (tidies.0, same_view x (with_ledger x h) tidies.1 (still_beside x h))
 
-pub tidied_tends : {D : Type 0} (look : D → View) (b : Bool) (x : ExecutorView D) (h : LedgerView D) (end : TidyEnd) → x.is_open ≡ b
-    → While b (LedgerTidies look (ledger_of x) h end) ((end ≡ Closed) × (h ≡ ledger_of x)) → ChildrenInvariant x → ChildrenInvariant (with_ledger x h)
-tidied_tends look true x h end was tidies tended is =
+pub tidied_tends : {D : Type 0} (view : D → View) (b : Bool) (x : ExecutorView D) (h : LedgerView D) (end : TidyEnd) → x.is_open ≡ b
+    → While b (LedgerTidies view (ledger_of x) h end) ((end ≡ Closed) × (h ≡ ledger_of x)) → ChildrenInvariant x → ChildrenInvariant (with_ledger x h)
+tidied_tends view true x h end was tidies tended is =
     kept_tends (ledger_of x) h x.children x.site x.reported x.reported x.opening_report (same_runs x.state h.state (ap (λ (y : LedgerView _). y.state) tidies.same)) (tended was)
-tidied_tends look false x h end was tidies tended is =
+tidied_tends view false x h end was tidies tended is =
     absurd (true≢false (sym is ∙ ap (λ (y : LedgerView _). y.is_open) tidies.1 ∙ was))

@@ -8,8 +8,8 @@ use Rattle.exec_ledger.specs.Together.{TakesBatch as LedgerTakesBatch}
 use Rattle.executor.specs.ExecutorView.{OnlyLedgerChanges, ExecutorView, ledger_of}
 
 -- An open executor takes a batch of commands at this moment: from one view of it to another.
-pub record TakesBatch {D : Type 0} (look : D → View) (now : ℕ) (commands : List Command) (old new : ExecutorView D) (replies : List Reply)
+pub record TakesBatch {D : Type 0} (view : D → View) (now : ℕ) (commands : List Command) (old new : ExecutorView D) (replies : List Reply)
     (effects : Effects) : Type 0 where
-  pub takes : LedgerTakesBatch look now commands (ledger_of old) (ledger_of new) replies
+  pub takes : LedgerTakesBatch view now commands (ledger_of old) (ledger_of new) replies
   pub beside : OnlyLedgerChanges old new
   pub does : effects ≡ batch_effects new.is_open takes.events

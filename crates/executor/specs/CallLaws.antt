@@ -22,18 +22,18 @@ same_view x y same beside =
     λ i. executor_view (same i) (beside.children i) (beside.site i) (beside.reported i) (beside.opening_report i)
 
 -- a request that was served was taken
-pub request_taken : {D : Type 0} (b : Bool) (look : D → View) (now : ℕ) (request : Request) (x y : ExecutorView D) (reply : Reply)
-    → ServesWhile b look now request x y reply → (b ≡ true → ((y.is_open ≡ false) ↔ (reply ≡ Refused Disk)))
-    → (d : Effects) × TakesWhile b look (input.Request now request) x y reply d
-request_taken true look now request x y reply serves closes =
+pub request_taken : {D : Type 0} (b : Bool) (view : D → View) (now : ℕ) (request : Request) (x y : ExecutorView D) (reply : Reply)
+    → ServesWhile b view now request x y reply → (b ≡ true → ((y.is_open ≡ false) ↔ (reply ≡ Refused Disk)))
+    → (d : Effects) × TakesWhile b view (input.Request now request) x y reply d
+request_taken true view now request x y reply serves closes =
     (request_effects x.state now request reply, record { serves = serves; closes = closes refl; does = refl })
-request_taken false look now request x y reply serves closes = (no_effects, (serves.0, serves.1, refl))
+request_taken false view now request x y reply serves closes = (no_effects, (serves.0, serves.1, refl))
 
 -- a turn that was made was taken
-pub turn_taken : {D : Type 0} (b : Bool) (look : D → View) (now : ℕ) (x y : ExecutorView D) (end : TurnEnd)
-    → TurnsWhile b look now x y end → (d : Effects) × TakesWhile b look (input.Turn now) x y (Turn end) d
-turn_taken true look now x y end turns = (turns.turns.effects, record { end = end; takes = turns; replies = refl; does = refl })
-turn_taken false look now x y end turns = (no_effects, (ap (λ (e : TurnEnd). Turn e) turns.0, turns.1, refl))
+pub turn_taken : {D : Type 0} (b : Bool) (view : D → View) (now : ℕ) (x y : ExecutorView D) (end : TurnEnd)
+    → TurnsWhile b view now x y end → (d : Effects) × TakesWhile b view (input.Turn now) x y (Turn end) d
+turn_taken true view now x y end turns = (turns.turns.effects, record { end = end; takes = turns; replies = refl; does = refl })
+turn_taken false view now x y end turns = (no_effects, (ap (λ (e : TurnEnd). Turn e) turns.0, turns.1, refl))
 
 -- effects after others
 pub followed_by_assoc : (a b c : Effects) → followed_by a (followed_by b c) ≡ followed_by (followed_by a b) c
@@ -52,13 +52,13 @@ followed_by_none a =
     ∙ ap (λ (es : List Event). record { entries = a.entries; events = es; pending = a.pending ++ [] }) (append-nil a.events)
     ∙ ap (λ (es : List Event). record { entries = a.entries; events = a.events; pending = es }) (append-nil a.pending)
 
-module _ {D : Type 0} (look : D → View) where
+module _ {D : Type 0} (view : D → View) where
   -- calls after others
-  pub calls_after : (x y z : ExecutorView D) (es fs : List Exchange) (a b : Effects) → Calls look x es y a → Calls look y fs z b
-      → Calls look x (es ++ fs) z (followed_by a b)
+  pub calls_after : (x y z : ExecutorView D) (es fs : List Exchange) (a b : Effects) → Calls view x es y a → Calls view y fs z b
+      → Calls view x (es ++ fs) z (followed_by a b)
   calls_after x y z [] fs a b (same, none) later =
-      subst (λ (d : Effects). Calls look x fs z d) (sym (ap (λ (d : Effects). followed_by d b) none))
-      (subst (λ (w : ExecutorView D). Calls look w fs z b) same later)
+      subst (λ (d : Effects). Calls view x fs z d) (sym (ap (λ (d : Effects). followed_by d b) none))
+      (subst (λ (w : ExecutorView D). Calls view w fs z b) same later)
   calls_after x y z (e ∷ es) fs a b (mid, first, rest, does, calls, is) later = (
     mid,
     first,

@@ -13,7 +13,7 @@ use Rattle.executor.specs.declared.session.InputOf.TheVariants as input
 -- An executor takes commands one after the other at this moment, none left out, each with one reply: those of a batch have one
 -- record.
 abbrev pub TakesCommands : {D : Type 0} → (D → View) → ℕ → List Command → ExecutorView D → ExecutorView D → List Reply → Type 0
-TakesCommands look now commands old new given = LedgerTakesCommands look now commands (ledger_of old) (ledger_of new) given × OnlyLedgerChanges old new
+TakesCommands view now commands old new given = LedgerTakesCommands view now commands (ledger_of old) (ledger_of new) given × OnlyLedgerChanges old new
 
 -- the commands of a call, and the replies to them
 abbrev pub commands_of : Exchange → List Command
@@ -33,10 +33,10 @@ IsAt now (Batch at commands replies) = at ≡ now
 IsAt now _ = ⊥
 
 -- The same as calls, one after the other: each a command by itself, or a batch.
-pub record CallsCommands {D : Type 0} (look : D → View) (now : ℕ) (commands : List Command) (old new : ExecutorView D) (given : List Reply) : Type 0 where
+pub record CallsCommands {D : Type 0} (view : D → View) (now : ℕ) (commands : List Command) (old new : ExecutorView D) (given : List Reply) : Type 0 where
   pub exchanges : List Exchange
   pub effects : Effects
-  pub calls : Calls look old exchanges new effects
+  pub calls : Calls view old exchanges new effects
   pub asked : flat_map commands_of exchanges ≡ commands
   pub answered : flat_map replies_of exchanges ≡ given
   pub at_once : AllByRecursion (IsAt now) exchanges

@@ -15,17 +15,17 @@ use Rattle.executor.specs.ExecutorView.{OnlyLedgerChanges, ExecutorView, ledger_
 -- what an open executor does with a request at this moment: it answers a question from its state, or for want of memory, which it
 -- meets only where the allocator refuses growths; it obeys a command
 abbrev pub ServesOpen : {D : Type 0} → (D → View) → ℕ → Request → ExecutorView D → ExecutorView D → Reply → Type 0
-ServesOpen look now (asked.Question question) old new reply =
+ServesOpen view now (asked.Question question) old new reply =
     IsReplyOrMemory (reply_to old.state question) reply × (new ≡ old) × MemoryOnlyIf old.refuses reply
-ServesOpen look now (asked.Command command) old new reply =
-    Obeys look (event_of old.state now command) (ledger_of old) (ledger_of new) reply × OnlyLedgerChanges old new
+ServesOpen view now (asked.Command command) old new reply =
+    Obeys view (event_of old.state now command) (ledger_of old) (ledger_of new) reply × OnlyLedgerChanges old new
 
 -- the same while it is open or closed: a closed one refuses everything
 abbrev pub ServesWhile : Bool → {D : Type 0} → (D → View) → ℕ → Request → ExecutorView D → ExecutorView D → Reply → Type 0
-ServesWhile is_open look now request old new reply =
-    While is_open (ServesOpen look now request old new reply) ((reply ≡ Refused Closed) × (new ≡ old))
+ServesWhile is_open view now request old new reply =
+    While is_open (ServesOpen view now request old new reply) ((reply ≡ Refused Closed) × (new ≡ old))
 
 -- what an executor does with a request at this moment
 abbrev pub Serves : {D : Type 0} → (D → View) → ℕ → Request → ExecutorView D → ExecutorView D → Reply → Type 0
-Serves look now request old new reply =
-    While old.is_open (ServesOpen look now request old new reply) ((reply ≡ Refused Closed) × (new ≡ old))
+Serves view now request old new reply =
+    While old.is_open (ServesOpen view now request old new reply) ((reply ≡ Refused Closed) × (new ≡ old))

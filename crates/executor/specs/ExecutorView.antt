@@ -68,15 +68,15 @@ due_in x = due_of x.monitors
 
 -- Its journal is settled at its state, its reserve holds the results of what runs and a boot, the agent processes of all running
 -- actions live, and its children admit its site.
-pub record ExecutorKeeps {D : Type 0} (look : D → View) (x : ExecutorView D) : Type 0 where
-  pub journal : (look x.disk).honest → IsSettled x.place x.state (look x.disk)
+pub record ExecutorKeeps {D : Type 0} (view : D → View) (x : ExecutorView D) : Type 0 where
+  pub journal : (view x.disk).honest → IsSettled x.place x.state (view x.disk)
   pub room : HasReserve x.place.tail x.state
   pub matched : ChildrenMatch x.state x.children
   pub admits : Admits x.children.site x.site
 
 -- the invariant: the same while it is open
 abbrev pub ExecutorInvariant : {D : Type 0} → (D → View) → ExecutorView D → Type 0
-ExecutorInvariant look x = x.is_open ≡ true → ExecutorKeeps look x
+ExecutorInvariant view x = x.is_open ≡ true → ExecutorKeeps view x
 
 -- The part of the invariant that is not the ledger's.
 pub record ChildrenKeep {D : Type 0} (x : ExecutorView D) : Type 0 where

@@ -10,6 +10,6 @@ use Rattle.executor.specs.TurnCalls.{FinishesTurn}
 
 -- what it does with these effects, while the executor is open or closed: a closed one does nothing
 abbrev pub FinishedWhile : Bool → {D : Type 0} → (D → View) → ℕ → ExecutorView D → ExecutorView D → TurnEnd → Effects → Type 0
-FinishedWhile is_open look now old new end did =
-    While is_open ((takes : FinishesTurn look now old new end) × (did ≡ takes.turns.effects))
+FinishedWhile is_open view now old new end did =
+    While is_open ((takes : FinishesTurn view now old new end) × (did ≡ takes.turns.effects))
     ((end ≡ Closed) × (new ≡ old) × (did ≡ no_effects))

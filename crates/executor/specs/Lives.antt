@@ -40,18 +40,18 @@ pub data Exchange : Type 0 where
 
 -- what a call does, from one view of the executor to another
 abbrev pub Does : {D : Type 0} → (D → View) → Exchange → ExecutorView D → ExecutorView D → Effects → Type 0
-Does look (Took i reply) old new effects = TakesWhile old.is_open look i old new reply effects
-Does look (Batch now commands replies) old new effects = TakesBatch look now commands old new replies effects
-Does look (Finished now end) old new effects = FinishedWhile old.is_open look now old new end effects
-Does look (Tidied end) old new effects = TidiesWhile old.is_open look old new end × (effects ≡ no_effects)
-Does look Cleared old new effects = (new ≡ with_empty_book old) × (effects ≡ no_effects)
-Does look Abandoned old new effects = (new ≡ abandoned old) × (effects ≡ no_effects)
+Does view (Took i reply) old new effects = TakesWhile old.is_open view i old new reply effects
+Does view (Batch now commands replies) old new effects = TakesBatch view now commands old new replies effects
+Does view (Finished now end) old new effects = FinishedWhile old.is_open view now old new end effects
+Does view (Tidied end) old new effects = TidiesWhile old.is_open view old new end × (effects ≡ no_effects)
+Does view Cleared old new effects = (new ≡ with_empty_book old) × (effects ≡ no_effects)
+Does view Abandoned old new effects = (new ≡ abandoned old) × (effects ≡ no_effects)
 
 -- one call after the other; a session is the calls of its inputs
 abbrev pub Calls : {D : Type 0} → (D → View) → ExecutorView D → List Exchange → ExecutorView D → Effects → Type 0
-Calls look old [] new effects = (new ≡ old) × (effects ≡ no_effects)
-Calls {D} look old (e ∷ es) new effects =
-    (mid : ExecutorView D) × (first : Effects) × (later : Effects) × Does look e old mid first × Calls look mid es new later
+Calls view old [] new effects = (new ≡ old) × (effects ≡ no_effects)
+Calls {D} view old (e ∷ es) new effects =
+    (mid : ExecutorView D) × (first : Effects) × (later : Effects) × Does view e old mid first × Calls view mid es new later
     × (effects ≡ followed_by first later)
 
 -- An incarnation whose opening was done: the disk that its opening was handed, and when; the executor as it was opened, as the calls
@@ -68,16 +68,16 @@ pub record Service (D : Type 0) : Type 0 where
   pub stop : ℕ
 
 -- It was opened, calls returned, others were begun, and it crashed at some moment after the last return.
-pub record Serves {D : Type 0} (look : D → View) (x : Service D) : Type 0 where
+pub record Serves {D : Type 0} (view : D → View) (x : Service D) : Type 0 where
   pub children : ChildrenView
   pub was_running : List Notice
   pub was_queued : List Notice
-  pub opens : Opened look (look x.disk) children x.now x.opened was_running was_queued
+  pub opens : Opened view (view x.disk) children x.now x.opened was_running was_queued
   pub calls : List Exchange
-  pub returns : Calls look x.opened calls x.returned x.done
+  pub returns : Calls view x.opened calls x.returned x.done
   pub begun : List Exchange
-  pub goes_on : Calls look x.returned begun x.last x.under_way
-  pub following : (look x.returned.disk).clock ≤ x.stop
+  pub goes_on : Calls view x.returned begun x.last x.under_way
+  pub following : (view x.returned.disk).clock ≤ x.stop
 
 -- an incarnation: an opening that was refused for a fault, or in which the crash came, from one disk to another; or one whose opening
 -- was done
@@ -107,13 +107,13 @@ last_disk (InService x) = x.last.disk
 
 -- the calls of an incarnation
 abbrev pub Sat : {D : Type 0} → (D → View) → Sitting D → Type 0
-Sat look (InOpening old new now end) = EndsOpening (look old) (look new) now end
-Sat look (InService x) = Serves look x
+Sat view (InOpening old new now end) = EndsOpening (view old) (view new) now end
+Sat view (InService x) = Serves view x
 
 -- the images that its crash may have left
 abbrev pub StopLeaves : {D : Type 0} → (D → View) → Sitting D → Image → Type 0
-StopLeaves look (InOpening old new now end) c = (look new).since (look old).clock c
-StopLeaves look (InService x) c = (look x.last.disk).since x.stop c
+StopLeaves view (InOpening old new now end) c = (view new).since (view old).clock c
+StopLeaves view (InService x) c = (view x.last.disk).since x.stop c
 
 -- a history may begin on this pair: it is found as this state, and has capacity for its boot
 abbrev pub BeginsAs : State → Image → Type 0
@@ -121,18 +121,18 @@ BeginsAs start c = FoundAs start c × PairHasReserve c
 
 -- The images that a history may leave that begins with this state, the last incarnation first.
 abbrev pub LifeLeaves : {D : Type 0} → (D → View) → State → List (Sitting D) → Image → Type 0
-LifeLeaves look start [] c = BeginsAs start c
-LifeLeaves look start (x ∷ older) c = StopLeaves look x c
+LifeLeaves view start [] c = BeginsAs start c
+LifeLeaves view start (x ∷ older) c = StopLeaves view x c
 
 -- each image of this disk is one that a history may leave
 abbrev pub GoesOnFrom : {D : Type 0} → (D → View) → State → List (Sitting D) → D → Type 0
-GoesOnFrom look start older disk = (c : Image) → (look disk).now c → LifeLeaves look start older c
+GoesOnFrom view start older disk = (c : Image) → (view disk).now c → LifeLeaves view start older c
 
 -- A history, the last incarnation first: each begins on a disk that the one before may have left, and its disk is honest throughout.
 abbrev pub IsLife : {D : Type 0} → (D → View) → State → List (Sitting D) → Type 0
-IsLife look start [] = ⊤
-IsLife look start (x ∷ older) =
-    IsLife look start older × GoesOnFrom look start older (first_disk x) × Sat look x × (look (last_disk x)).honest
+IsLife view start [] = ⊤
+IsLife view start (x ∷ older) =
+    IsLife view start older × GoesOnFrom view start older (first_disk x) × Sat view x × (view (last_disk x)).honest
 
 -- the boot that an opening at this moment needs, if one is
 abbrev pub boots : State → ℕ → List Event

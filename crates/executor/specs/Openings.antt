@@ -73,15 +73,15 @@ pub record IsUnready (from to : ChildrenView) (s : State) (fault : OpenError) : 
   pub memory : fault ≡ why.Memory → (to ≡ given_up from) × (from.last_run < s.next_run)
 
 -- The executor was opened: from one view of the disk and these children, and with these notices, which it remembers.
-pub record Opened {D : Type 0} (look : D → View) (old : View) (from : ChildrenView) (now : ℕ) (x : ExecutorView D)
+pub record Opened {D : Type 0} (view : D → View) (old : View) (from : ChildrenView) (now : ℕ) (x : ExecutorView D)
     (was_running was_queued : List Notice) : Type 0 where
   pub over : IsOver from x
-  pub sound : ExecutorInvariant look x
-  pub starts : (look x.disk).honest → Starts old.reads now x.state (due_in x) was_running was_queued
+  pub sound : ExecutorInvariant view x
+  pub starts : (view x.disk).honest → Starts old.reads now x.state (due_in x) was_running was_queued
   pub opening_report : x.opening_report ≡ record { interrupted = was_running; dropped = was_queued }
-  pub did : OpensDisk old (look x.disk) now
+  pub did : OpensDisk old (view x.disk) now
   -- the boot fitted
-  pub fits : (look x.disk).honest → LacksReserve old.reads → ⊥
+  pub fits : (view x.disk).honest → LacksReserve old.reads → ⊥
 
 -- the children were started for another journal: the last run is not below the next one of the state that is found
 pub record IsForeign (c : Image) (from : ChildrenView) : Type 0 where

@@ -18,34 +18,34 @@ notices_of _ _ reported = []
 
 -- the label of a call of an executor that was open or not
 abbrev pub label_in : {D : Type 0} → (D → View) → Bool → Exchange → ExecutorView D → ExecutorView D → Effects → Label
-label_in look was_open e old new effects = record {
+label_in view was_open e old new effects = record {
   exchange = e;
   answers = effects.entries;
   notices = notices_of was_open e new.reported;
   room = old.children.room;
   place = old.place;
-  faults = ((look old.disk).failures, (look new.disk).failures);
+  faults = ((view old.disk).failures, (view new.disk).failures);
 }
 
 -- the labels of calls, one after the other
-abbrev pub labels : {D : Type 0} → (look : D → View) → (old : ExecutorView D) → (es : List Exchange) → (new : ExecutorView D) → (effects : Effects)
-    → Calls look old es new effects → List Label
-labels look old [] new effects calls = []
-labels look old (e ∷ es) new effects (mid, first, later, does, rest, is) = label_in look old.is_open e old mid first ∷ labels look mid es new later rest
+abbrev pub labels : {D : Type 0} → (view : D → View) → (old : ExecutorView D) → (es : List Exchange) → (new : ExecutorView D) → (effects : Effects)
+    → Calls view old es new effects → List Label
+labels view old [] new effects calls = []
+labels view old (e ∷ es) new effects (mid, first, later, does, rest, is) = label_in view old.is_open e old mid first ∷ labels view mid es new later rest
 
 -- of each incarnation its labels and its report, the last incarnation first
-abbrev pub seen : {D : Type 0} → (look : D → View) → (start : State) → (life : List (Sitting D)) → IsLife look start life → List Seen
-seen look start [] is = []
-seen look start (InOpening old new now end ∷ older) is = Opening now end ∷ seen look start older is.0
-seen look start (InService x ∷ older) is = Serving (record {
+abbrev pub seen : {D : Type 0} → (view : D → View) → (start : State) → (life : List (Sitting D)) → IsLife view start life → List Seen
+seen view start [] is = []
+seen view start (InOpening old new now end ∷ older) is = Opening now end ∷ seen view start older is.0
+seen view start (InService x ∷ older) is = Serving (record {
   now = x.now;
   ran = is.2.was_running;
   queued = is.2.was_queued;
-  calls = labels look x.opened is.2.calls x.returned x.done is.2.returns;
-  begun = labels look x.returned is.2.begun x.last x.under_way is.2.goes_on;
+  calls = labels view x.opened is.2.calls x.returned x.done is.2.returns;
+  begun = labels view x.returned is.2.begun x.last x.under_way is.2.goes_on;
   stop = x.stop;
   refuses = x.opened.refuses;
-}) ∷ seen look start older is.0
+}) ∷ seen view start older is.0
 
 -- the interruptions that the openings of these incarnations reported, the first one's first
 abbrev pub reports : List Seen → List Notice

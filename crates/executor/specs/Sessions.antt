@@ -36,23 +36,23 @@ request_effects s now (asked.Question question) reply = no_effects
 request_effects s now (asked.Command command) reply = command_effects (event_of s now command) reply
 
 -- an open executor takes a request: from one view of it to another, with these effects
-pub record TakesRequest {D : Type 0} (look : D → View) (now : ℕ) (request : Request) (old new : ExecutorView D) (reply : Reply)
+pub record TakesRequest {D : Type 0} (view : D → View) (now : ℕ) (request : Request) (old new : ExecutorView D) (reply : Reply)
     (effects : Effects) : Type 0 where
-  pub serves : ServesOpen look now request old new reply
+  pub serves : ServesOpen view now request old new reply
   pub closes : (new.is_open ≡ false) ↔ (reply ≡ Refused Disk)
   pub does : effects ≡ request_effects old.state now request reply
 
 -- an open executor makes a turn, and replies how it ended
-pub record TakesATurn {D : Type 0} (look : D → View) (now : ℕ) (old new : ExecutorView D) (reply : Reply) (effects : Effects) : Type 0 where
+pub record TakesATurn {D : Type 0} (view : D → View) (now : ℕ) (old new : ExecutorView D) (reply : Reply) (effects : Effects) : Type 0 where
   pub end : TurnEnd
-  pub takes : TakesTurn look now old new end
+  pub takes : TakesTurn view now old new end
   pub replies : reply ≡ Turn end
   pub does : effects ≡ takes.turns.effects
 
 -- an open executor takes an input
 abbrev pub TakesOpen : {D : Type 0} → (D → View) → Input → ExecutorView D → ExecutorView D → Reply → Effects → Type 0
-TakesOpen look (input.Request now request) old new reply effects = TakesRequest look now request old new reply effects
-TakesOpen look (input.Turn now) old new reply effects = TakesATurn look now old new reply effects
+TakesOpen view (input.Request now request) old new reply effects = TakesRequest view now request old new reply effects
+TakesOpen view (input.Turn now) old new reply effects = TakesATurn view now old new reply effects
 
 -- the reply of a closed executor
 abbrev pub closed_reply : Input → Reply
@@ -61,22 +61,22 @@ closed_reply (input.Turn now) = Turn turn_end.Closed
 
 -- an executor takes an input, while it is open or closed: a closed one does nothing
 abbrev pub TakesWhile : Bool → {D : Type 0} → (D → View) → Input → ExecutorView D → ExecutorView D → Reply → Effects → Type 0
-TakesWhile is_open look i old new reply effects =
-    While is_open (TakesOpen look i old new reply effects) ((reply ≡ closed_reply i) × (new ≡ old) × (effects ≡ no_effects))
+TakesWhile is_open view i old new reply effects =
+    While is_open (TakesOpen view i old new reply effects) ((reply ≡ closed_reply i) × (new ≡ old) × (effects ≡ no_effects))
 
 -- one input after the other, none left out, each with one reply: from one view of the executor to another
 abbrev pub Session : {D : Type 0} → (D → View) → ExecutorView D → List Input → List Reply → ExecutorView D → Effects → Type 0
-Session look old [] [] new effects = (new ≡ old) × (effects ≡ no_effects)
-Session {D} look old (i ∷ is) (r ∷ rs) new effects =
-    (mid : ExecutorView D) × (first : Effects) × (later : Effects) × TakesWhile old.is_open look i old mid r first × Session look mid is rs new later
+Session view old [] [] new effects = (new ≡ old) × (effects ≡ no_effects)
+Session {D} view old (i ∷ is) (r ∷ rs) new effects =
+    (mid : ExecutorView D) × (first : Effects) × (later : Effects) × TakesWhile old.is_open view i old mid r first × Session view mid is rs new later
     × (effects ≡ followed_by first later)
-Session look old [] (r ∷ rs) new effects = ⊥
-Session look old (i ∷ is) [] new effects = ⊥
+Session view old [] (r ∷ rs) new effects = ⊥
+Session view old (i ∷ is) [] new effects = ⊥
 
 -- Calls of an open executor with these effects: from one view of it to another.
-pub record Leads {D : Type 0} (look : D → View) (old new : ExecutorView D) (effects : Effects) : Type 0 where
+pub record Leads {D : Type 0} (view : D → View) (old new : ExecutorView D) (effects : Effects) : Type 0 where
   -- the state, the crash condition, and that no agent was spawned without its synced begin
-  pub crash : Leaves look old.disk new.disk old.state new.state effects
+  pub crash : Leaves view old.disk new.disk old.state new.state effects
   pub book : new.children.book ≡ old.children.book ++ effects.entries
   -- the log of all answers ever got the same entries
   pub log : new.children.log ≡ old.children.log ++ effects.entries
@@ -88,7 +88,7 @@ pub record Leads {D : Type 0} (look : D → View) (old new : ExecutorView D) (ef
   pub whole : new.is_open ≡ true → effects.pending ≡ []
 
 -- Each input was taken, with these replies; and where the executor was open, the effects of all of them.
-pub record Sits {D : Type 0} (look : D → View) (inputs : List Input) (old new : ExecutorView D) (replies : List Reply) : Type 0 where
+pub record Sits {D : Type 0} (view : D → View) (inputs : List Input) (old new : ExecutorView D) (replies : List Reply) : Type 0 where
   pub effects : Effects
-  pub each : Session look old inputs replies new effects
-  pub leads : old.is_open ≡ true → Leads look old new effects
+  pub each : Session view old inputs replies new effects
+  pub leads : old.is_open ≡ true → Leads view old new effects

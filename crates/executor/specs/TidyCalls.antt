@@ -9,8 +9,8 @@ use Rattle.executor.specs.ExecutorView.{OnlyLedgerChanges, ExecutorView, ledger_
 
 -- what a tidy of an open executor does: from one view of it to another
 abbrev pub Tidies : {D : Type 0} → (D → View) → ExecutorView D → ExecutorView D → TidyEnd → Type 0
-Tidies look old new end = LedgerTidies look (ledger_of old) (ledger_of new) end × OnlyLedgerChanges old new
+Tidies view old new end = LedgerTidies view (ledger_of old) (ledger_of new) end × OnlyLedgerChanges old new
 
 -- the same while it is open or closed: a closed one does nothing
 abbrev pub TidiesWhile : Bool → {D : Type 0} → (D → View) → ExecutorView D → ExecutorView D → TidyEnd → Type 0
-TidiesWhile is_open look old new end = While is_open (Tidies look old new end) ((end ≡ Closed) × (new ≡ old))
+TidiesWhile is_open view old new end = While is_open (Tidies view old new end) ((end ≡ Closed) × (new ≡ old))

@@ -13,8 +13,8 @@ use Rattle.executor.specs.ExecutorView.{ExecutorView, due_in}
 
 -- An open executor makes a turn of a kind at this moment, for which the book has to take this many entries a resource: from one view
 -- of it to another.
-pub record MakesTurn {D : Type 0} (kind : TurnKind) (entries : ℕ) (look : D → View) (now : ℕ) (old new : ExecutorView D) (end : TurnEnd) : Type 0 where
-  pub turns : TurnsAs kind look old.disk new.disk
+pub record MakesTurn {D : Type 0} (kind : TurnKind) (entries : ℕ) (view : D → View) (now : ℕ) (old new : ExecutorView D) (end : TurnEnd) : Type 0 where
+  pub turns : TurnsAs kind view old.disk new.disk
       (scene old.state (due_in old) old.place (moment old.state now) old.refuses) new.state (due_in new) old.children new.children new.reported end
   -- its site, its allocator and the report of its opening stay
   pub site : new.site ≡ old.site
@@ -28,18 +28,18 @@ pub record MakesTurn {D : Type 0} (kind : TurnKind) (entries : ℕ) (look : D �
 
 -- a turn that begins what has to begin: a poll, a kill and a start are three entries
 abbrev pub TakesTurn : {D : Type 0} → (D → View) → ℕ → ExecutorView D → ExecutorView D → TurnEnd → Type 0
-TakesTurn look now old new end = MakesTurn IsTurn 3 look now old new end
+TakesTurn view now old new end = MakesTurn IsTurn 3 view now old new end
 
 -- one that begins nothing: a poll and a kill are two
 abbrev pub FinishesTurn : {D : Type 0} → (D → View) → ℕ → ExecutorView D → ExecutorView D → TurnEnd → Type 0
-FinishesTurn look now old new end = MakesTurn IsFinish 2 look now old new end
+FinishesTurn view now old new end = MakesTurn IsFinish 2 view now old new end
 
 -- both, of an executor that is open or closed: a closed one does nothing
 abbrev pub TurnsWhile : Bool → {D : Type 0} → (D → View) → ℕ → ExecutorView D → ExecutorView D → TurnEnd → Type 0
-TurnsWhile is_open look now old new end = While is_open (TakesTurn look now old new end) ((end ≡ Closed) × (new ≡ old))
+TurnsWhile is_open view now old new end = While is_open (TakesTurn view now old new end) ((end ≡ Closed) × (new ≡ old))
 
 abbrev pub FinishesWhile : Bool → {D : Type 0} → (D → View) → ℕ → ExecutorView D → ExecutorView D → TurnEnd → Type 0
-FinishesWhile is_open look now old new end = While is_open (FinishesTurn look now old new end) ((end ≡ Closed) × (new ≡ old))
+FinishesWhile is_open view now old new end = While is_open (FinishesTurn view now old new end) ((end ≡ Closed) × (new ≡ old))
 
 -- the executor after its children's book was emptied, and after it gave up its children, which closes it
 abbrev pub with_empty_book : {D : Type 0} → ExecutorView D → ExecutorView D

@@ -3,7 +3,7 @@ use exec_lines::moment_now;
 use exec_options::{JournalPlace, Options};
 use exec_orphans::{read_holder, uptime};
 use ocf_types::Moment;
-use status_report::Look;
+use status_report::StatusOptions;
 use std::path::Path;
 
 // The moment now by the clock of the executor that last opened the journal in this directory; `None` if that was before the last boot.
@@ -26,8 +26,8 @@ pub fn moment_of(rt: &HostRuntime, journal: JournalPlace) -> Moment {
 }
 
 /// The options of a status: of this moment, and in colour only on a terminal.
-pub fn look_of<'a>(rt: &HostRuntime, options: Options<'a>) -> Look<'a> {
-    Look {
+pub fn look_of<'a>(rt: &HostRuntime, options: Options<'a>) -> StatusOptions<'a> {
+    StatusOptions {
         moment: moment_of(rt, options.journal),
         only: options.resource,
         colours: is_terminal(rt),

@@ -7,7 +7,7 @@ use disk_model::Disk;
 use exec_faults::Fault;
 use exec_options::Options;
 use process_ends::System;
-use status_report::{Look, failed, status, status_json};
+use status_report::{StatusOptions, failed, status, status_json};
 use std::io::Write;
 
 // The reasons in the logs for the failures of the resources that are asked for, if the options name a directory of logs. There
@@ -16,7 +16,7 @@ fn reasons_for<D: Disk + Drop>(
     system: &System<'_>,
     options: Options,
     disk: D,
-    look: &Look,
+    look: &StatusOptions,
 ) -> (D, Vec<FoundReason>) {
     let alloc = system.host().alloc();
     let Some(directory) = options.logs else {
@@ -48,7 +48,7 @@ pub fn status_to<D: Disk + Drop, W: Write>(
     let Ok(reasons) = as_reasons(rt.alloc(), found.as_slice()) else {
         return (disk, Err(Fault::ReplyMemory));
     };
-    let look = Look {
+    let look = StatusOptions {
         reasons: reasons.as_slice(),
         ..look
     };

@@ -26,11 +26,11 @@ pub unanswered : (is : List Input) → as_calls is [] ≡ []
 unanswered [] = refl
 unanswered (i ∷ is) = refl
 
-module _ {D : Type 0} (look : D → View) where
+module _ {D : Type 0} (view : D → View) where
   -- an incarnation of an executor that was opened and made calls
   pub served : (old new : D) (from : ChildrenView) (now : ℕ) (opened last : ExecutorView D) (ran queued : List Notice) (calls : List Exchange)
-      (d : Effects) → Opened look (look old) from now opened ran queued → Calls look opened calls last d → new ≡ last.disk
-      → IsSitting look calls old new
+      (d : Effects) → Opened view (view old) from now opened ran queued → Calls view opened calls last d → new ≡ last.disk
+      → IsSitting view calls old new
   served old new from now opened last ran queued calls d opens made same = record {
     sitting = InService (record {
       disk = old;
@@ -40,7 +40,7 @@ module _ {D : Type 0} (look : D → View) where
       last = last;
       done = d;
       under_way = no_effects;
-      stop = (look last.disk).clock;
+      stop = (view last.disk).clock;
     });
     sat = record {
       children = from;
@@ -56,19 +56,19 @@ module _ {D : Type 0} (look : D → View) where
     made = append-nil calls;
     first = refl;
     last = sym same;
-    leaves = λ honest c left. subst (λ (z : D). (look z).since (look z).clock c) same left;
+    leaves = λ honest c left. subst (λ (z : D). (view z).since (view z).clock c) same left;
   }
 
   -- an incarnation in which no executor was opened
-  pub not_opened : (law : (d : D) → (look d).honest → Lawful (look d)) (old new : D) (from to : ChildrenView) (now : ℕ) (why : OpenError)
-      → NotOpened (look old) (look new) from to now why → Sat look (InOpening old new now (Some why)) → IsSitting look [] old new
+  pub not_opened : (law : (d : D) → (view d).honest → Lawful (view d)) (old new : D) (from to : ChildrenView) (now : ℕ) (why : OpenError)
+      → NotOpened (view old) (view new) from to now why → Sat view (InOpening old new now (Some why)) → IsSitting view [] old new
   not_opened law old new from to now why refused sat = record {
     sitting = InOpening old new now (Some why);
     sat = sat;
     made = refl;
     first = refl;
     last = refl;
-    leaves = λ honest c left. (law new honest).earlier (look new).clock (look old).clock c refused.did.crash.passed.clock left;
+    leaves = λ honest c left. (law new honest).earlier (view new).clock (view old).clock c refused.did.crash.passed.clock left;
   }
 
 module _ {M : Type 0} where

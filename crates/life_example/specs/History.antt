@@ -11,37 +11,37 @@ use Rattle.executor.specs.Runs.{Runs}
 use Rattle.executor.specs.SeenLives.{seen}
 
 -- the calls of an incarnation: none if the executor was not opened
-abbrev pub calls_of : {D : Type 0} → (look : D → View) → (x : Sitting D) → Sat look x → List Exchange
-calls_of look (InOpening old new now end) sat = []
-calls_of look (InService x) sat = sat.calls ++ sat.begun
+abbrev pub calls_of : {D : Type 0} → (view : D → View) → (x : Sitting D) → Sat view x → List Exchange
+calls_of view (InOpening old new now end) sat = []
+calls_of view (InService x) sat = sat.calls ++ sat.begun
 
 -- the calls of each incarnation of a history, the last one first
-abbrev pub calls_in : {D : Type 0} → (look : D → View) → (start : State) → (life : List (Sitting D)) → IsLife look start life → List (List Exchange)
-calls_in look start [] is = []
-calls_in look start (x ∷ older) is = calls_of look x is.2 ∷ calls_in look start older is.0
+abbrev pub calls_in : {D : Type 0} → (view : D → View) → (start : State) → (life : List (Sitting D)) → IsLife view start life → List (List Exchange)
+calls_in view start [] is = []
+calls_in view start (x ∷ older) is = calls_of view x is.2 ∷ calls_in view start older is.0
 
 -- an incarnation with these calls, from one disk to another, which crashed at its last moment
-pub record IsSitting {D : Type 0} (look : D → View) (calls : List Exchange) (old new : D) : Type 0 where
+pub record IsSitting {D : Type 0} (view : D → View) (calls : List Exchange) (old new : D) : Type 0 where
   pub sitting : Sitting D
-  pub sat : Sat look sitting
-  pub made : calls_of look sitting sat ≡ calls
+  pub sat : Sat view sitting
+  pub made : calls_of view sitting sat ≡ calls
   pub first : first_disk sitting ≡ old
   pub last : last_disk sitting ≡ new
-  pub leaves : (look new).honest → (c : Image) → (look new).since (look new).clock c → StopLeaves look sitting c
+  pub leaves : (view new).honest → (c : Image) → (view new).since (view new).clock c → StopLeaves view sitting c
 
 -- a history that begins without a journal, whose incarnations made these calls, the last one first; the disk holds only a crash
 -- image of it
-pub record IsHistory {D : Type 0} (look : D → View) (calls : List (List Exchange)) (disk : D) : Type 0 where
+pub record IsHistory {D : Type 0} (view : D → View) (calls : List (List Exchange)) (disk : D) : Type 0 where
   pub life : List (Sitting D)
-  pub is : IsLife look empty life
-  pub made : calls_in look empty life is ≡ calls
-  pub goes_on : GoesOnFrom look empty life disk
+  pub is : IsLife view empty life
+  pub made : calls_in view empty life is ≡ calls
+  pub goes_on : GoesOnFrom view empty life disk
 
 -- the promise for such a history: the disk holds the state after a list of events; the exchanges and events that were seen are a
 -- behaviour of the state machine with these events, and keep the promise
-pub record IsPromised {D : Type 0} (look : D → View) (calls : List (List Exchange)) (disk : D) : Type 0 where
-  pub history : IsHistory look calls disk
+pub record IsPromised {D : Type 0} (view : D → View) (calls : List (List Exchange)) (disk : D) : Type 0 where
+  pub history : IsHistory view calls disk
   pub events : List Event
-  pub found : FoundAs (after_all empty events) (look disk).reads
-  pub runs : Runs empty (seen look empty history.life history.is) events
-  pub kept : IsKept empty (seen look empty history.life history.is) events
+  pub found : FoundAs (after_all empty events) (view disk).reads
+  pub runs : Runs empty (seen view empty history.life history.is) events
+  pub kept : IsKept empty (seen view empty history.life history.is) events

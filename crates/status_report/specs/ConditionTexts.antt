@@ -10,7 +10,7 @@ use Rattle.resource_status.specs.Meanings.{failure_meaning}
 use Rattle.resource_status.specs.Texts.{ago_text, since_text}
 use Rattle.status_report.specs.Colours.{painted}
 use Rattle.resource_status.specs.declared.condition.Known.{Known}
-use Rattle.status_report.specs.declared.look.Look.{Look}
+use Rattle.status_report.specs.declared.options.StatusOptions.{StatusOptions}
 use Rattle.resource_status.specs.declared.meanings.Tone.TheVariants.{Bad}
 
 -- since when a condition holds
@@ -28,5 +28,5 @@ abbrev pub code_text : Outcome → List ℕ
 code_text outcome = codes " (" ++ name_read (outcome_code outcome) ++ codes ", " ++ decimal (outcome_code outcome) ++ codes "), "
 
 -- what a failure means, its code, and how long ago it was
-abbrev pub failed_text : Look → Ended → List ℕ
-failed_text look e = painted look.colours Bad (failure_meaning e.action e.outcome) ++ code_text e.outcome ++ ago_text look.moment e.at
+abbrev pub failed_text : StatusOptions → Ended → List ℕ
+failed_text options e = painted options.colours Bad (failure_meaning e.action e.outcome) ++ code_text e.outcome ++ ago_text options.moment e.at

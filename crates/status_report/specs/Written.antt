@@ -16,7 +16,7 @@ use Rattle.resource_status.specs.Results.{is_run, last_of}
 use Rattle.resource_status.specs.Meanings.{meaning, tone_of}
 use Rattle.resource_status.specs.Texts.{ago_text, due_text, exact_text, since_text, span_text}
 use Rattle.status_report.specs.Colours.{painted}
-use Rattle.status_report.specs.declared.look.Look.{Look}
+use Rattle.status_report.specs.declared.options.StatusOptions.{StatusOptions}
 
 -- what runs, and since when
 abbrev pub running_text : ℕ → Option Running → List ℕ
@@ -28,12 +28,12 @@ abbrev pub queued_text : ℕ → List ℕ
 queued_text n = if n == 0 then [] else codes ", " ++ decimal n ++ codes " queued"
 
 -- what a resource does now
-abbrev pub now_text : Look → History → List ℕ
-now_text look h = running_text look.moment h.running ++ queued_text (length h.queue)
+abbrev pub now_text : StatusOptions → History → List ℕ
+now_text options h = running_text options.moment h.running ++ queued_text (length h.queue)
 
 -- what a result means, and how long ago it ended
-abbrev pub result_text : Look → Ended → List ℕ
-result_text look e = painted look.colours (tone_of e.outcome) (meaning e.action e.outcome) ++ codes ", " ++ ago_text look.moment e.at
+abbrev pub result_text : StatusOptions → Ended → List ℕ
+result_text options e = painted options.colours (tone_of e.outcome) (meaning e.action e.outcome) ++ codes ", " ++ ago_text options.moment e.at
 
 -- the beginning of a line: its name, indented, and spaces up to the column of its text, at least one
 abbrev pub set_in : List ℕ → List ℕ
@@ -49,19 +49,19 @@ written_actions =
     action.Monitor ∷ action.Start ∷ action.Promote ∷ action.Demote ∷ action.Stop ∷ action.ReloadAgent ∷ action.ValidateAll ∷ []
 
 -- the line of an action: its last result that was asked for once, or no line if there is none
-abbrev pub action_line : Look → List Ended → Action → List ℕ
-action_line look es what =
-    option_map_or (λ e. set_in (action_word what) ++ result_text look e) (last_of (is_asked what) es) []
+abbrev pub action_line : StatusOptions → List Ended → Action → List ℕ
+action_line options es what =
+    option_map_or (λ e. set_in (action_word what) ++ result_text options e) (last_of (is_asked what) es) []
 
 -- the text of a recurring monitor: its last result, and when it is due again
-abbrev pub monitor_text : Look → Recur → Option Ended → List ℕ
-monitor_text look m None = codes "no result yet"
-monitor_text look m (Some e) = result_text look e ++ codes "; " ++ due_text look.moment e.at m.interval
+abbrev pub monitor_text : StatusOptions → Recur → Option Ended → List ℕ
+monitor_text options m None = codes "no result yet"
+monitor_text options m (Some e) = result_text options e ++ codes "; " ++ due_text options.moment e.at m.interval
 
 -- the line of a recurring monitor
-abbrev pub monitor_line : Look → List Ended → Recur → List ℕ
-monitor_line look es m =
-    set_in (codes "every " ++ exact_text m.interval) ++ monitor_text look m (last_of (is_run m.call) es)
+abbrev pub monitor_line : StatusOptions → List Ended → Recur → List ℕ
+monitor_line options es m =
+    set_in (codes "every " ++ exact_text m.interval) ++ monitor_text options m (last_of (is_run m.call) es)
 
 -- the line of a reason
 abbrev pub known_reason_line : List ℕ → List ℕ
@@ -73,27 +73,27 @@ reason_line None = []
 reason_line (Some text) = known_reason_line text
 
 -- the line of the last failure, with the line of its reason, or no line if no action has failed
-abbrev pub failure_line : Look → Option (List ℕ) → Option Ended → List ℕ
-failure_line look reason None = []
-failure_line look reason (Some e) =
-    set_in (codes "last failure") ++ action_word e.action ++ codes ": " ++ failed_text look e ++ reason_line reason
+abbrev pub failure_line : StatusOptions → Option (List ℕ) → Option Ended → List ℕ
+failure_line options reason None = []
+failure_line options reason (Some e) =
+    set_in (codes "last failure") ++ action_word e.action ++ codes ": " ++ failed_text options e ++ reason_line reason
 
 -- the line of a result in the history
-abbrev pub past_line : Look → Ended → List ℕ
-past_line look e =
+abbrev pub past_line : StatusOptions → Ended → List ℕ
+past_line options e =
     codes "\n  call " ++ decimal e.call ++ codes ", " ++ action_word e.action ++ codes " of " ++ span_text (e.at - e.since)
-    ++ codes ": " ++ result_text look e
+    ++ codes ": " ++ result_text options e
 
 -- all results, oldest first, if a single resource is asked for
-abbrev pub history_text : Look → List Ended → List ℕ
-history_text look es = option_map_or (λ id. codes "\n  history, oldest first:" ++ flat_map (past_line look) es) look.only []
+abbrev pub history_text : StatusOptions → List Ended → List ℕ
+history_text options es = option_map_or (λ id. codes "\n  history, oldest first:" ++ flat_map (past_line options) es) options.only []
 
 -- the lines below a resource's row
-abbrev pub lines_text : Look → Option (List ℕ) → Resource → List ℕ
-lines_text look reason r =
-    flat_map (action_line look r.history.ended) written_actions ++ flat_map (monitor_line look r.history.ended) r.recurring
-    ++ failure_line look reason r.history.failed ++ history_text look r.history.ended
+abbrev pub lines_text : StatusOptions → Option (List ℕ) → Resource → List ℕ
+lines_text options reason r =
+    flat_map (action_line options r.history.ended) written_actions ++ flat_map (monitor_line options r.history.ended) r.recurring
+    ++ failure_line options reason r.history.failed ++ history_text options r.history.ended
 
 -- all that is shown of a resource after its condition, with the reason for its last failure
-abbrev pub written : Look → Option (List ℕ) → Resource → List ℕ
-written look reason r = now_text look r.history ++ lines_text look reason r ++ 10 ∷ []
+abbrev pub written : StatusOptions → Option (List ℕ) → Resource → List ℕ
+written options reason r = now_text options r.history ++ lines_text options reason r ++ 10 ∷ []

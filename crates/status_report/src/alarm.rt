@@ -4,27 +4,27 @@ ghost use Rattle.ocf_types.specs.Places.{at_place, id_at};
 ghost use Rattle.resource_status.specs.Conditions.{condition_of, is_bad};
 ghost use Rattle.status_report.specs.Tables.{is_alarm, is_any_bad, is_asked_for};
 
-use crate::look::Look;
+use crate::options::StatusOptions;
 use exec_state::State;
 use ocf_types::StateView;
 use resource_status::condition_of;
 
 // Whether a resource is asked for and needs attention.
-fn is_bad_at(look: &Look, state: &State, place: usize) -> bool
+fn is_bad_at(options: &StatusOptions, state: &State, place: usize) -> bool
     requires { place < length state.now.state.resources }
     ensures { result
-        ≡ (is_asked_for look.now (id_at state.now.state place)
+        ≡ (is_asked_for options.now (id_at state.now.state place)
         && is_bad (condition_of (at_place state.now.state place).history)) }
 {
-    look.asks_for(state.id_at(place)) && condition_of(state, place).is_bad()
+    options.asks_for(state.id_at(place)) && condition_of(state, place).is_bad()
 }
 
 // Whether any resource that is asked for needs attention.
-fn is_any_bad(look: &Look, state: &State) -> bool
-    ensures { result ≡ is_any_bad look.now state.now.state }
+fn is_any_bad(options: &StatusOptions, state: &State) -> bool
+    ensures { result ≡ is_any_bad options.now state.now.state }
 {
     for place in 0..state.len() {
-        if is_bad_at(look, state, place) {
+        if is_bad_at(options, state, place) {
             return true;
         }
     }
@@ -32,8 +32,8 @@ fn is_any_bad(look: &Look, state: &State) -> bool
 }
 
 /// Whether the status is to end by a fault: that is asked for, and a resource that is asked for needs attention.
-pub fn is_alarm(look: &Look, state: &State) -> bool
-    ensures { result ≡ is_alarm look.now state.now.state }
+pub fn is_alarm(options: &StatusOptions, state: &State) -> bool
+    ensures { result ≡ is_alarm options.now state.now.state }
 {
-    look.alarms && is_any_bad(look, state)
+    options.alarms && is_any_bad(options, state)
 }

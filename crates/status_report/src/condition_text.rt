@@ -5,7 +5,7 @@ ghost use Rattle.status_report.specs.ConditionTexts.{code_text, condition_text, 
 
 use crate::add::{add, add_number};
 use crate::lines::add_painted;
-use crate::look::Look;
+use crate::options::StatusOptions;
 use exec_state::State;
 use growth::Grows;
 use ocf_codes::code_of;
@@ -59,12 +59,12 @@ fn add_code(text: &mut Vec<u8>, outcome: Outcome) -> Result<(), AllocError>
 }
 
 /// Adds what a failure means, its code, and how long ago it was.
-pub fn add_failed(text: &mut Vec<u8>, look: &Look, ended: &Ended) -> Result<(), AllocError>
-    ensures text { OnOk result (text.new.items ≡ text.old.items ++ failed_text look.now ended.now) }
+pub fn add_failed(text: &mut Vec<u8>, options: &StatusOptions, ended: &Ended) -> Result<(), AllocError>
+    ensures text { OnOk result (text.new.items ≡ text.old.items ++ failed_text options.now ended.now) }
     ensures memory { OnErr result (IsTrue ⟦<Global as Grows>⟧.refuses) }
 {
     let meant = failure_meaning(ended.action, ended.outcome);
-    add_painted(text, look.colours, Tone::Bad, meant)?;
+    add_painted(text, options.colours, Tone::Bad, meant)?;
     add_code(text, ended.outcome)?;
-    add_ago(text, look.moment.get(), ended.at.get())
+    add_ago(text, options.moment.get(), ended.at.get())
 }

@@ -5,7 +5,7 @@ ghost use Rattle.ocf_types.specs.Places.{entry_at};
 ghost use Rattle.exec_faults.specs.Faults.{HasCause};
 ghost use Rattle.status_report.specs.Failed.{AreFailed, failed_id, failed_ids};
 
-use crate::look::Look;
+use crate::options::StatusOptions;
 use disk_model::Disk;
 use exec_faults::{Fault, opening_fault};
 use exec_journal::Journal;
@@ -17,17 +17,17 @@ use std::alloc::{AllocError, Global};
 // Adds the id of a resource if it is asked for and has a failed action.
 fn add_failed_id(
     ids: &mut Vec<RscId>,
-    look: &Look,
+    options: &StatusOptions,
     state: &State,
     place: usize,
 ) -> Result<(), AllocError>
     requires { place < length state.now.state.resources }
     ensures ids { OnOk result (ids.new.items
-        ≡ ids.old.items ++ failed_id look.now (entry_at state.now.state place)) }
+        ≡ ids.old.items ++ failed_id options.now (entry_at state.now.state place)) }
     ensures memory { OnErr result (IsTrue ⟦<Global as Grows>⟧.refuses) }
 {
     let id = state.id_at(place);
-    if look.asks_for(id) && state.failed_at(place).is_some() {
+    if options.asks_for(id) && state.failed_at(place).is_some() {
         push(ids, id.copied())
     } else {
         Ok(())
@@ -36,13 +36,13 @@ fn add_failed_id(
 
 // The ids of these resources, in order of registration.
 #[tactic(auto, using(crate::proofs::FailedLemmas::id_more))]
-fn failed_ids(alloc: Global, look: &Look, state: &State) -> Result<Vec<RscId>, AllocError>
-    ensures ids { IfOk result (λ ids. ids.items ≡ failed_ids look.now state.now.state) }
+fn failed_ids(alloc: Global, options: &StatusOptions, state: &State) -> Result<Vec<RscId>, AllocError>
+    ensures ids { IfOk result (λ ids. ids.items ≡ failed_ids options.now state.now.state) }
     ensures memory { OnErr result (IsTrue ⟦<Global as Grows>⟧.refuses) }
 {
     let mut ids = Vec::new(alloc);
     for place in 0..state.len() {
-        add_failed_id(&mut ids, look, state, place)?;
+        add_failed_id(&mut ids, options, state, place)?;
     }
     Ok(ids)
 }
@@ -50,14 +50,14 @@ fn failed_ids(alloc: Global, look: &Look, state: &State) -> Result<Vec<RscId>, A
 /// Opens a journal without a boot, and returns its disk and the ids of the resources that are asked for and have a failed action, in order
 /// of registration.
 #[tactic(auto, using(exec_faults::proofs::FaultLemmas::opening_cause))]
-pub fn failed<D: Disk + Drop>(alloc: Global, disk: D, look: &Look) -> (D, Result<Vec<RscId>, Fault>)
+pub fn failed<D: Disk + Drop>(alloc: Global, disk: D, options: &StatusOptions) -> (D, Result<Vec<RscId>, Fault>)
     ensures ids { (D.view result.0).honest
-        → IfOk result.1 (λ ids. AreFailed (D.view disk).reads look.now ids.items) }
+        → IfOk result.1 (λ ids. AreFailed (D.view disk).reads options.now ids.items) }
     ensures opens { Opens (D.view disk) (D.view result.0) }
     ensures memory { IfErr result.1 (HasCause ⟦<Global as Grows>⟧.refuses) }
 {
     match Journal::open(alloc, disk) {
-        Ok((journal, state)) => match failed_ids(alloc, look, &state) {
+        Ok((journal, state)) => match failed_ids(alloc, options, &state) {
             Ok(ids) => (journal.into_disk(), Ok(ids)),
             Err(_) => (journal.into_disk(), Err(Fault::ReplyMemory)),
         },

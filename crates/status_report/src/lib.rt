@@ -7,7 +7,7 @@ mod alone;
 mod condition_text;
 mod failures;
 mod lines;
-mod look;
+mod options;
 mod shown;
 mod state_lines;
 mod statuses;
@@ -15,7 +15,7 @@ mod table;
 mod written_lines;
 
 pub use failures::failed;
-pub use look::{Look, Reason};
+pub use options::{StatusOptions, Reason};
 pub use shown::show;
 pub use statuses::status;
 pub use written_lines::status_json;

@@ -10,7 +10,7 @@ ghost use Rattle.status_report.specs.Written.{known_reason_line, past_line, reas
 
 use crate::add::{add, add_number};
 use crate::condition_text::add_failed;
-use crate::look::Look;
+use crate::options::StatusOptions;
 use exec_state::State;
 use growth::{Grows, append, vec_of};
 use ocf_types::{Action, Ended, Recur, StateView};
@@ -72,14 +72,14 @@ pub fn add_painted(
 }
 
 // Adds what a result means, in its colour, and how long ago it was.
-fn add_result(text: &mut Vec<u8>, look: &Look, ended: &Ended) -> Result<(), AllocError>
-    ensures text { OnOk result (text.new.items ≡ text.old.items ++ result_text look.now ended.now) }
+fn add_result(text: &mut Vec<u8>, options: &StatusOptions, ended: &Ended) -> Result<(), AllocError>
+    ensures text { OnOk result (text.new.items ≡ text.old.items ++ result_text options.now ended.now) }
     ensures memory { OnErr result (IsTrue ⟦<Global as Grows>⟧.refuses) }
 {
     let meant = meaning(ended.action, ended.outcome);
-    add_painted(text, look.colours, tone_of(ended.outcome), meant)?;
+    add_painted(text, options.colours, tone_of(ended.outcome), meant)?;
     add(text, ", ")?;
-    add_ago(text, look.moment.get(), ended.at.get())
+    add_ago(text, options.moment.get(), ended.at.get())
 }
 
 // Whether a result is one of this action, asked for once.
@@ -107,21 +107,21 @@ fn last_asked(state: &State, place: usize, action: Action) -> Option<Ended>
 // Adds the line of an action, if it has a result.
 fn add_action(
     text: &mut Vec<u8>,
-    look: &Look,
+    options: &StatusOptions,
     state: &State,
     place: usize,
     action: Action,
 ) -> Result<(), AllocError>
     requires { place < length state.now.state.resources }
     ensures text { OnOk result (text.new.items
-        ≡ text.old.items ++ action_line look.now
+        ≡ text.old.items ++ action_line options.now
         (at_place state.now.state place).history.ended action) }
     ensures memory { OnErr result (IsTrue ⟦<Global as Grows>⟧.refuses) }
 {
     match last_asked(state, place, action) {
         Some(ended) => {
             begin(text, action.word().as_bytes())?;
-            add_result(text, look, &ended)
+            add_result(text, options, &ended)
         }
         None => Ok(()),
     }
@@ -130,41 +130,41 @@ fn add_action(
 // Adds the last result of each action that was asked for once.
 fn add_actions(
     text: &mut Vec<u8>,
-    look: &Look,
+    options: &StatusOptions,
     state: &State,
     place: usize,
 ) -> Result<(), AllocError>
     requires { place < length state.now.state.resources }
     ensures text { OnOk result (text.new.items
         ≡ text.old.items ++ flat_map
-        (action_line look.now (at_place state.now.state place).history.ended) written_actions) }
+        (action_line options.now (at_place state.now.state place).history.ended) written_actions) }
     ensures memory { OnErr result (IsTrue ⟦<Global as Grows>⟧.refuses) }
 {
-    add_action(text, look, state, place, Action::Monitor)?;
-    add_action(text, look, state, place, Action::Start)?;
-    add_action(text, look, state, place, Action::Promote)?;
-    add_action(text, look, state, place, Action::Demote)?;
-    add_action(text, look, state, place, Action::Stop)?;
-    add_action(text, look, state, place, Action::ReloadAgent)?;
-    add_action(text, look, state, place, Action::ValidateAll)
+    add_action(text, options, state, place, Action::Monitor)?;
+    add_action(text, options, state, place, Action::Start)?;
+    add_action(text, options, state, place, Action::Promote)?;
+    add_action(text, options, state, place, Action::Demote)?;
+    add_action(text, options, state, place, Action::Stop)?;
+    add_action(text, options, state, place, Action::ReloadAgent)?;
+    add_action(text, options, state, place, Action::ValidateAll)
 }
 
 // Adds the last result of a recurring monitor, and when it is due again.
 fn add_last(
     text: &mut Vec<u8>,
-    look: &Look,
+    options: &StatusOptions,
     recur: &Recur,
     last: Option<Ended>,
 ) -> Result<(), AllocError>
     ensures text { OnOk result (text.new.items
-        ≡ text.old.items ++ monitor_text look.now recur.now last) }
+        ≡ text.old.items ++ monitor_text options.now recur.now last) }
     ensures memory { OnErr result (IsTrue ⟦<Global as Grows>⟧.refuses) }
 {
     match last {
         Some(ended) => {
-            add_result(text, look, &ended)?;
+            add_result(text, options, &ended)?;
             add(text, "; ")?;
-            add_due(text, look.moment, ended.at, recur.interval)
+            add_due(text, options.moment, ended.at, recur.interval)
         }
         None => add(text, "no result yet"),
     }
@@ -174,40 +174,40 @@ fn add_last(
 fn add_monitor(
     alloc: Global,
     text: &mut Vec<u8>,
-    look: &Look,
+    options: &StatusOptions,
     state: &State,
     place: usize,
     recur: &Recur,
 ) -> Result<(), AllocError>
     requires { place < length state.now.state.resources }
     ensures text { OnOk result (text.new.items
-        ≡ text.old.items ++ monitor_line look.now
+        ≡ text.old.items ++ monitor_line options.now
         (at_place state.now.state place).history.ended recur.now) }
     ensures memory { OnErr result (IsTrue ⟦<Global as Grows>⟧.refuses) }
 {
     let mut name = vec_of(alloc, b"every ")?;
     add_exactly(&mut name, u64::from(recur.interval.get()))?;
     begin(text, name.as_slice())?;
-    add_last(text, look, recur, last_run(state, place, recur.call))
+    add_last(text, options, recur, last_run(state, place, recur.call))
 }
 
 fn add_monitors(
     alloc: Global,
     text: &mut Vec<u8>,
-    look: &Look,
+    options: &StatusOptions,
     state: &State,
     place: usize,
 ) -> Result<(), AllocError>
     requires { place < length state.now.state.resources }
     ensures text { OnOk result (text.new.items
         ≡ text.old.items ++ flat_map
-        (monitor_line look.now (at_place state.now.state place).history.ended)
+        (monitor_line options.now (at_place state.now.state place).history.ended)
         (at_place state.now.state place).recurring) }
     ensures memory { OnErr result (IsTrue ⟦<Global as Grows>⟧.refuses) }
 {
     for at in 0..state.recurring_len(place) {
         let recur = state.recurring_at(place, at);
-        add_monitor(alloc, text, look, state, place, &recur)?;
+        add_monitor(alloc, text, options, state, place, &recur)?;
     }
     Ok(())
 }
@@ -237,12 +237,12 @@ fn add_reason(text: &mut Vec<u8>, reason: Option<&str>) -> Result<(), AllocError
 // Adds the last failure and its reason, if an action has failed.
 fn add_failure(
     text: &mut Vec<u8>,
-    look: &Look,
+    options: &StatusOptions,
     reason: Option<&str>,
     failed: &Option<Ended>,
 ) -> Result<(), AllocError>
     ensures text { OnOk result (text.new.items
-        ≡ text.old.items ++ failure_line look.now
+        ≡ text.old.items ++ failure_line options.now
         (option_map (λ t. t.now) reason.entry) failed.now) }
     ensures memory { OnErr result (IsTrue ⟦<Global as Grows>⟧.refuses) }
 {
@@ -252,13 +252,13 @@ fn add_failure(
     begin(text, b"last failure")?;
     add(text, ended.action.word())?;
     add(text, ": ")?;
-    add_failed(text, look, ended)?;
+    add_failed(text, options, ended)?;
     add_reason(text, reason)
 }
 
 // Adds a line of the history.
-fn add_past(text: &mut Vec<u8>, look: &Look, ended: &Ended) -> Result<(), AllocError>
-    ensures text { OnOk result (text.new.items ≡ text.old.items ++ past_line look.now ended.now) }
+fn add_past(text: &mut Vec<u8>, options: &StatusOptions, ended: &Ended) -> Result<(), AllocError>
+    ensures text { OnOk result (text.new.items ≡ text.old.items ++ past_line options.now ended.now) }
     ensures memory { OnErr result (IsTrue ⟦<Global as Grows>⟧.refuses) }
 {
     add(text, "\n  call ")?;
@@ -268,24 +268,24 @@ fn add_past(text: &mut Vec<u8>, look: &Look, ended: &Ended) -> Result<(), AllocE
     add(text, " of ")?;
     add_span(text, ended.at.get().saturating_sub(ended.since.get()))?;
     add(text, ": ")?;
-    add_result(text, look, ended)
+    add_result(text, options, ended)
 }
 
 // Adds all results, oldest first.
 fn add_results(
     text: &mut Vec<u8>,
-    look: &Look,
+    options: &StatusOptions,
     state: &State,
     place: usize,
 ) -> Result<(), AllocError>
     requires { place < length state.now.state.resources }
     ensures text { OnOk result (text.new.items
-        ≡ text.old.items ++ flat_map (past_line look.now)
+        ≡ text.old.items ++ flat_map (past_line options.now)
         (at_place state.now.state place).history.ended) }
     ensures memory { OnErr result (IsTrue ⟦<Global as Grows>⟧.refuses) }
 {
     for at in 0..state.ended_len(place) {
-        add_past(text, look, &state.ended_at(place, at))?;
+        add_past(text, options, &state.ended_at(place, at))?;
     }
     Ok(())
 }
@@ -293,19 +293,19 @@ fn add_results(
 // Adds the history, if a single resource is asked for.
 fn add_history(
     text: &mut Vec<u8>,
-    look: &Look,
+    options: &StatusOptions,
     state: &State,
     place: usize,
 ) -> Result<(), AllocError>
     requires { place < length state.now.state.resources }
     ensures text { OnOk result (text.new.items
-        ≡ text.old.items ++ history_text look.now (at_place state.now.state place).history.ended) }
+        ≡ text.old.items ++ history_text options.now (at_place state.now.state place).history.ended) }
     ensures memory { OnErr result (IsTrue ⟦<Global as Grows>⟧.refuses) }
 {
-    match look.only {
+    match options.only {
         Some(_) => {
             add(text, "\n  history, oldest first:")?;
-            add_results(text, look, state, place)
+            add_results(text, options, state, place)
         }
         None => Ok(()),
     }
@@ -315,19 +315,19 @@ fn add_history(
 pub fn add_lines(
     alloc: Global,
     text: &mut Vec<u8>,
-    look: &Look,
+    options: &StatusOptions,
     state: &State,
     place: usize,
 ) -> Result<(), AllocError>
     requires { place < length state.now.state.resources }
     ensures text { OnOk result (text.new.items
-        ≡ text.old.items ++ lines_text look.now
-        (reason_of look.now (id_at state.now.state place)) (at_place state.now.state place)) }
+        ≡ text.old.items ++ lines_text options.now
+        (reason_of options.now (id_at state.now.state place)) (at_place state.now.state place)) }
     ensures memory { OnErr result (IsTrue ⟦<Global as Grows>⟧.refuses) }
 {
-    add_actions(text, look, state, place)?;
-    add_monitors(alloc, text, look, state, place)?;
-    let reason = look.reason_of(state.id_at(place));
-    add_failure(text, look, reason, &state.failed_at(place))?;
-    add_history(text, look, state, place)
+    add_actions(text, options, state, place)?;
+    add_monitors(alloc, text, options, state, place)?;
+    let reason = options.reason_of(state.id_at(place));
+    add_failure(text, options, reason, &state.failed_at(place))?;
+    add_history(text, options, state, place)
 }

@@ -6,7 +6,7 @@ ghost use Rattle.exec_faults.specs.Faults.{HasCause, IsRunEnd};
 ghost use Rattle.status_report.specs.Tables.{IsTableWritten, IsWrittenAs, IsWritten, NotWritten, WritesAs};
 
 use crate::alarm::is_alarm;
-use crate::look::Look;
+use crate::options::StatusOptions;
 use crate::table::table_of;
 use disk_model::Disk;
 use exec_faults::{Fault, opening_fault};
@@ -45,27 +45,27 @@ fn write_made<W: Write>(
 fn write_table<W: Write>(
     alloc: Global,
     writer: &mut W,
-    look: &Look,
+    options: &StatusOptions,
     state: &State,
 ) -> Result<(), Fault>
-    ensures written { IsTableWritten look.now state.now.state (W.contents writer.old)
+    ensures written { IsTableWritten options.now state.now.state (W.contents writer.old)
         (W.contents writer.new) result }
     ensures memory { IfErr result (HasCause ⟦<Global as Grows>⟧.refuses) }
 {
-    write_made(writer, table_of(alloc, look, state))
+    write_made(writer, table_of(alloc, options, state))
 }
 
 // Writes the table of a state, and then fails if a resource needs attention and this is to be a fault.
 #[tactic(auto, using(crate::proofs::AlarmLemmas::untold))]
-fn report<W: Write>(alloc: Global, writer: &mut W, look: &Look, state: &State) -> Result<(), Fault>
-    ensures written { IsWrittenAs look.now state.now.state (W.contents writer.old)
+fn report<W: Write>(alloc: Global, writer: &mut W, options: &StatusOptions, state: &State) -> Result<(), Fault>
+    ensures written { IsWrittenAs options.now state.now.state (W.contents writer.old)
         (W.contents writer.new) result }
     ensures memory { IfErr result (HasCause ⟦<Global as Grows>⟧.refuses) }
 {
-    if let Err(fault) = write_table(alloc, writer, look, state) {
+    if let Err(fault) = write_table(alloc, writer, options, state) {
         return Err(fault);
     }
-    if is_alarm(look, state) {
+    if is_alarm(options, state) {
         Err(Fault::NotWell)
     } else {
         Ok(())
@@ -80,10 +80,10 @@ pub fn status<D: Disk + Drop, W: Write>(
     alloc: Global,
     disk: D,
     writer: &mut W,
-    look: &Look,
+    options: &StatusOptions,
 ) -> (D, Result<(), Fault>)
     ensures written { (D.view result.0).honest
-        → WritesAs (D.view disk).reads look.now (W.contents writer.old)
+        → WritesAs (D.view disk).reads options.now (W.contents writer.old)
         (W.contents writer.new) result.1 }
     ensures opens { Opens (D.view disk) (D.view result.0) }
     ensures cause { IsErrOf result.1 Fault.Disk
@@ -93,7 +93,7 @@ pub fn status<D: Disk + Drop, W: Write>(
 {
     match Journal::open(alloc, disk) {
         Ok((journal, state)) => {
-            let ended = report(alloc, writer, look, &state);
+            let ended = report(alloc, writer, options, &state);
             (journal.into_disk(), ended)
         }
         Err((fault, disk)) => (disk, Err(opening_fault(fault))),

@@ -8,7 +8,7 @@ ghost use Rattle.status_report.specs.Written.{now_text, queued_text, running_tex
 use crate::add::{add, add_number};
 use crate::condition_text::condition_text;
 use crate::lines::{add_lines, pad};
-use crate::look::Look;
+use crate::options::StatusOptions;
 use exec_state::State;
 use growth::{Grows, append, vec_of};
 use ocf_types::{Running, StateView};
@@ -48,29 +48,29 @@ fn agent_of(alloc: Global, state: &State, place: usize) -> Result<Vec<u8>, Alloc
 // The width of the text of a resource's condition, in columns.
 fn condition_width(
     alloc: Global,
-    look: &Look,
+    options: &StatusOptions,
     state: &State,
     place: usize,
 ) -> Result<usize, AllocError>
     requires { place < length state.now.state.resources }
     ensures memory { OnErr result (IsTrue ⟦<Global as Grows>⟧.refuses) }
 {
-    let text = condition_text(alloc, look.moment, false, state, place)?;
+    let text = condition_text(alloc, options.moment, false, state, place)?;
     Ok(width(text.as_slice()))
 }
 
 // Columns wide enough for the resources that are asked for.
-fn columns_of(alloc: Global, look: &Look, state: &State) -> Result<Columns, AllocError>
+fn columns_of(alloc: Global, options: &StatusOptions, state: &State) -> Result<Columns, AllocError>
     ensures memory { OnErr result (IsTrue ⟦<Global as Grows>⟧.refuses) }
 {
     let mut ids = "RESOURCE".len();
     let mut agents = "AGENT".len();
     let mut conditions = "STATE".len();
     for place in 0..state.len() {
-        if look.asks_for(state.id_at(place)) {
+        if options.asks_for(state.id_at(place)) {
             ids = ids.max(width(state.id_at(place).as_bytes()));
             agents = agents.max(width(agent_of(alloc, state, place)?.as_slice()));
-            conditions = conditions.max(condition_width(alloc, look, state, place)?);
+            conditions = conditions.max(condition_width(alloc, options, state, place)?);
         }
     }
     Ok(Columns {
@@ -90,15 +90,15 @@ fn add_gap(text: &mut Vec<u8>, taken: usize, column: usize) -> Result<(), AllocE
 }
 
 // Adds what runs, and since when.
-fn add_running(text: &mut Vec<u8>, look: &Look, running: Option<Running>) -> Result<(), AllocError>
+fn add_running(text: &mut Vec<u8>, options: &StatusOptions, running: Option<Running>) -> Result<(), AllocError>
     ensures text { OnOk result (text.new.items
-        ≡ text.old.items ++ running_text look.now.moment running) }
+        ≡ text.old.items ++ running_text options.now.moment running) }
     ensures memory { OnErr result (IsTrue ⟦<Global as Grows>⟧.refuses) }
 {
     match running {
         Some(running) => {
             add(text, running.task.action().word())?;
-            add_since(text, look.moment.get(), running.since.get())
+            add_since(text, options.moment.get(), running.since.get())
         }
         None => add(text, "idle"),
     }
@@ -121,63 +121,63 @@ fn add_queued(text: &mut Vec<u8>, queued: usize) -> Result<(), AllocError>
 fn add_written(
     alloc: Global,
     text: &mut Vec<u8>,
-    look: &Look,
+    options: &StatusOptions,
     state: &State,
     place: usize,
 ) -> Result<(), AllocError>
     requires { place < length state.now.state.resources }
     ensures text { OnOk result (text.new.items
-        ≡ text.old.items ++ written look.now
-        (reason_of look.now (id_at state.now.state place)) (at_place state.now.state place)) }
+        ≡ text.old.items ++ written options.now
+        (reason_of options.now (id_at state.now.state place)) (at_place state.now.state place)) }
     ensures memory { OnErr result (IsTrue ⟦<Global as Grows>⟧.refuses) }
 {
-    add_running(text, look, state.running_at(place))?;
+    add_running(text, options, state.running_at(place))?;
     add_queued(text, state.queue_len(place))?;
-    add_lines(alloc, text, look, state, place)?;
+    add_lines(alloc, text, options, state, place)?;
     add(text, "\n")
 }
 
 // A row, with the lines below it.
 fn row_of(
     alloc: Global,
-    look: &Look,
+    options: &StatusOptions,
     state: &State,
     place: usize,
     columns: Columns,
 ) -> Result<Vec<u8>, AllocError>
     requires { place < length state.now.state.resources }
-    ensures row { IfOk result (λ row. IsRow look.now (entry_at state.now.state place) row.items) }
+    ensures row { IfOk result (λ row. IsRow options.now (entry_at state.now.state place) row.items) }
     ensures memory { OnErr result (IsTrue ⟦<Global as Grows>⟧.refuses) }
 {
     let id = state.id_at(place).as_bytes();
     let agent = agent_of(alloc, state, place)?;
-    let condition = condition_text(alloc, look.moment, look.colours, state, place)?;
-    let taken = condition_width(alloc, look, state, place)?;
+    let condition = condition_text(alloc, options.moment, options.colours, state, place)?;
+    let taken = condition_width(alloc, options, state, place)?;
     let mut row = vec_of(alloc, id)?;
     add_gap(&mut row, width(id), columns.id)?;
     append(&mut row, agent.as_slice())?;
     add_gap(&mut row, width(agent.as_slice()), columns.agent)?;
     append(&mut row, condition.as_slice())?;
     add_gap(&mut row, taken, columns.condition)?;
-    add_written(alloc, &mut row, look, state, place)?;
+    add_written(alloc, &mut row, options, state, place)?;
     Ok(row)
 }
 
 // The rows of the resources that are asked for.
 fn rows_of(
     alloc: Global,
-    look: &Look,
+    options: &StatusOptions,
     state: &State,
     columns: Columns,
 ) -> Result<Vec<u8>, AllocError>
     ensures rows { IfOk result
-        (λ rows. AreRows look.now (asked_entries look.now state.now.state.resources) rows.items) }
+        (λ rows. AreRows options.now (asked_entries options.now state.now.state.resources) rows.items) }
     ensures memory { OnErr result (IsTrue ⟦<Global as Grows>⟧.refuses) }
 {
     let mut rows = Vec::new(alloc);
     for place in 0..state.len() {
-        if look.asks_for(state.id_at(place)) {
-            let row = row_of(alloc, look, state, place, columns)?;
+        if options.asks_for(state.id_at(place)) {
+            let row = row_of(alloc, options, state, place, columns)?;
             append(&mut rows, row.as_slice())?;
         }
     }
@@ -201,16 +201,16 @@ fn head_of(alloc: Global, columns: Columns) -> Result<Vec<u8>, AllocError>
 
 /// The state as a table: a line of headings, and a row of each resource that is asked for, in order of registration. `None` if a single
 /// resource is asked for that is not registered.
-pub fn table_of(alloc: Global, look: &Look, state: &State) -> Result<Option<Vec<u8>>, AllocError>
+pub fn table_of(alloc: Global, options: &StatusOptions, state: &State) -> Result<Option<Vec<u8>>, AllocError>
     ensures table { IfOk result
-        (λ found. IfSome found (λ text. IsTable look.now state.now.state text.items)) }
+        (λ found. IfSome found (λ text. IsTable options.now state.now.state text.items)) }
     ensures none { IfOk result
-        (λ found. IfNone found (asked_entries look.now state.now.state.resources ≡ [])) }
+        (λ found. IfNone found (asked_entries options.now state.now.state.resources ≡ [])) }
     ensures memory { OnErr result (IsTrue ⟦<Global as Grows>⟧.refuses) }
 {
-    let columns = columns_of(alloc, look, state)?;
-    let rows = rows_of(alloc, look, state, columns)?;
-    if rows.as_slice().is_empty() && look.only.is_some() {
+    let columns = columns_of(alloc, options, state)?;
+    let rows = rows_of(alloc, options, state, columns)?;
+    if rows.as_slice().is_empty() && options.only.is_some() {
         return Ok(None);
     }
     let mut text = head_of(alloc, columns)?;

@@ -7,7 +7,7 @@ ghost use Rattle.status_report.specs.StatusLines.{IsPrefixWritten, AreLinesWritt
 
 use crate::alarm::is_alarm;
 use crate::alone::write_one;
-use crate::look::Look;
+use crate::options::StatusOptions;
 use crate::shown::write_state;
 use crate::state_lines::status_lines;
 use disk_model::Disk;
@@ -69,23 +69,23 @@ fn write_prefix<W: Write>(
 fn report_lines<W: Write>(
     alloc: Global,
     writer: &mut W,
-    look: &Look,
+    options: &StatusOptions,
     state: &State,
 ) -> Result<(), Fault>
-    ensures written { AreLinesWritten look.now state.now.state (W.contents writer.old)
+    ensures written { AreLinesWritten options.now state.now.state (W.contents writer.old)
         (W.contents writer.new) result }
     ensures memory { IfErr result (HasCause ⟦<Global as Grows>⟧.refuses) }
 {
-    let Ok(lines) = status_lines(alloc, look, state) else {
+    let Ok(lines) = status_lines(alloc, options, state) else {
         return Err(Fault::ReplyMemory);
     };
-    if let Err(fault) = write_prefix(alloc, writer, state, look.only) {
+    if let Err(fault) = write_prefix(alloc, writer, state, options.only) {
         return Err(fault);
     }
     if let Err(_) = write_flushed(writer, lines.as_slice()) {
         return Err(Fault::InputOrOutput);
     }
-    if is_alarm(look, state) {
+    if is_alarm(options, state) {
         Err(Fault::NotWell)
     } else {
         Ok(())
@@ -100,10 +100,10 @@ pub fn status_json<D: Disk + Drop, W: Write>(
     alloc: Global,
     disk: D,
     writer: &mut W,
-    look: &Look,
+    options: &StatusOptions,
 ) -> (D, Result<(), Fault>)
     ensures written { (D.view result.0).honest
-        → WritesLinesAs (D.view disk).reads look.now (W.contents writer.old)
+        → WritesLinesAs (D.view disk).reads options.now (W.contents writer.old)
         (W.contents writer.new) result.1 }
     ensures opens { Opens (D.view disk) (D.view result.0) }
     ensures cause { IsErrOf result.1 Fault.Disk
@@ -113,7 +113,7 @@ pub fn status_json<D: Disk + Drop, W: Write>(
 {
     match Journal::open(alloc, disk) {
         Ok((journal, state)) => {
-            let ended = report_lines(alloc, writer, look, &state);
+            let ended = report_lines(alloc, writer, options, &state);
             (journal.into_disk(), ended)
         }
         Err((fault, disk)) => (disk, Err(opening_fault(fault))),

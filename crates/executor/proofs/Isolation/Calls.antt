@@ -38,7 +38,7 @@ use Rattle.executor.proofs.Isolation.Went.{Went, call_went, closed_plain, first_
 use Rattle.executor.proofs.Lives.Calls.{calls_closed}
 use Rattle.executor.proofs.Sessions.Calls.{session_is_calls}
 
-module _ {D : Type 0} (look : D → View) (mine : ℕ → Bool) (id : List ℕ) where
+module _ {D : Type 0} (view : D → View) (mine : ℕ → Bool) (id : List ℕ) where
   own_entries : List Entry → List Entry
   own_entries es = filter (λ e. mine e.run) es
 
@@ -63,14 +63,14 @@ module _ {D : Type 0} (look : D → View) (mine : ℕ → Bool) (id : List ℕ) 
   -- the machine takes its part of a request, and of any call
   request_alone : (open_now b : Bool) (y : Isolated) (now : ℕ) (old new : ExecutorView D) (r : Reply) (d : Effects) (request : Request)
       → is_about id request ≡ b → old.state.clock ≤ cut now → (b ≡ true → IsPlain r) → IsolatedAs y old.state (due_in old) id
-      → TakesWhile open_now look (input.Request now request) old new r d
+      → TakesWhile open_now view (input.Request now request) old new r d
       → IsStep b id y (Took (input.Request now request) r) (own_entries d.entries) (events_of id d.events)
   unfolding own_entries
   request_alone false true y now old new r d request about clock plain holds takes =
       absurd (closed_plain (input.Request now request) r takes.0 (plain refl))
   request_alone false false y now old new r d request about clock plain holds takes = (no_entries d takes.2, no_events d takes.2)
   request_alone true b y now old new r d (asked.Command c) about clock plain holds takes =
-      let did = commands look now c old new r d clock takes in
+      let did = commands view now c old new r d clock takes in
       subst (λ (l : List Entry). IsStep b id y (Took (input.Request now (asked.Command c)) r) l (events_of id d.events))
       (sym (ap own_entries did.no_entries)) (own_command b id y now c (seen old) (seen new) r d about clock plain holds did)
   request_alone true true y now old new r d (asked.Question q) about clock plain holds takes =
@@ -84,20 +84,20 @@ module _ {D : Type 0} (look : D → View) (mine : ℕ → Bool) (id : List ℕ) 
 
   turn_alone : (open_now : Bool) (y : Isolated) (now : ℕ) (old new : ExecutorView D) (r : Reply) (d : Effects) → old.state.clock ≤ cut now
       → IsPlain r → IsolatedAs y old.state (due_in old) id → AreApart old.state → AreOwn mine id (active old.state) → AllBeginOwn mine id d.events
-      → TakesWhile open_now look (input.Turn now) old new r d
+      → TakesWhile open_now view (input.Turn now) old new r d
       → IsStep true id y (Took (input.Turn now) r) (own_entries d.entries) (events_of id d.events)
   unfolding own_entries
   turn_alone true y now old new r d clock plain holds apart own begins takes =
-      turn_isolated now old new r d (turn_done look now old new r d clock plain takes) mine id y holds apart own begins
+      turn_isolated now old new r d (turn_done view now old new r d clock plain takes) mine id y holds apart own begins
   turn_alone false y now old new r d clock plain holds apart own begins takes = absurd (closed_plain (input.Turn now) r takes.0 plain)
 
   finish_alone : (open_now : Bool) (y : Isolated) (now : ℕ) (end : TurnEnd) (old new : ExecutorView D) (d : Effects) → old.state.clock ≤ cut now
       → end ≡ turn_end.Done → IsolatedAs y old.state (due_in old) id → AreApart old.state → AreOwn mine id (active old.state)
-      → FinishedWhile open_now look now old new end d
+      → FinishedWhile open_now view now old new end d
       → IsStep true id y (Finished now end) (own_entries d.entries) (events_of id d.events)
   unfolding own_entries
   finish_alone true y now end old new d clock done holds apart own (takes, did) =
-      let finish = finish_done look now old new end takes clock done in (
+      let finish = finish_done view now old new end takes clock done in (
         done,
         subst (λ (x : Effects). IsolatedPoll id (cut now) (running_in y) (own_entries x.entries) (events_of id x.events)) (sym did)
             (finish_isolated now old new takes.turns.effects finish mine id y holds apart own),
@@ -107,7 +107,7 @@ module _ {D : Type 0} (look : D → View) (mine : ℕ → Bool) (id : List ℕ) 
 
   call_alone : (at : ℕ) (y : Isolated) (e : Exchange) (old new : ExecutorView D) (d : Effects) → old.state.clock ≤ moment_in at e
       → AllByRecursion IsAnswered (part_of id e) → IsolatedAs y old.state (due_in old) id → AreApart old.state
-      → AreOwn mine id (active old.state) → AllBeginOwn mine id d.events → Called look e old new d
+      → AreOwn mine id (active old.state) → AllBeginOwn mine id d.events → Called view e old new d
       → Alone id y (part_of id e) (own_entries d.entries) (events_of id d.events)
   unfolding own_entries
   call_alone at y (Took (input.Request now request) r) old new d clock plain holds apart own begins does =
@@ -144,10 +144,10 @@ module _ {D : Type 0} (look : D → View) (mine : ℕ → Bool) (id : List ℕ) 
 
   -- the events of calls are new
   calls_fresh : (at : ℕ) (es : List Exchange) (x z : ExecutorView D) (d : Effects) → x.state.clock ≤ at → AreRising at es
-      → AllByRecursion IsAnswered (part id es) → Calls look x es z d → AreFresh x.state d.events
+      → AllByRecursion IsAnswered (part id es) → Calls view x es z d → AreFresh x.state d.events
   calls_fresh at [] x z d clock rises plain calls = subst (λ (k : Effects). AreFresh x.state k.events) (sym calls.1) tt
   calls_fresh at (e ∷ es) x z d clock rises plain (mid, first, later, does, rest, all) =
-      let went = call_went look mine id at e x mid first (le_trans clock rises.0) (each_first IsAnswered (part_of id e) (part id es) plain) does in
+      let went = call_went view mine id at e x mid first (le_trans clock rises.0) (each_first IsAnswered (part_of id e) (part id es) plain) does in
       subst (λ (k : Effects). AreFresh x.state k.events) (sym all)
       (by mid.is_open refl went (first_fresh x.state first.events went.more went.does.next)
       (calls_fresh (moment_in at e) es mid z later went.does.clock rises.1 (each_last IsAnswered (part_of id e) (part id es) plain) rest))
@@ -160,18 +160,18 @@ module _ {D : Type 0} (look : D → View) (mine : ℕ → Bool) (id : List ℕ) 
           ∙ ap (after_all x.state) (append-nil first.events) in
           fresh-append x.state first.events later.events new_first (subst (λ (s : State). AreFresh s later.events) state new_later)
       by false is went new_first new_later =
-          subst (λ (k : Effects). AreFresh x.state (first.events ++ k.events)) (sym (calls_closed look mid z es later is rest).nothing)
+          subst (λ (k : Effects). AreFresh x.state (first.events ++ k.events)) (sym (calls_closed view mid z es later is rest).nothing)
           (subst (AreFresh x.state) (sym (append-nil first.events)) new_first)
 
   -- the machine after calls
   calls_hold : (at : ℕ) (es : List Exchange) (y : Isolated) (x z : ExecutorView D) (d : Effects) → x.state.clock ≤ at → AreRising at es
-      → AllByRecursion IsAnswered (part id es) → IsolatedAs y x.state (due_in x) id → Calls look x es z d
+      → AllByRecursion IsAnswered (part id es) → IsolatedAs y x.state (due_in x) id → Calls view x es z d
       → IsolatedAs (isolated_after_all y (events_of id d.events)) z.state (due_in z) id
   calls_hold at [] y x z d clock rises plain holds calls =
       subst (λ (k : Effects). IsolatedAs (isolated_after_all y (events_of id k.events)) z.state (due_in z) id) (sym calls.1)
       (subst (λ (w : ExecutorView D). IsolatedAs y w.state (due_in w) id) (sym calls.0) holds)
   calls_hold at (e ∷ es) y x z d clock rises plain holds (mid, first, later, does, rest, all) =
-      let went = call_went look mine id at e x mid first (le_trans clock rises.0) (each_first IsAnswered (part_of id e) (part id es) plain) does in
+      let went = call_went view mine id at e x mid first (le_trans clock rises.0) (each_first IsAnswered (part_of id e) (part id es) plain) does in
       let y2 = isolated_after_all y (events_of id first.events) in
       let there = calls_hold (moment_in at e) es y2 mid z later went.does.clock rises.1
       (each_last IsAnswered (part_of id e) (part id es) plain) (holds_after (moment_in at e) y x mid first.events went holds) rest in
@@ -183,13 +183,13 @@ module _ {D : Type 0} (look : D → View) (mine : ℕ → Bool) (id : List ℕ) 
   -- its part of calls is a behaviour of the machine
   alone : (at : ℕ) (es : List Exchange) (y : Isolated) (x z : ExecutorView D) (d : Effects) → x.state.clock ≤ at → AreRising at es
       → AllByRecursion IsAnswered (part id es) → IsolatedAs y x.state (due_in x) id → AreApart x.state → AreOwn mine id (active x.state)
-      → AllBeginOwn mine id d.events → Calls look x es z d → Alone id y (part id es) (own_entries d.entries) (events_of id d.events)
+      → AllBeginOwn mine id d.events → Calls view x es z d → Alone id y (part id es) (own_entries d.entries) (events_of id d.events)
   unfolding own_entries
   alone at [] y x z d clock rises plain holds apart own begins calls = (no_entries d calls.1, no_events d calls.1)
   alone at (e ∷ es) y x z d clock rises plain holds apart own begins (mid, first, later, does, rest, all) =
       let now : x.state.clock ≤ moment_in at e = le_trans clock rises.0 in
       let plain_here = each_first IsAnswered (part_of id e) (part id es) plain in
-      let went = call_went look mine id at e x mid first now plain_here does in
+      let went = call_went view mine id at e x mid first now plain_here does in
       let all_begin : AllBeginOwn mine id (first.events ++ later.events) = subst (λ (k : Effects). AllBeginOwn mine id k.events) all begins in
       let begins_first = each_first (λ e. BeginsOwn mine id e.change) first.events later.events all_begin in
       let begins_later = each_last (λ e. BeginsOwn mine id e.change) first.events later.events all_begin in
@@ -210,34 +210,34 @@ module _ {D : Type 0} (look : D → View) (mine : ℕ → Bool) (id : List ℕ) 
       (parts_join id y y2 (part_of id e) (part id es) (own_entries first.entries) (own_entries later.entries) (events_of id first.events)
       (events_of id later.events) one (holds_self y2) following)))
 
-module _ {D : Type 0} (look : D → View) (x z : ExecutorView D) where
+module _ {D : Type 0} (view : D → View) (x z : ExecutorView D) where
   -- the law
-  pub each_alone : (es : List Exchange) (d : Effects) (id : List ℕ) → DistinctKeys x.state → Calls look x es z d
+  pub each_alone : (es : List Exchange) (d : Effects) (id : List ℕ) → DistinctKeys x.state → Calls view x es z d
       → AllByRecursion IsAnswered (part id es) → AreRising x.state.clock es
       → Alone id (isolated_of x id) (part id es) (entries_of_runs (own_runs id x.state d.events) d.entries) (events_of id d.events)
   unfolding own_entries
   each_alone es d id apart calls plain rises =
       let mine : ℕ → Bool = is_mine id x.state d.events in
       let clock = le_refl x.state.clock in
-      let own = runs_own id x.state d.events apart (calls_fresh look mine id x.state.clock es x z d clock rises plain calls) in
-      alone look mine id x.state.clock es (isolated_of x id) x z d clock rises plain (here x id) apart.ids own.0 own.1 calls
+      let own = runs_own id x.state d.events apart (calls_fresh view mine id x.state.clock es x z d clock rises plain calls) in
+      alone view mine id x.state.clock es (isolated_of x id) x z d clock rises plain (here x id) apart.ids own.0 own.1 calls
 
   -- and it agrees with the executor after the calls
-  pub alone_ends : (es : List Exchange) (d : Effects) (id : List ℕ) → Calls look x es z d
+  pub alone_ends : (es : List Exchange) (d : Effects) (id : List ℕ) → Calls view x es z d
       → AllByRecursion IsAnswered (part id es) → AreRising x.state.clock es
       → SameIsolated (isolated_after_all (isolated_of x id) (events_of id d.events)) (isolated_of z id)
   alone_ends es d id calls plain rises =
-      let there = calls_hold look (λ run. false) id x.state.clock es (isolated_of x id) x z d (le_refl x.state.clock) rises plain (here x id) calls in
+      let there = calls_hold view (λ run. false) id x.state.clock es (isolated_of x id) x z d (le_refl x.state.clock) rises plain (here x id) calls in
       record { resource = there.resource; due = there.due; calls = there.calls; runs = there.runs }
 
   -- the law of a session
   pub session_alone : (inputs : List Input) (replies : List Reply) (d : Effects) (id : List ℕ) → DistinctKeys x.state
-      → Session look x inputs replies z d → AllByRecursion IsAnswered (part id (as_calls inputs replies))
+      → Session view x inputs replies z d → AllByRecursion IsAnswered (part id (as_calls inputs replies))
       → AreRising x.state.clock (as_calls inputs replies)
       → Alone id (isolated_of x id) (part id (as_calls inputs replies)) (entries_of_runs (own_runs id x.state d.events) d.entries)
       (events_of id d.events)
   session_alone inputs replies d id apart session plain rises =
-      each_alone (as_calls inputs replies) d id apart (session_is_calls look x z inputs replies d session) plain rises
+      each_alone (as_calls inputs replies) d id apart (session_is_calls view x z inputs replies d session) plain rises
 
 -- the law of a batch
 pub commands_alone : {D : Type 0} (now : ℕ) (x : ExecutorView D) (commands : List Command) (replies : List Reply) (es : List Event) (id : List ℕ)

@@ -32,9 +32,9 @@ pub record FinishDone {D : Type 0} (now : ℕ) (old new : ExecutorView D) (effec
   pub state : new.state ≡ after_all old.state effects.events
   pub due : due_in new ≡ due_after_all old.state (due_in old) effects.events
 
-pub finish_done : {D : Type 0} (look : D → View) (now : ℕ) (old new : ExecutorView D) (end : TurnEnd) (takes : FinishesTurn look now old new end)
+pub finish_done : {D : Type 0} (view : D → View) (now : ℕ) (old new : ExecutorView D) (end : TurnEnd) (takes : FinishesTurn view now old new end)
     → old.state.clock ≤ cut now → end ≡ Done → FinishDone now old new takes.turns.effects
-finish_done look now old new end takes clock is_done =
+finish_done view now old new end takes clock is_done =
     let turns = takes.turns in
     let found = λ (at : ℕ). scene old.state (due_in old) old.place at old.refuses in
     let raw : OnlyResults (found (moment old.state now)) turns.effects new.reported =

@@ -130,13 +130,13 @@ pub record Commands (now : ℕ) (c : Command) (old new : Seen) (reply : Reply) (
   pub keep : AllByRecursion (λ e. KeepsRunning e.change) effects.events
   pub follows : IsPlain reply → Follows (event_of old.state now c) reply effects.events
 
-pub commands : {D : Type 0} (look : D → View) (now : ℕ) (c : Command) (old new : ExecutorView D) (reply : Reply) (effects : Effects)
+pub commands : {D : Type 0} (view : D → View) (now : ℕ) (c : Command) (old new : ExecutorView D) (reply : Reply) (effects : Effects)
     → old.state.clock ≤ cut now
-    → TakesRequest look now (asked.Command c) old new reply effects → Commands now c (seen old) (seen new) reply effects
-commands {D} look now c old new reply effects clock takes =
+    → TakesRequest view now (asked.Command c) old new reply effects → Commands now c (seen old) (seen new) reply effects
+commands {D} view now c old new reply effects clock takes =
     subst (λ (x : Effects). Commands now c (seen old) (seen new) reply x) (sym takes.does) (by (event_of old.state now c) refl takes.serves.0)
   where
-    by_reply : (e : Event) → event_of old.state now c ≡ Ok e → Records look e (ledger_of old) (ledger_of new) reply
+    by_reply : (e : Event) → event_of old.state now c ≡ Ok e → Records view e (ledger_of old) (ledger_of new) reply
         → (reply ≡ acknowledged e.change) ⊎ IsRefused reply → Commands now c (seen old) (seen new) reply (command_effects (Ok e) reply)
     by_reply e is serves (inl reported) =
         let batch : recorded e reply ≡ e ∷ [] = ap (recorded e) reported ∙ reported_done e e.change in
@@ -167,7 +167,7 @@ commands {D} look now c old new reply effects clock takes =
           follows = λ plain. absurd (shared (subst IsPlain refused plain));
         }
 
-    by : (v : Result Event Refusal) → event_of old.state now c ≡ v → Obeys look v (ledger_of old) (ledger_of new) reply
+    by : (v : Result Event Refusal) → event_of old.state now c ≡ v → Obeys view v (ledger_of old) (ledger_of new) reply
         → Commands now c (seen old) (seen new) reply (command_effects v reply)
     by (Err why) is serves = record {
       no_entries = refl;

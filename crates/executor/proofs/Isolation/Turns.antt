@@ -101,10 +101,10 @@ pub record TurnDone {D : Type 0} (now : ℕ) (old new : ExecutorView D) (given :
   pub state : new.state ≡ after_all old.state effects.events
   pub due : due_in new ≡ due_after_all old.state (due_in old) effects.events
 
-pub turn_done : {D : Type 0} (look : D → View) (now : ℕ) (old new : ExecutorView D) (given : Reply) (effects : Effects) → old.state.clock ≤ cut now
+pub turn_done : {D : Type 0} (view : D → View) (now : ℕ) (old new : ExecutorView D) (given : Reply) (effects : Effects) → old.state.clock ≤ cut now
     → IsPlain given
-    → TakesATurn look now old new given effects → TurnDone now old new given effects
-turn_done {D} look now old new given effects clock plain takes =
+    → TakesATurn view now old new given effects → TurnDone now old new given effects
+turn_done {D} view now old new given effects clock plain takes =
     let turns = takes.takes.turns in
     let is_done : takes.end ≡ Done = subst IsPlain takes.replies plain in
     let raw : Whole Done (scene old.state (due_in old) old.place (moment old.state now) old.refuses) turns.effects new.reported =

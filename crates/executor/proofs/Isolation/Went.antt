@@ -58,7 +58,7 @@ pub record Went {D : Type 0} (mine : ℕ → Bool) (id : List ℕ) (at : ℕ) (o
   pub begins : AllBeginOwn mine id more
   pub whole : new.is_open ≡ true → more ≡ []
 
-module _ {D : Type 0} (look : D → View) (mine : ℕ → Bool) (id : List ℕ) where
+module _ {D : Type 0} (view : D → View) (mine : ℕ → Bool) (id : List ℕ) where
   -- all events are recorded, or there are none
   went_so : (at : ℕ) (old new : ExecutorView D) (es : List Event) → Does at (seen old) (seen new) es → Went mine id at old new es
   went_so at old new es does = record {
@@ -76,28 +76,28 @@ module _ {D : Type 0} (look : D → View) (mine : ℕ → Bool) (id : List ℕ) 
 
   -- a request, and a turn
   request_went : (b : Bool) (now : ℕ) (r : Reply) (old new : ExecutorView D) (d : Effects) (request : Request) → old.state.clock ≤ cut now
-      → TakesWhile b look (input.Request now request) old new r d → Went mine id (cut now) old new d.events
-  request_went true now r old new d (asked.Command c) clock takes = went_so (cut now) old new d.events (commands look now c old new r d clock takes).does
+      → TakesWhile b view (input.Request now request) old new r d → Went mine id (cut now) old new d.events
+  request_went true now r old new d (asked.Command c) clock takes = went_so (cut now) old new d.events (commands view now c old new r d clock takes).does
   request_went true now r old new d (asked.Question q) clock takes = went_nowhere (cut now) old new d clock (ap seen takes.serves.1) takes.does
   request_went false now r old new d request clock takes = went_nowhere (cut now) old new d clock (ap seen takes.1) takes.2
 
   turn_went : (b : Bool) (now : ℕ) (r : Reply) (old new : ExecutorView D) (d : Effects) → old.state.clock ≤ cut now → IsPlain r
-      → TakesWhile b look (input.Turn now) old new r d → Went mine id (cut now) old new d.events
+      → TakesWhile b view (input.Turn now) old new r d → Went mine id (cut now) old new d.events
   turn_went true now r old new d clock plain takes =
-      went_so (cut now) old new d.events (turn_does now old new r d (turn_done look now old new r d clock plain takes) clock)
+      went_so (cut now) old new d.events (turn_does now old new r d (turn_done view now old new r d clock plain takes) clock)
   turn_went false now r old new d clock plain takes = absurd (closed_plain (input.Turn now) r takes.0 plain)
 
   -- a turn that begins nothing
   finish_went : (b : Bool) (now : ℕ) (end : TurnEnd) (old new : ExecutorView D) (d : Effects) → old.state.clock ≤ cut now → end ≡ turn_end.Done
-      → FinishedWhile b look now old new end d → Went mine id (cut now) old new d.events
+      → FinishedWhile b view now old new end d → Went mine id (cut now) old new d.events
   finish_went true now end old new d clock done (takes, did) =
-      let finish = finish_done look now old new end takes clock done in
+      let finish = finish_done view now old new end takes clock done in
       subst (λ (x : Effects). Went mine id (cut now) old new x.events) (sym did)
       (went_so (cut now) old new takes.turns.effects.events (finish_does now old new takes.turns.effects finish clock))
   finish_went false now end old new d clock done takes = absurd (let bad : turn_end.Closed ≡ turn_end.Done = sym takes.0 ∙ done in cc)
 
   tidy_went : (b : Bool) (at : ℕ) (end : TidyEnd) (old new : ExecutorView D) (d : Effects) → old.state.clock ≤ at → d ≡ no_effects
-      → TidiesWhile b look old new end → Went mine id at old new d.events
+      → TidiesWhile b view old new end → Went mine id at old new d.events
   tidy_went true at end old new d clock none (tidies, beside) =
       let seen_in : LedgerView D → Seen = λ h. record { state = h.state; due = due_of h.monitors } in
       went_nowhere at old new d clock (ap seen_in tidies.same) none
@@ -105,7 +105,7 @@ module _ {D : Type 0} (look : D → View) (mine : ℕ → Bool) (id : List ℕ) 
 
   -- a batch of commands
   batch_went : (now : ℕ) (cs : List Command) (rs : List Reply) (old new : ExecutorView D) (d : Effects) → old.state.clock ≤ cut now
-      → AllByRecursion IsAnswered (part_of id (Batch now cs rs)) → TakesBatch look now cs old new rs d → Went mine id (cut now) old new d.events
+      → AllByRecursion IsAnswered (part_of id (Batch now cs rs)) → TakesBatch view now cs old new rs d → Went mine id (cut now) old new d.events
   batch_went now cs rs old new d clock plain batch = by new.is_open refl batch.takes.reported (same_events batch.does)
     where
       es : List Event
@@ -140,7 +140,7 @@ module _ {D : Type 0} (look : D → View) (mine : ℕ → Bool) (id : List ℕ) 
 
   -- any call
   pub call_went : (at : ℕ) (e : Exchange) (old new : ExecutorView D) (d : Effects) → old.state.clock ≤ moment_in at e
-      → AllByRecursion IsAnswered (part_of id e) → Called look e old new d → Went mine id (moment_in at e) old new d.events
+      → AllByRecursion IsAnswered (part_of id e) → Called view e old new d → Went mine id (moment_in at e) old new d.events
   call_went at (Took (input.Request now request) r) old new d clock plain does = request_went old.is_open now r old new d request clock does
   call_went at (Took (input.Turn now) r) old new d clock plain does = turn_went old.is_open now r old new d clock plain.0 does
   call_went at (Batch now cs rs) old new d clock plain does = batch_went now cs rs old new d clock plain does

@@ -51,15 +51,15 @@ module _ (laws : LawfulLaws) where
           (in_second whole.layout (after_all_in whole.layout prefix.first (flat_map (λ es. es) prefix.batches))
           (all_stay whole.layout prefix.first (flat_map (λ es. es) prefix.batches) prefix.lawful prefix.apply))
 
-  module _ {D : Type 0} (look : D → View) (law : JournalLemmas) (lawful : (d : D) → (look d).honest → Lawful (look d)) (start : State) where
+  module _ {D : Type 0} (view : D → View) (law : JournalLemmas) (lawful : (d : D) → (view d).honest → Lawful (view d)) (start : State) where
     -- so is the first state of a history that may leave something
-    pub start_lawful : (life : List (Sitting D)) → IsLife look start life → (c : Image) → LifeLeaves look start life c → IsLawfulState start
+    pub start_lawful : (life : List (Sitting D)) → IsLife view start life → (c : Image) → LifeLeaves view start life c → IsLawfulState start
     start_lawful [] is c left = found_lawful start c left.0
     start_lawful (InOpening old new now end ∷ older) (is, from, ends, honest) c left =
-        let reads = (look old).reads in
+        let reads = (view old).reads in
         start_lawful older is reads (from reads (lawful old (ends.did.crash.passed.honest honest)).reads_now)
     start_lawful (InService x ∷ older) (is, from, serves, honest) c left =
-        let whole = whole_leads look law lawful x serves in
+        let whole = whole_leads view law lawful x serves in
         let was_honest = serves.opens.did.crash.passed.honest (whole.crash.crash.passed.honest honest) in
-        let reads = (look x.disk).reads in
+        let reads = (view x.disk).reads in
         start_lawful older is reads (from reads (lawful x.disk was_honest).reads_now)

@@ -20,25 +20,25 @@ use Rattle.executor.proofs.Sessions.Growing.{Onward, leads_start, leads_still, o
 abbrev all_of : Effects → List Event
 all_of d = d.events ++ d.pending
 
-module _ {D : Type 0} (look : D → View) (law : JournalLemmas) (lawful : (d : D) → (look d).honest → Lawful (look d)) where
-  module _ (x : Service D) (serves : Serves look x) where
-    opened_leads : Onward look x.opened x.opened no_effects
+module _ {D : Type 0} (view : D → View) (law : JournalLemmas) (lawful : (d : D) → (view d).honest → Lawful (view d)) where
+  module _ (x : Service D) (serves : Serves view x) where
+    opened_leads : Onward view x.opened x.opened no_effects
     opened_leads =
-        onward look x.opened x.opened no_effects
-        (leads_start look law x.opened (lawful x.opened.disk) (serves.opens.sound serves.opens.over.is_open))
+        onward view x.opened x.opened no_effects
+        (leads_start view law x.opened (lawful x.opened.disk) (serves.opens.sound serves.opens.over.is_open))
 
     -- the crash condition of the calls that returned
-    returned_leads : Onward look x.opened x.returned x.done
+    returned_leads : Onward view x.opened x.returned x.done
     returned_leads =
-        calls_more look lawful x.opened x.opened x.returned serves.calls no_effects x.done serves.returns opened_leads
+        calls_more view lawful x.opened x.opened x.returned serves.calls no_effects x.done serves.returns opened_leads
 
     -- the crash condition of all of its calls
-    pub whole_leads : Onward look x.opened x.last (followed_by x.done x.under_way)
+    pub whole_leads : Onward view x.opened x.last (followed_by x.done x.under_way)
     whole_leads =
-        calls_more look lawful x.opened x.returned x.last serves.begun x.done x.under_way serves.goes_on returned_leads
+        calls_more view lawful x.opened x.returned x.last serves.begun x.done x.under_way serves.goes_on returned_leads
 
-    module _ (honest : (look x.last.disk).honest) (c : Image) (left : (look x.last.disk).since x.stop c) where
-      from_earlier : (t : ℕ) → t ≤ x.stop → (look x.last.disk).since t c
+    module _ (honest : (view x.last.disk).honest) (c : Image) (left : (view x.last.disk).since x.stop c) where
+      from_earlier : (t : ℕ) → t ≤ x.stop → (view x.last.disk).since t c
       from_earlier t le = (lawful x.last.disk honest).earlier x.stop t c le left
 
       abbrev Base : Type 0
@@ -47,13 +47,13 @@ module _ {D : Type 0} (look : D → View) (law : JournalLemmas) (lawful : (d : D
       -- where the executor was open after the last return, the pair is found after some of the events under way
       base_open : x.returned.is_open ≡ true → Base
       base_open is_open =
-          let going : Onward look x.returned x.last x.under_way =
-          calls_more look lawful x.returned x.returned x.last serves.begun no_effects x.under_way serves.goes_on
-          (onward look x.returned x.returned no_effects
-          (leads_still look x.opened x.returned x.done (lawful x.returned.disk) is_open returned_leads)) in
+          let going : Onward view x.returned x.last x.under_way =
+          calls_more view lawful x.returned x.returned x.last serves.begun no_effects x.under_way serves.goes_on
+          (onward view x.returned x.returned no_effects
+          (leads_still view x.opened x.returned x.done (lawful x.returned.disk) is_open returned_leads)) in
           let d = x.done.events in
           let u = x.under_way in
-          let holds = going.crash.crash.from_start honest c (from_earlier (look x.returned.disk).clock serves.following) in
+          let holds = going.crash.crash.from_start honest c (from_earlier (view x.returned.disk).clock serves.following) in
           let q = holds.0 in
           let none : x.done.pending ≡ [] = returned_leads.whole is_open in (
             d ++ q,
@@ -73,11 +73,11 @@ module _ {D : Type 0} (look : D → View) (law : JournalLemmas) (lawful : (d : D
       -- those that the fault left pending
       base_closed : x.returned.is_open ≡ false → Base
       base_closed closed =
-          let none = calls_closed look x.returned x.last serves.begun x.under_way closed serves.goes_on in
-          let was_honest : (look x.returned.disk).honest = subst (λ (y : D). (look y).honest) none.disk honest in
-          let was_left = subst (λ (y : D). (look y).since x.stop c) none.disk left in
+          let none = calls_closed view x.returned x.last serves.begun x.under_way closed serves.goes_on in
+          let was_honest : (view x.returned.disk).honest = subst (λ (y : D). (view y).honest) none.disk honest in
+          let was_left = subst (λ (y : D). (view y).since x.stop c) none.disk left in
           let still = lawful x.returned.disk was_honest in
-          let now = still.only_now c (still.earlier x.stop (look x.returned.disk).clock c serves.following was_left) in
+          let now = still.only_now c (still.earlier x.stop (view x.returned.disk).clock c serves.following was_left) in
           by (returned_leads.crash.now was_honest c now)
         where
           d : List Event
@@ -85,7 +85,7 @@ module _ {D : Type 0} (look : D → View) (law : JournalLemmas) (lawful : (d : D
 
           all_is : all_of (followed_by x.done x.under_way) ≡ d ++ x.done.pending
           all_is =
-              let none = calls_closed look x.returned x.last serves.begun x.under_way closed serves.goes_on in
+              let none = calls_closed view x.returned x.last serves.begun x.under_way closed serves.goes_on in
               (λ k. (d ++ (none.nothing k).events) ++ (x.done.pending ++ (none.nothing k).pending))
               ∙ (λ k. append-nil d k ++ append-nil x.done.pending k)
 
@@ -119,7 +119,7 @@ module _ {D : Type 0} (look : D → View) (law : JournalLemmas) (lawful : (d : D
       each_begun run clock asked le =
           let begun = whole_leads.crash.starts run clock asked in
           let holds = begun.following.from_start honest c
-          (from_earlier (look begun.disk).clock (subst (λ (n : ℕ). n ≤ x.stop) begun.counted le)) in
+          (from_earlier (view begun.disk).clock (subst (λ (n : ℕ). n ≤ x.stop) begun.counted le)) in
           let q = holds.0 in (
             begun.first ++ q,
             record {
@@ -154,4 +154,4 @@ module _ {D : Type 0} (look : D → View) (law : JournalLemmas) (lawful : (d : D
       pub uptime_reserved : PairHasReserve c
       uptime_reserved =
           let later = returned_leads.crash.crash.passed.clock in
-          whole_leads.crash.reserved.from_start honest c (from_earlier (look x.opened.disk).clock (omega (arith, later, serves.following)))
+          whole_leads.crash.reserved.from_start honest c (from_earlier (view x.opened.disk).clock (omega (arith, later, serves.following)))

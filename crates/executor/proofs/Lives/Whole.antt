@@ -56,7 +56,7 @@ module _ (law : JournalLemmas) where
   pub first_begins : (s : State) (c : Image) → FoundAs s c → IsFirstPart c → BeginsAs s c
   first_begins s c found first = written_begins s c found (inr (first, (s, found)))
 
-module _ {D : Type 0} (look : D → View) (law : JournalLemmas) (once : OneFinding) (lawful : (d : D) → (look d).honest → Lawful (look d))
+module _ {D : Type 0} (view : D → View) (law : JournalLemmas) (once : OneFinding) (lawful : (d : D) → (view d).honest → Lawful (view d))
     (start : State) where
   pub one_state : (s t : State) (c : Image) → FoundAs s c → FoundAs t c → s ≡ t
   one_state s t c here there = once.state c s t here there
@@ -73,32 +73,32 @@ module _ {D : Type 0} (look : D → View) (law : JournalLemmas) (once : OneFindi
   BackedBy life c = (zs : List Event) × Lived start life zs × FoundAs (after_all start zs) c
 
   -- after an opening that was refused or crashed: as before it
-  unbooted : (old new : D) (now : ℕ) (end : Option OpenError) (older : List (Sitting D)) → ((d : Image) → (look old).now d → BackedBy older d)
-      → (look old).honest → (c : Image) → OpensLike (look old) c → BackedBy (InOpening old new now end ∷ older) c
+  unbooted : (old new : D) (now : ℕ) (end : Option OpenError) (older : List (Sitting D)) → ((d : Image) → (view old).now d → BackedBy older d)
+      → (view old).honest → (c : Image) → OpensLike (view old) c → BackedBy (InOpening old new now end ∷ older) c
   unbooted old new now end older from honest c (inl was) =
       let b = from c was in (b.0, (b.0, b.1, inl refl), b.2)
   unbooted old new now end older from honest c (inr (s, reads, found)) =
-      let b = from (look old).reads (lawful old honest).reads_now in
-      let same = one_state s (after_all start b.0) (look old).reads reads b.2 in
+      let b = from (view old).reads (lawful old honest).reads_now in
+      let same = one_state s (after_all start b.0) (view old).reads reads b.2 in
       (b.0, (b.0, b.1, inl refl), subst (λ (t : State). FoundAs t c) same found)
 
   -- or with its boot
-  may_boot : (old new : D) (now : ℕ) (end : Option OpenError) (older : List (Sitting D)) → ((d : Image) → (look old).now d → BackedBy older d)
-      → (look old).honest → MayBoot end → (c : Image) → StartsLike (look old) now c → BackedBy (InOpening old new now end ∷ older) c
+  may_boot : (old new : D) (now : ℕ) (end : Option OpenError) (older : List (Sitting D)) → ((d : Image) → (view old).now d → BackedBy older d)
+      → (view old).honest → MayBoot end → (c : Image) → StartsLike (view old) now c → BackedBy (InOpening old new now end ∷ older) c
   may_boot old new now end older from honest may c (inl like) = unbooted old new now end older from honest c like
   may_boot old new now end older from honest may c (inr (s, reads, inl found)) =
       unbooted old new now end older from honest c (inr (s, reads, found))
   may_boot old new now end older from honest may c (inr (s, reads, inr found)) =
-      let b = from (look old).reads (lawful old honest).reads_now in
-      let same = one_state s (after_all start b.0) (look old).reads reads b.2 in (
+      let b = from (view old).reads (lawful old honest).reads_now in
+      let same = one_state s (after_all start b.0) (view old).reads reads b.2 in (
         b.0 ++ boots (after_all start b.0) now,
         (b.0, b.1, inr (may, refl)),
         subst (λ (t : State). FoundAs t c) (sym (after_boots b.0 s now same)) found,
       )
 
   -- by how it ended
-  in_opening : (old new : D) (now : ℕ) (end : Option OpenError) (older : List (Sitting D)) → ((d : Image) → (look old).now d → BackedBy older d)
-      → (look new).honest → (look old).honest → EndsOpening (look old) (look new) now end → (c : Image) → (look new).since (look old).clock c
+  in_opening : (old new : D) (now : ℕ) (end : Option OpenError) (older : List (Sitting D)) → ((d : Image) → (view old).now d → BackedBy older d)
+      → (view new).honest → (view old).honest → EndsOpening (view old) (view new) now end → (c : Image) → (view new).since (view old).clock c
       → BackedBy (InOpening old new now end ∷ older) c
   in_opening old new now None older from honest was ends c left =
       may_boot old new now None older from was (tt {0}) c (ends.did.crash.from_start honest c left)
@@ -114,7 +114,7 @@ module _ {D : Type 0} (look : D → View) (law : JournalLemmas) (once : OneFindi
       unbooted old new now (Some why.Full) older from was c ((ends.unbooted (λ none. none)).from_start honest c left)
 
   -- every pair that a history may leave is found so, and has capacity for its boot
-  pub life_leaves : (life : List (Sitting D)) → IsLife look start life → (c : Image) → LifeLeaves look start life c → BackedBy life c × PairHasReserve c
+  pub life_leaves : (life : List (Sitting D)) → IsLife view start life → (c : Image) → LifeLeaves view start life c → BackedBy life c × PairHasReserve c
   life_leaves [] is c left = (([], refl, left.0), left.1)
   life_leaves (InOpening old new now end ∷ older) (is, from, ends, honest) c left =
       let did = ends.did in
@@ -123,14 +123,14 @@ module _ {D : Type 0} (look : D → View) (law : JournalLemmas) (once : OneFindi
         (did.reserved (λ _ d d_now. (life_leaves older is d (from d d_now)).1)).from_start honest c left,
       )
   life_leaves (InService x ∷ older) (is, from, serves, honest) c left =
-      let whole = whole_leads look law lawful x serves in
+      let whole = whole_leads view law lawful x serves in
       let opened_honest = whole.crash.crash.passed.honest honest in
       let was_honest = serves.opens.did.crash.passed.honest opened_honest in
       let starts = serves.opens.starts opened_honest in
-      let before = (life_leaves older is (look x.disk).reads (from (look x.disk).reads (lawful x.disk was_honest).reads_now)).0 in
+      let before = (life_leaves older is (view x.disk).reads (from (view x.disk).reads (lawful x.disk was_honest).reads_now)).0 in
       let ys = before.0 in
-      let same = one_state starts.state (after_all start ys) (look x.disk).reads starts.found before.2 in
-      let holds = service_holds look law lawful x serves honest c left in
+      let same = one_state starts.state (after_all start ys) (view x.disk).reads starts.found before.2 in
+      let holds = service_holds view law lawful x serves honest c left in
       let b = boots (after_all start ys) x.now in
       let p = holds.0 in
       let opened : after_all start (ys ++ b) ≡ x.opened.state = after_boots ys starts.state x.now same ∙ sym starts.boot in
@@ -138,16 +138,16 @@ module _ {D : Type 0} (look : D → View) (law : JournalLemmas) (once : OneFindi
       ap (λ (l : List Event). after_all start l) (sym (append_assoc ys b p)) ∙ after_all-append start (ys ++ b) p
       ∙ ap (λ (s : State). after_all s p) opened in (
         (ys ++ (b ++ p), (ys, p, before.1, holds.1, refl), subst (λ (t : State). FoundAs t c) (sym all) holds.2),
-        uptime_reserved look law lawful x serves honest c left,
+        uptime_reserved view law lawful x serves honest c left,
       )
 
   -- so an opening after a history gives the state after the events that remain, and reports the actions that ran
   pub opened_after : (life : List (Sitting D)) (old : D) (from : ChildrenView) (now : ℕ) (x : ExecutorView D) (ran queued : List Notice)
-      → IsLife look start life → GoesOnFrom look start life old → Opened look (look old) from now x ran queued → (look x.disk).honest
+      → IsLife view start life → GoesOnFrom view start life old → Opened view (view old) from now x ran queued → (view x.disk).honest
       → OpensAfter start life now x.state ran queued
   opened_after life old from now x ran queued is goes_on opens honest =
       let starts = opens.starts honest in
-      let reads = (look old).reads in
+      let reads = (view old).reads in
       let before = (life_leaves life is reads (goes_on reads (lawful old (opens.did.crash.passed.honest honest)).reads_now)).0 in
       let same = one_state starts.state (after_all start before.0) reads starts.found before.2 in
       record {
@@ -159,28 +159,28 @@ module _ {D : Type 0} (look : D → View) (law : JournalLemmas) (once : OneFindi
       }
 
   -- and it finds no damage, and capacity for its boot
-  pub opens_after : (life : List (Sitting D)) (old new : D) (from to : ChildrenView) (now : ℕ) (fault : OpenError) → IsLife look start life
-      → GoesOnFrom look start life old → NotOpened (look old) (look new) from to now fault → (look new).honest
+  pub opens_after : (life : List (Sitting D)) (old new : D) (from to : ChildrenView) (now : ℕ) (fault : OpenError) → IsLife view start life
+      → GoesOnFrom view start life old → NotOpened (view old) (view new) from to now fault → (view new).honest
       → (fault ≡ why.Full → ⊥) × ((d : Damage) → fault ≡ why.Damaged d → ⊥)
   opens_after life old new from to now fault is goes_on fails honest =
       let was_honest = fails.did.crash.passed.honest honest in
-      let reads = (life_leaves life is (look old).reads (goes_on (look old).reads (lawful old was_honest).reads_now)).0 in (
+      let reads = (life_leaves life is (view old).reads (goes_on (view old).reads (lawful old was_honest).reads_now)).0 in (
         fails.never_full (λ _ c c_now. (life_leaves life is c (goes_on c c_now)).1) honest,
-        λ d bad. once.either (look old).reads (after_all start reads.0) d reads.2 (fails.damaged honest d bad),
+        λ d bad. once.either (view old).reads (after_all start reads.0) d reads.2 (fails.damaged honest d bad),
       )
 
 -- an opening that was refused is an incarnation
-pub refused_sits : {D : Type 0} (look : D → View) (old new : D) (from to : ChildrenView) (now : ℕ) (fault : OpenError)
-    → NotOpened (look old) (look new) from to now fault → Sat look (InOpening old new now (Some fault))
-refused_sits look old new from to now fault fails = record {
+pub refused_sits : {D : Type 0} (view : D → View) (old new : D) (from to : ChildrenView) (now : ℕ) (fault : OpenError)
+    → NotOpened (view old) (view new) from to now fault → Sat view (InOpening old new now (Some fault))
+refused_sits view old new from to now fault fails = record {
   did = fails.did;
   unbooted = λ never. fails.unbooted (λ is. never (subst (λ (f : OpenError). MayBoot (Some f)) (sym is) (tt {0})));
 }
 
 -- so is one of the journal alone
-pub looked_sits : {D : Type 0} (look : D → View) (old new : D) (now : ℕ) (end : Option OpenError) → Opens (look old) (look new)
-    → Sat look (InOpening old new now end)
-looked_sits look old new now end opens = record {
-  did = read_only (look old) (look new) now opens.crash opens.reserved opens.unwritten;
+pub looked_sits : {D : Type 0} (view : D → View) (old new : D) (now : ℕ) (end : Option OpenError) → Opens (view old) (view new)
+    → Sat view (InOpening old new now end)
+looked_sits view old new now end opens = record {
+  did = read_only (view old) (view new) now opens.crash opens.reserved opens.unwritten;
   unbooted = λ _. opens.crash;
 }

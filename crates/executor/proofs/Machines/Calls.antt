@@ -79,17 +79,17 @@ quiet_command : (v : Result Event Refusal) (reply : Reply) → (command_effects 
 quiet_command (Err refusal) reply = refl
 quiet_command (Ok e) reply = refl
 
-module _ {D : Type 0} (look : D → View) where
+module _ {D : Type 0} (view : D → View) where
   still : (x y : ExecutorView D) (d : Effects) → y ≡ x → d ≡ no_effects → GoesOn [] (machine_of x) (machine_of y) d
   still x y d same none = (ap machine_of same, none)
 
   -- a label with the device's failures, and the position of the journal's next record
   abbrev step_of : ExecutorView D → ExecutorView D → Label
-  step_of x y = label_in look true Cleared x y no_effects
+  step_of x y = label_in view true Cleared x y no_effects
 
   -- a command
   records : (now : ℕ) (c : Command) (x y : ExecutorView D) (reply : Reply) (e : Event) → event_of x.state now c ≡ Ok e
-      → Records look e (ledger_of x) (ledger_of y) reply → OnlyLedgerChanges x y → x.is_open ≡ true → (y.is_open ≡ false → reply ≡ Refused Disk) → (reply ≡ Refused Disk → y.is_open ≡ false)
+      → Records view e (ledger_of x) (ledger_of y) reply → OnlyLedgerChanges x y → x.is_open ≡ true → (y.is_open ≡ false → reply ≡ Refused Disk) → (reply ≡ Refused Disk → y.is_open ≡ false)
       → TakesOne (step_of x y) now c reply (machine_of x) (machine_of y) (command_effects (Ok e) reply)
   records now c x y reply e is r beside was closes closed = by r.reported
     where
@@ -138,20 +138,20 @@ module _ {D : Type 0} (look : D → View) where
             ),
           )
 
-  one_command : (now : ℕ) (c : Command) (x y : ExecutorView D) (reply : Reply) (d : Effects) → TakesRequest look now (asked.Command c) x y reply d
+  one_command : (now : ℕ) (c : Command) (x y : ExecutorView D) (reply : Reply) (d : Effects) → TakesRequest view now (asked.Command c) x y reply d
       → x.is_open ≡ true → TakesOne (step_of x y) now c reply (machine_of x) (machine_of y) d
   one_command now c x y reply d takes was =
       subst (λ (k : Effects). TakesOne (step_of x y) now c reply (machine_of x) (machine_of y) k) (sym takes.does)
       (by (event_of x.state now c) refl takes.serves.0)
     where
-      by : (v : Result Event Refusal) → event_of x.state now c ≡ v → Obeys look v (ledger_of x) (ledger_of y) reply
+      by : (v : Result Event Refusal) → event_of x.state now c ≡ v → Obeys view v (ledger_of x) (ledger_of y) reply
           → TakesOne (step_of x y) now c reply (machine_of x) (machine_of y) (command_effects v reply)
       by (Err refusal) is serves =
           inl (reply ∷ [], [], answers x.state now c reply [] (Err refusal) is (serves.0, refl), inl (refl, still x y no_effects (same_view x y serves.1 takes.serves.1) refl))
       by (Ok e) is serves = records now c x y reply e is serves takes.serves.1 was takes.closes.0 takes.closes.1
 
   -- a batch of commands
-  batch_so : (o : Bool) (now : ℕ) (cs : List Command) (rs : List Reply) (x y : ExecutorView D) (d : Effects) (t : TakesBatch look now cs x y rs d)
+  batch_so : (o : Bool) (now : ℕ) (cs : List Command) (rs : List Reply) (x y : ExecutorView D) (d : Effects) (t : TakesBatch view now cs x y rs d)
       → y.is_open ≡ o → TakesAll (step_of x y) now cs (batch_replies o t.takes.meant) (machine_of x) (machine_of y) (batch_effects o t.takes.events)
   batch_so true now cs rs x y d t is = (
     t.takes.meant,
@@ -177,7 +177,7 @@ module _ {D : Type 0} (look : D → View) where
     ),
   )
 
-  one_batch : (now : ℕ) (cs : List Command) (rs : List Reply) (x y : ExecutorView D) (d : Effects) → TakesBatch look now cs x y rs d
+  one_batch : (now : ℕ) (cs : List Command) (rs : List Reply) (x y : ExecutorView D) (d : Effects) → TakesBatch view now cs x y rs d
       → TakesAll (step_of x y) now cs rs (machine_of x) (machine_of y) d
   one_batch now cs rs x y d t =
       subst (λ (l : List Reply). TakesAll (step_of x y) now cs l (machine_of x) (machine_of y) d) (sym t.takes.reported)
@@ -185,9 +185,9 @@ module _ {D : Type 0} (look : D → View) where
       (batch_so y.is_open now cs rs x y d t refl))
 
   -- a turn of a kind, by its label
-  turn_so : (kind : TurnKind) (each now : ℕ) (x y : ExecutorView D) (end : TurnEnd) (e : Exchange) (t : MakesTurn kind each look now x y end)
+  turn_so : (kind : TurnKind) (each now : ℕ) (x y : ExecutorView D) (end : TurnEnd) (e : Exchange) (t : MakesTurn kind each view now x y end)
       → MovesTurn kind each end (moment x.state now)
-      (record { exchange = e; answers = t.turns.effects.entries; notices = y.reported; room = x.children.room; place = x.place; faults = ((look x.disk).failures, (look y.disk).failures) })
+      (record { exchange = e; answers = t.turns.effects.entries; notices = y.reported; room = x.children.room; place = x.place; faults = ((view x.disk).failures, (view y.disk).failures) })
       (machine_of x) (machine_of y) t.turns.effects
   turn_so kind each now x y end e t = record {
     turns = t.turns.does;
@@ -198,24 +198,24 @@ module _ {D : Type 0} (look : D → View) where
     cause = t.turns.cause;
   }
 
-  one_finish : (now : ℕ) (x y : ExecutorView D) (end : TurnEnd) (d : Effects) → FinishedWhile true look now x y end d
-      → MovesOpen (Finished now end) (label_in look true (Finished now end) x y d) (machine_of x) (machine_of y) d
+  one_finish : (now : ℕ) (x y : ExecutorView D) (end : TurnEnd) (d : Effects) → FinishedWhile true view now x y end d
+      → MovesOpen (Finished now end) (label_in view true (Finished now end) x y d) (machine_of x) (machine_of y) d
   one_finish now x y end d (takes, does) =
-      subst (λ (k : Effects). MovesTurn IsFinish 2 end (moment x.state now) (label_in look true (Finished now end) x y k) (machine_of x) (machine_of y) k)
+      subst (λ (k : Effects). MovesTurn IsFinish 2 end (moment x.state now) (label_in view true (Finished now end) x y k) (machine_of x) (machine_of y) k)
       (sym does) (turn_so IsFinish 2 now x y end (Finished now end) takes)
 
-  one_turn : (now : ℕ) (x y : ExecutorView D) (reply : Reply) (d : Effects) → TakesATurn look now x y reply d
-      → MovesOpen (Took (input.Turn now) reply) (label_in look true (Took (input.Turn now) reply) x y d) (machine_of x) (machine_of y) d
+  one_turn : (now : ℕ) (x y : ExecutorView D) (reply : Reply) (d : Effects) → TakesATurn view now x y reply d
+      → MovesOpen (Took (input.Turn now) reply) (label_in view true (Took (input.Turn now) reply) x y d) (machine_of x) (machine_of y) d
   one_turn now x y reply d takes = (
     takes.end,
     takes.replies,
-    subst (λ (k : Effects). MovesTurn IsTurn 3 takes.end (moment x.state now) (label_in look true (Took (input.Turn now) reply) x y k)
+    subst (λ (k : Effects). MovesTurn IsTurn 3 takes.end (moment x.state now) (label_in view true (Took (input.Turn now) reply) x y k)
         (machine_of x) (machine_of y) k)
         (sym takes.does) (turn_so IsTurn 3 now x y takes.end (Took (input.Turn now) reply) takes.takes),
   )
 
   -- a tidy
-  tidied_open : (x y : ExecutorView D) (d : Effects) (end : TidyEnd) → (end ≡ tidy.Disk → ⊥) → Tidies look (ledger_of x) (ledger_of y) end
+  tidied_open : (x y : ExecutorView D) (d : Effects) (end : TidyEnd) → (end ≡ tidy.Disk → ⊥) → Tidies view (ledger_of x) (ledger_of y) end
       → d ≡ no_effects → x.is_open ≡ true → GoesOn [] (machine_of x) (machine_of y) d
   tidied_open x y d end other t none was = (
     same_machine (machine_of y) _ (is_true y.is_open (λ shut. other (t.closes.0 shut)) ∙ sym was) (ap (λ (h : LedgerView D). h.state) t.same)
@@ -223,22 +223,22 @@ module _ {D : Type 0} (look : D → View) where
     none,
   )
 
-  one_tidy : (end : TidyEnd) (x y : ExecutorView D) (d : Effects) → Tidies look (ledger_of x) (ledger_of y) end → d ≡ no_effects → x.is_open ≡ true
-      → TidyEnds end (label_in look true (Tidied end) x y d) (machine_of x) (machine_of y) d
+  one_tidy : (end : TidyEnd) (x y : ExecutorView D) (d : Effects) → Tidies view (ledger_of x) (ledger_of y) end → d ≡ no_effects → x.is_open ≡ true
+      → TidyEnds end (label_in view true (Tidied end) x y d) (machine_of x) (machine_of y) d
   one_tidy tidy.Done x y d t none was = tidied_open x y d tidy.Done (λ is. cc) t none was
   one_tidy tidy.EpochSpent x y d t none was = (t.spent.0 refl, tidied_open x y d tidy.EpochSpent (λ is. cc) t none was)
   one_tidy tidy.Disk x y d t none was = (t.cause refl, (t.closes.1 refl, none))
   one_tidy tidy.Closed x y d t none was = t.not_closed refl
 
   -- an open executor
-  moves_open : (e : Exchange) (x y : ExecutorView D) (d : Effects) → x.is_open ≡ true → Does look e x y d
-      → MovesOpen e (label_in look true e x y d) (machine_of x) (machine_of y) d
+  moves_open : (e : Exchange) (x y : ExecutorView D) (d : Effects) → x.is_open ≡ true → Does view e x y d
+      → MovesOpen e (label_in view true e x y d) (machine_of x) (machine_of y) d
   moves_open (Took (input.Request now (asked.Question q)) reply) x y d was does =
-      let t : TakesRequest look now (asked.Question q) x y reply d =
+      let t : TakesRequest view now (asked.Question q) x y reply d =
       of_open _ _ was does in
       ((same_entries t.does, refl), t.serves.0, still x y d t.serves.1 t.does)
   moves_open (Took (input.Request now (asked.Command c)) reply) x y d was does =
-      let t : TakesRequest look now (asked.Command c) x y reply d =
+      let t : TakesRequest view now (asked.Command c) x y reply d =
       of_open _ _ was does in
       ((same_entries t.does ∙ quiet_command (event_of x.state now c) reply, refl), one_command now c x y reply d t was)
   moves_open (Took (input.Turn now) reply) x y d was does =
@@ -253,23 +253,23 @@ module _ {D : Type 0} (look : D → View) where
   moves_open Abandoned x y d was does =
       ((same_entries does.1, refl), (ap (λ (z : ExecutorView D). z.is_open) does.0, does.1))
 
-  moves : (o : Bool) (e : Exchange) (x y : ExecutorView D) (d : Effects) → x.is_open ≡ o → Does look e x y d
-      → MovesWhile o (label_in look o e x y d) (machine_of x) (machine_of y) d
-  moves true e x y d was does = (moves_open e x y d was does, memory_reported look e x y d does)
+  moves : (o : Bool) (e : Exchange) (x y : ExecutorView D) (d : Effects) → x.is_open ≡ o → Does view e x y d
+      → MovesWhile o (label_in view o e x y d) (machine_of x) (machine_of y) d
+  moves true e x y d was does = (moves_open e x y d was does, memory_reported view e x y d does)
   moves false e x y d was does =
-      let none = does_nothing look e x y d was does in
+      let none = does_nothing view e x y d was does in
       ((same_entries none.1.nothing, refl), none.0, (none.1.is_closed, none.1.nothing))
 
   -- calls, one after the other
-  pub moves_all : (es : List Exchange) (x y : ExecutorView D) (d : Effects) (calls : Calls look x es y d)
-      → MovesAll (labels look x es y d calls) (machine_of x) (machine_of y) d
+  pub moves_all : (es : List Exchange) (x y : ExecutorView D) (d : Effects) (calls : Calls view x es y d)
+      → MovesAll (labels view x es y d calls) (machine_of x) (machine_of y) d
   moves_all [] x y d calls = (ap machine_of calls.0, calls.1)
   moves_all (e ∷ es) x y d (mid, first, later, does, rest, is) =
       (machine_of mid, first, later, moves x.is_open e x mid first refl does, moves_all es mid y later rest, is)
 
   -- the answers in their labels are those that their children gave
-  pub labels_answers : (es : List Exchange) (x y : ExecutorView D) (d : Effects) (calls : Calls look x es y d)
-      → flat_map (λ l. l.answers) (labels look x es y d calls) ≡ d.entries
+  pub labels_answers : (es : List Exchange) (x y : ExecutorView D) (d : Effects) (calls : Calls view x es y d)
+      → flat_map (λ l. l.answers) (labels view x es y d calls) ≡ d.entries
   labels_answers [] x y d calls = sym (same_entries calls.1)
   labels_answers (e ∷ es) x y d (mid, first, later, does, rest, is) =
       ap (λ (l : List Entry). first.entries ++ l) (labels_answers es mid y later rest) ∙ sym (same_entries is)

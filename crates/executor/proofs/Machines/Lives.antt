@@ -29,46 +29,46 @@ use Rattle.executor.proofs.Lives.Services.{service_holds, whole_leads}
 use Rattle.executor.proofs.Lives.Whole.{OneFinding, after_boots, one_state}
 use Rattle.executor.proofs.Machines.Calls.{labels_answers, machine_of, moves_all, same_machine}
 
-module _ {D : Type 0} (look : D → View) (law : JournalLemmas) (once : OneFinding) (lawful : (d : D) → (look d).honest → Lawful (look d))
+module _ {D : Type 0} (view : D → View) (law : JournalLemmas) (once : OneFinding) (lawful : (d : D) → (view d).honest → Lawful (view d))
     (start : State) where
   -- the pair after a behaviour
   abbrev BackedBy : List (Sitting D) → List Seen → Image → Type 0
   BackedBy life xs c = (zs : List Event) × Runs start xs zs × Lived start life zs × FoundAs (after_all start zs) c
 
   same_state : (s t : State) (c : Image) → FoundAs s c → FoundAs t c → s ≡ t
-  same_state s t c here there = one_state look law once lawful start s t c here there
+  same_state s t c here there = one_state view law once lawful start s t c here there
 
   -- after an opening that was refused or crashed: as before it
   unbooted : (old new : D) (now : ℕ) (end : Option OpenError) (older : List (Sitting D)) (xs : List Seen)
-      → ((d : Image) → (look old).now d → BackedBy older xs d) → (look old).honest
-      → (c : Image) → OpensLike (look old) c → BackedBy (InOpening old new now end ∷ older) (Opening now end ∷ xs) c
+      → ((d : Image) → (view old).now d → BackedBy older xs d) → (view old).honest
+      → (c : Image) → OpensLike (view old) c → BackedBy (InOpening old new now end ∷ older) (Opening now end ∷ xs) c
   unbooted old new now end older xs from honest c (inl was) =
       let b = from c was in (b.0, (b.0, [], b.1, inl refl, sym (append-nil b.0)), (b.0, b.2, inl refl), b.3)
   unbooted old new now end older xs from honest c (inr (s, reads, found)) =
-      let b = from (look old).reads (lawful old honest).reads_now in
-      let same = same_state s (after_all start b.0) (look old).reads reads b.3 in
+      let b = from (view old).reads (lawful old honest).reads_now in
+      let same = same_state s (after_all start b.0) (view old).reads reads b.3 in
       (b.0, (b.0, [], b.1, inl refl, sym (append-nil b.0)), (b.0, b.2, inl refl), subst (λ (t : State). FoundAs t c) same found)
 
   -- or with its boot
   may_boot : (old new : D) (now : ℕ) (end : Option OpenError) (older : List (Sitting D)) (xs : List Seen)
-      → ((d : Image) → (look old).now d → BackedBy older xs d) → (look old).honest → MayBoot end
-      → (c : Image) → StartsLike (look old) now c → BackedBy (InOpening old new now end ∷ older) (Opening now end ∷ xs) c
+      → ((d : Image) → (view old).now d → BackedBy older xs d) → (view old).honest → MayBoot end
+      → (c : Image) → StartsLike (view old) now c → BackedBy (InOpening old new now end ∷ older) (Opening now end ∷ xs) c
   may_boot old new now end older xs from honest may c (inl like) = unbooted old new now end older xs from honest c like
   may_boot old new now end older xs from honest may c (inr (s, reads, inl found)) =
       unbooted old new now end older xs from honest c (inr (s, reads, found))
   may_boot old new now end older xs from honest may c (inr (s, reads, inr found)) =
-      let b = from (look old).reads (lawful old honest).reads_now in
-      let same = same_state s (after_all start b.0) (look old).reads reads b.3 in (
+      let b = from (view old).reads (lawful old honest).reads_now in
+      let same = same_state s (after_all start b.0) (view old).reads reads b.3 in (
         b.0 ++ boots (after_all start b.0) now,
         (b.0, boots (after_all start b.0) now, b.1, inr (may, refl), refl),
         (b.0, b.2, inr (may, refl)),
-        subst (λ (t : State). FoundAs t c) (sym (after_boots look law once lawful start b.0 s now same)) found,
+        subst (λ (t : State). FoundAs t c) (sym (after_boots view law once lawful start b.0 s now same)) found,
       )
 
   -- by how it ended
   in_opening : (old new : D) (now : ℕ) (end : Option OpenError) (older : List (Sitting D)) (xs : List Seen)
-      → ((d : Image) → (look old).now d → BackedBy older xs d) → (look new).honest → (look old).honest
-      → EndsOpening (look old) (look new) now end → (c : Image) → (look new).since (look old).clock c
+      → ((d : Image) → (view old).now d → BackedBy older xs d) → (view new).honest → (view old).honest
+      → EndsOpening (view old) (view new) now end → (c : Image) → (view new).since (view old).clock c
       → BackedBy (InOpening old new now end ∷ older) (Opening now end ∷ xs) c
   in_opening old new now None older xs from honest was ends c left =
       may_boot old new now None older xs from was (tt {0}) c (ends.did.crash.from_start honest c left)
@@ -84,33 +84,33 @@ module _ {D : Type 0} (look : D → View) (law : JournalLemmas) (once : OneFindi
       unbooted old new now (Some why.Full) older xs from was c ((ends.unbooted (λ none. none)).from_start honest c left)
 
   -- an executor as it was opened
-  opened_so : (x : Service D) (s : Serves look x) (t : State) → x.opened.state ≡ booted t x.now
+  opened_so : (x : Service D) (s : Serves view x) (t : State) → x.opened.state ≡ booted t x.now
       → due_in x.opened ≡ due_at x.opened.state (moment t x.now)
       → machine_of x.opened ≡ opened_on t x.now x.opened.refuses
   opened_so x s t state due = same_machine (machine_of x.opened) (opened_on t x.now x.opened.refuses) s.opens.over.is_open state
       (due ∙ ap (λ (u : State). due_at u (moment t x.now)) state) refl
 
   -- the observations of an incarnation
-  abbrev view_of : (x : Service D) → Serves look x → SeenService
+  abbrev view_of : (x : Service D) → Serves view x → SeenService
   view_of x s = record {
     now = x.now;
     ran = s.was_running;
     queued = s.was_queued;
-    calls = labels look x.opened s.calls x.returned x.done s.returns;
-    begun = labels look x.returned s.begun x.last x.under_way s.goes_on;
+    calls = labels view x.opened s.calls x.returned x.done s.returns;
+    begun = labels view x.returned s.begun x.last x.under_way s.goes_on;
     stop = x.stop;
     refuses = x.opened.refuses;
   }
 
   -- the answers in it are those that its children gave
-  answers_are : (x : Service D) (s : Serves look x) → answers_in (view_of x s) ≡ (followed_by x.done x.under_way).entries
+  answers_are : (x : Service D) (s : Serves view x) → answers_in (view_of x s) ≡ (followed_by x.done x.under_way).entries
   answers_are x s =
       flat_map-append (λ (l : Label). l.answers) (view_of x s).calls (view_of x s).begun
-      ∙ ap₂ (λ (a b : List Entry). a ++ b) (labels_answers look s.calls x.opened x.returned x.done s.returns)
-      (labels_answers look s.begun x.returned x.last x.under_way s.goes_on)
+      ∙ ap₂ (λ (a b : List Entry). a ++ b) (labels_answers view s.calls x.opened x.returned x.done s.returns)
+      (labels_answers view s.begun x.returned x.last x.under_way s.goes_on)
 
   -- the events that remain of it
-  remains_so : (x : Service D) (s : Serves look x) (t : State) (p : List Event) → s.was_running ≡ interrupted t (moment t x.now)
+  remains_so : (x : Service D) (s : Serves view x) (t : State) (p : List Event) → s.was_running ≡ interrupted t (moment t x.now)
       → s.was_queued ≡ dropped t (moment t x.now) → machine_of x.opened ≡ opened_on t x.now x.opened.refuses → Survives x p → Remains (view_of x s) t p
   remains_so x s t p ran queued machine holds = record {
     ran = ran;
@@ -120,34 +120,34 @@ module _ {D : Type 0} (look : D → View) (law : JournalLemmas) (once : OneFindi
     done = x.done;
     under_way = x.under_way;
     moves = subst (λ (m : Machine). MovesAll (view_of x s).calls m (machine_of x.returned) x.done) machine
-        (moves_all look s.calls x.opened x.returned x.done s.returns);
-    goes_on = moves_all look s.begun x.returned x.last x.under_way s.goes_on;
+        (moves_all view s.calls x.opened x.returned x.done s.returns);
+    goes_on = moves_all view s.begun x.returned x.last x.under_way s.goes_on;
     holds = (holds.later, holds.others, holds.acknowledged, holds.prefix);
     begins = λ run clock asked le.
         holds.begins run clock (subst (λ (es : List Entry). Asked es run clock) (answers_are x s) asked) le;
   }
 
   -- every pair that a history may leave is found after a behaviour of the machine
-  pub life_runs : (life : List (Sitting D)) (is : IsLife look start life) (c : Image) → LifeLeaves look start life c
-      → BackedBy life (seen look start life is) c
+  pub life_runs : (life : List (Sitting D)) (is : IsLife view start life) (c : Image) → LifeLeaves view start life c
+      → BackedBy life (seen view start life is) c
   life_runs [] is c left = ([], refl, refl, left.0)
   life_runs (InOpening old new now end ∷ older) (is, from, ends, honest) c left =
-      in_opening old new now end older (seen look start older is) (λ d d_now. life_runs older is d (from d d_now))
+      in_opening old new now end older (seen view start older is) (λ d d_now. life_runs older is d (from d d_now))
       honest (ends.did.crash.passed.honest honest) ends c left
   life_runs (InService x ∷ older) (is, from, serves, honest) c left =
-      let whole = whole_leads look law lawful x serves in
+      let whole = whole_leads view law lawful x serves in
       let opened_honest = whole.crash.crash.passed.honest honest in
       let was_honest = serves.opens.did.crash.passed.honest opened_honest in
       let starts = serves.opens.starts opened_honest in
-      let before = life_runs older is (look x.disk).reads (from (look x.disk).reads (lawful x.disk was_honest).reads_now) in
+      let before = life_runs older is (view x.disk).reads (from (view x.disk).reads (lawful x.disk was_honest).reads_now) in
       let ys = before.0 in
       let s = after_all start ys in
-      let same = same_state starts.state s (look x.disk).reads starts.found before.3 in
-      let holds = service_holds look law lawful x serves honest c left in
+      let same = same_state starts.state s (view x.disk).reads starts.found before.3 in
+      let holds = service_holds view law lawful x serves honest c left in
       let b = boots s x.now in
       let p = holds.0 in
       let opened : after_all start (ys ++ b) ≡ x.opened.state =
-      after_boots look law once lawful start ys starts.state x.now same ∙ sym starts.boot in
+      after_boots view law once lawful start ys starts.state x.now same ∙ sym starts.boot in
       let all : after_all start (ys ++ (b ++ p)) ≡ after_all x.opened.state p =
       ap (λ (l : List Event). after_all start l) (sym (append_assoc ys b p)) ∙ after_all-append start (ys ++ b) p
       ∙ ap (λ (t : State). after_all t p) opened in

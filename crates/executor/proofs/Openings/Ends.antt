@@ -153,40 +153,40 @@ unready once old new p s from to now fault opens is = elim is.either [
       (λ h. own_children once old.reads s from (opens.found h) kids.1))
 ]
 
-module _ {D : Type 0} (look : D → View) (law : JournalLemmas) (once : (c : Image) (s t : State) → FoundAs s c → FoundAs t c → s ≡ t)
+module _ {D : Type 0} (view : D → View) (law : JournalLemmas) (once : (c : Image) (s t : State) → FoundAs s c → FoundAs t c → s ≡ t)
     (old : View) (from : ChildrenView) (now : ℕ) (mid : ExecutorView D) (over : IsOver from mid)
-    (opens : OpensAt mid.place mid.state old (look mid.disk)) where
+    (opens : OpensAt mid.place mid.state old (view mid.disk)) where
   -- memory was refused before the boot
-  pub report_refused : (d : D) (to : ChildrenView) → d ≡ mid.disk → to ≡ mid.children → NotOpened old (look d) from to now why.Memory
+  pub report_refused : (d : D) (to : ChildrenView) → d ≡ mid.disk → to ≡ mid.children → NotOpened old (view d) from to now why.Memory
   report_refused d to same kids =
-      subst (λ (x : D). NotOpened old (look x) from to now why.Memory) (sym same)
-      (unready_memory old (look mid.disk) from to now opens.opens (kids ∙ over.children)
+      subst (λ (x : D). NotOpened old (view x) from to now why.Memory) (sym same)
+      (unready_memory old (view mid.disk) from to now opens.opens (kids ∙ over.children)
       (λ h. record { state = mid.state; found = opens.found h; earlier = over.rising })
       (λ h. own_children once old.reads mid.state from (opens.found h) over.rising))
 
   module _ (new : LedgerView D) where
-    both_passed : Passed (look mid.disk) (look new.disk) → Passed old (look new.disk)
-    both_passed passed = passed_on old (look mid.disk) (look new.disk) opens.opens.crash.passed passed
+    both_passed : Passed (view mid.disk) (view new.disk) → Passed old (view new.disk)
+    both_passed passed = passed_on old (view mid.disk) (view new.disk) opens.opens.crash.passed passed
 
-    did_both : (crash : CrashesTo (look mid.disk) (look new.disk) (BootsFrom mid.state now))
-        → (HasReserve mid.place.tail mid.state → CrashesTo (look mid.disk) (look new.disk) PairHasReserve) → (any_busy mid.state ≡ false → new ≡ ledger_of mid)
-        → OpensDisk old (look new.disk) now
+    did_both : (crash : CrashesTo (view mid.disk) (view new.disk) (BootsFrom mid.state now))
+        → (HasReserve mid.place.tail mid.state → CrashesTo (view mid.disk) (view new.disk) PairHasReserve) → (any_busy mid.state ≡ false → new ≡ ledger_of mid)
+        → OpensDisk old (view new.disk) now
     did_both crash reserved quiet = record {
-      crash = joined old (look mid.disk) (look new.disk) (StartsLike old now)
-          (opens_like old (look mid.disk) now opens.opens.crash)
-          (weakened (look mid.disk) (look new.disk) (BootsFrom mid.state now) (StartsLike old now)
+      crash = joined old (view mid.disk) (view new.disk) (StartsLike old now)
+          (opens_like old (view mid.disk) now opens.opens.crash)
+          (weakened (view mid.disk) (view new.disk) (BootsFrom mid.state now) (StartsLike old now)
           (λ h c left. inr (mid.state, opens.found (crash.passed.honest h), left)) crash);
       reserved =
-          λ all. joined old (look mid.disk) (look new.disk) PairHasReserve (opens.opens.reserved all)
-          (supposed (look mid.disk) (look new.disk) PairHasReserve crash.passed (λ h. reserved (opens.room all (crash.passed.honest h))));
+          λ all. joined old (view mid.disk) (view new.disk) PairHasReserve (opens.opens.reserved all)
+          (supposed (view mid.disk) (view new.disk) PairHasReserve crash.passed (λ h. reserved (opens.room all (crash.passed.honest h))));
       unwritten = λ is_quiet. rests is_quiet (any_busy mid.state) refl;
     }
       where
-        rests : (old.honest → IsQuiet old.reads) → (b : Bool) → any_busy mid.state ≡ b → Unwritten old (look new.disk)
+        rests : (old.honest → IsQuiet old.reads) → (b : Bool) → any_busy mid.state ≡ b → Unwritten old (view new.disk)
         rests is_quiet false not =
-            subst (λ (x : LedgerView D). Unwritten old (look x.disk)) (sym (quiet not)) (opens.opens.unwritten (λ h. (is_quiet h).0))
+            subst (λ (x : LedgerView D). Unwritten old (view x.disk)) (sym (quiet not)) (opens.opens.unwritten (λ h. (is_quiet h).0))
         rests is_quiet true busy =
-            let never : (look new.disk).honest → ⊥ = λ h. let mid_h = crash.passed.honest h in
+            let never : (view new.disk).honest → ⊥ = λ h. let mid_h = crash.passed.honest h in
             true≢false (sym busy ∙ (is_quiet (opens.opens.crash.passed.honest mid_h)).1 mid.state (opens.found mid_h)) in
             record {
               passed = both_passed crash.passed;
@@ -196,22 +196,22 @@ module _ {D : Type 0} (look : D → View) (law : JournalLemmas) (once : (c : Ima
             }
 
     -- where nothing was written, the same is found
-    holds_before : (look mid.disk).honest → (IsToWrite old.reads → ⊥) → JournalAt mid.place mid.state old.reads
+    holds_before : (view mid.disk).honest → (IsToWrite old.reads → ⊥) → JournalAt mid.place mid.state old.reads
     holds_before h unwritten =
         subst (λ (c : Image). JournalAt mid.place mid.state c) ((opens.opens.unwritten (λ _. unwritten)).same h) (opens.settled h).holds
 
     -- and nothing was written where a boot does not fit
-    lacks_unwritten : (look mid.disk).honest → LacksBoot mid.place.tail mid.state → IsToWrite old.reads → ⊥
+    lacks_unwritten : (view mid.disk).honest → LacksBoot mid.place.tail mid.state → IsToWrite old.reads → ⊥
     lacks_unwritten h lacks to_write =
         let room = opens.anew h to_write lacks.0 in
         let short = lacks.1 in
         omega (arith, room, short)
 
-    lacks_reserve : (look mid.disk).honest → LacksBoot mid.place.tail mid.state → LacksReserve old.reads
+    lacks_reserve : (view mid.disk).honest → LacksBoot mid.place.tail mid.state → LacksReserve old.reads
     lacks_reserve h lacks =
         record { place = mid.place; state = mid.state; holds = holds_before h (lacks_unwritten h lacks); lacks = lacks }
 
-    lacks_boot : (look mid.disk).honest → LacksReserve old.reads → LacksBoot mid.place.tail mid.state
+    lacks_boot : (view mid.disk).honest → LacksReserve old.reads → LacksBoot mid.place.tail mid.state
     lacks_boot h lacks =
         let same = once old.reads lacks.state mid.state (law.found lacks.place lacks.state old.reads lacks.holds) (opens.found h) in
         let here = subst (λ (s : State). LacksBoot lacks.place.tail s) same lacks.lacks in
@@ -219,14 +219,14 @@ module _ {D : Type 0} (look : D → View) (law : JournalLemmas) (once : (c : Ima
         (holds_before h (law.stays lacks.place lacks.state old.reads lacks.holds))).0 in
         subst (λ p. LacksBoot p.tail mid.state) at here
 
-    pub opened : (x : Unit) (final : ExecutorView D) (ran queued : List Notice) → Boots look now (ledger_of mid) new (Ok x) → final.is_open ≡ true
+    pub opened : (x : Unit) (final : ExecutorView D) (ran queued : List Notice) → Boots view now (ledger_of mid) new (Ok x) → final.is_open ≡ true
         → final.state ≡ new.state → final.disk ≡ new.disk → final.place ≡ new.place
         → due_in final ≡ due_at final.state (moment mid.state now) → final.children ≡ mid.children → final.reported ≡ mid.reported
         → final.opening_report ≡ record { interrupted = ran; dropped = queued }
         → ran ≡ interrupted mid.state (moment mid.state now) → queued ≡ dropped mid.state (moment mid.state now)
-        → Admits from.site final.site → Opened look old from now final ran queued
+        → Admits from.site final.site → Opened view old from now final ran queued
     opened x final ran queued boots is_open state disk place due kids sends remembers ran_is queued_is admits =
-        let honest_new : (look final.disk).honest → (look new.disk).honest = λ h. subst (λ (d : D). (look d).honest) disk h in
+        let honest_new : (view final.disk).honest → (view new.disk).honest = λ h. subst (λ (d : D). (view d).honest) disk h in
         let done : final.state ≡ booted mid.state now = state ∙ boots.state in
         let quiet_now : any_busy final.state ≡ false = ap any_busy done ∙ boot_quiet mid.state (moment mid.state now) in
         let given : final.children ≡ given_up from = kids ∙ over.children in
@@ -236,9 +236,9 @@ module _ {D : Type 0} (look : D → View) (law : JournalLemmas) (once : (c : Ima
           over = record { is_open = is_open; children = given; reported = sends ∙ over.reported; rising = rising };
           sound = λ _. record {
             journal =
-                λ h. subst (λ p. IsSettled p final.state (look final.disk)) (sym place)
-                (subst (λ (s : State). IsSettled new.place s (look final.disk)) (sym state)
-                (subst (λ (d : D). IsSettled new.place new.state (look d)) (sym disk) (boots.settled (honest_new h))));
+                λ h. subst (λ p. IsSettled p final.state (view final.disk)) (sym place)
+                (subst (λ (s : State). IsSettled new.place s (view final.disk)) (sym state)
+                (subst (λ (d : D). IsSettled new.place new.state (view d)) (sym disk) (boots.settled (honest_new h))));
             room = λ busy. absurd (true≢false (sym busy ∙ quiet_now));
             matched = subst (λ (v : ChildrenView). ChildrenMatch final.state v) (sym given) (quiet_matched final.state from quiet_now rising);
             admits = subst (λ (v : ChildrenView). Admits v.site final.site) (sym given) admits;
@@ -252,15 +252,15 @@ module _ {D : Type 0} (look : D → View) (law : JournalLemmas) (once : (c : Ima
             queued = queued_is;
           };
           opening_report = remembers;
-          did = subst (λ (d : D). OpensDisk old (look d) now) (sym disk) (did_both boots.crash boots.reserved boots.quiet);
+          did = subst (λ (d : D). OpensDisk old (view d) now) (sym disk) (did_both boots.crash boots.reserved boots.quiet);
           fits = λ h lacks. let bad = boots.full.1 (lacks_boot (boots.crash.passed.honest (honest_new h)) lacks) in let none : ⊥ = cc in
               none;
         }
 
     -- the boot failed
-    pub boot_refused : (fault : SlotFault) (d : D) (to : ChildrenView) → Boots look now (ledger_of mid) new (Err fault) → d ≡ new.disk
-        → to ≡ mid.children → NotOpened old (look d) from to now (reported_slot fault)
-    boot_refused fault d to boots same kids = subst (λ (x : D). NotOpened old (look x) from to now (reported_slot fault)) (sym same) (record {
+    pub boot_refused : (fault : SlotFault) (d : D) (to : ChildrenView) → Boots view now (ledger_of mid) new (Err fault) → d ≡ new.disk
+        → to ≡ mid.children → NotOpened old (view d) from to now (reported_slot fault)
+    boot_refused fault d to boots same kids = subst (λ (x : D). NotOpened old (view x) from to now (reported_slot fault)) (sym same) (record {
       did = did_both boots.crash boots.reserved boots.quiet;
       children = inr (kids ∙ over.children);
       full_given_up = λ is. kids ∙ over.children;
@@ -283,14 +283,14 @@ module _ {D : Type 0} (look : D → View) (law : JournalLemmas) (once : (c : Ima
       not_foreign = λ h _. own h;
       spared = λ h other. absurd (own h other);
       foreign_unbooted = λ other.
-          supposed old (look new.disk) (OpensLike old) (both_passed boots.crash.passed) (λ h. absurd (own h (other h)));
+          supposed old (view new.disk) (OpensLike old) (both_passed boots.crash.passed) (λ h. absurd (own h (other h)));
       unwritten = λ not_disk not.
-          subst (λ (x : D). Unwritten old (look x)) (sym (boots.unwritten (ap Err (else_full fault not_disk)))) (opens.opens.unwritten not);
+          subst (λ (x : D). Unwritten old (view x)) (sym (boots.unwritten (ap Err (else_full fault not_disk)))) (opens.opens.unwritten not);
       unbooted = λ not_disk.
-          subst (λ (x : D). CrashesTo old (look x) (OpensLike old)) (sym (boots.unwritten (ap Err (else_full fault not_disk)))) opens.opens.crash;
+          subst (λ (x : D). CrashesTo old (view x) (OpensLike old)) (sym (boots.unwritten (ap Err (else_full fault not_disk)))) opens.opens.crash;
     })
       where
-        own : (look new.disk).honest → IsForeign old.reads from → ⊥
+        own : (view new.disk).honest → IsForeign old.reads from → ⊥
         own h = own_children once old.reads mid.state from (opens.found (boots.crash.passed.honest h)) over.rising
 
         no_damage : (f : SlotFault) (x : Damage) → reported_slot f ≡ why.Damaged x → ⊥

@@ -30,35 +30,35 @@ use Rattle.executor.specs.TurnCalls.{MakesTurn}
 use Rattle.executor.specs.declared.session.InputOf.TheVariants as input
 
 -- one more input
-pub session_more : {D : Type 0} (look : D → View) (x y z : ExecutorView D) (is : List Input) (rs : List Reply) (i : Input) (r : Reply)
+pub session_more : {D : Type 0} (view : D → View) (x y z : ExecutorView D) (is : List Input) (rs : List Reply) (i : Input) (r : Reply)
     (a b : Effects)
-    → Session look x is rs y a → TakesWhile y.is_open look i y z r b → Session look x (is ++ i ∷ []) (rs ++ r ∷ []) z (followed_by a b)
-session_more look x y z [] [] i r a b s t = (
+    → Session view x is rs y a → TakesWhile y.is_open view i y z r b → Session view x (is ++ i ∷ []) (rs ++ r ∷ []) z (followed_by a b)
+session_more view x y z [] [] i r a b s t = (
   z,
   b,
   no_effects,
-  subst (λ (v : ExecutorView _). TakesWhile v.is_open look i v z r b) s.0 t,
+  subst (λ (v : ExecutorView _). TakesWhile v.is_open view i v z r b) s.0 t,
   (refl, refl),
   ap (λ (d : Effects). followed_by d b) s.1
       ∙ sym (followed_by_none b),
 )
-session_more look x y z [] (q ∷ rs) i r a b s t = absurd s
-session_more look x y z (j ∷ is) [] i r a b s t = absurd s
-session_more look x y z (j ∷ is) (q ∷ rs) i r a b (m, first, later, takes, rest, does) t = (
+session_more view x y z [] (q ∷ rs) i r a b s t = absurd s
+session_more view x y z (j ∷ is) [] i r a b s t = absurd s
+session_more view x y z (j ∷ is) (q ∷ rs) i r a b (m, first, later, takes, rest, does) t = (
   m,
   first,
   followed_by later b,
   takes,
-  session_more look m y z is rs i r later b rest t,
+  session_more view m y z is rs i r later b rest t,
   ap (λ (d : Effects). followed_by d b) does
       ∙ sym (followed_by_assoc first later b),
 )
 
 -- without effects a crash leaves what it might have left before
-pub leads_start : {D : Type 0} (look : D → View) (law : JournalLemmas) (x : ExecutorView D) → ((look x.disk).honest → Lawful (look x.disk))
-    → ExecutorKeeps look x → Leads look x x no_effects
-leads_start look law x lawful keeps = record {
-  crash = settled_leaves law x.place x.state look x.disk lawful keeps.journal keeps.room;
+pub leads_start : {D : Type 0} (view : D → View) (law : JournalLemmas) (x : ExecutorView D) → ((view x.disk).honest → Lawful (view x.disk))
+    → ExecutorKeeps view x → Leads view x x no_effects
+leads_start view law x lawful keeps = record {
+  crash = settled_leaves law x.place x.state view x.disk lawful keeps.journal keeps.room;
   book = sym (append-nil x.children.book);
   log = sym (append-nil x.children.log);
   site = refl;
@@ -69,31 +69,31 @@ leads_start look law x lawful keeps = record {
 
 -- The effects of calls, even where the children's book was emptied: from one view of an executor to another. An executor that a disk
 -- fault closed may have gone on to a state that is not recorded.
-pub record Onward {D : Type 0} (look : D → View) (old new : ExecutorView D) (effects : Effects) : Type 0 where
-  pub crash : Leaves look old.disk new.disk old.state (after_all old.state effects.events) effects
+pub record Onward {D : Type 0} (view : D → View) (old new : ExecutorView D) (effects : Effects) : Type 0 where
+  pub crash : Leaves view old.disk new.disk old.state (after_all old.state effects.events) effects
   pub state : new.is_open ≡ true → new.state ≡ after_all old.state effects.events
   pub whole : new.is_open ≡ true → effects.pending ≡ []
 
 -- where the state is the one that is recorded
-pub onward_at : {D : Type 0} (look : D → View) (x y : ExecutorView D) (d : Effects)
-    → Leaves look x.disk y.disk x.state y.state d → (y.is_open ≡ true → d.pending ≡ []) → Onward look x y d
-onward_at look x y d leaves whole = record {
-  crash = subst (λ (t : State). Leaves look x.disk y.disk x.state t d) leaves.state leaves;
+pub onward_at : {D : Type 0} (view : D → View) (x y : ExecutorView D) (d : Effects)
+    → Leaves view x.disk y.disk x.state y.state d → (y.is_open ≡ true → d.pending ≡ []) → Onward view x y d
+onward_at view x y d leaves whole = record {
+  crash = subst (λ (t : State). Leaves view x.disk y.disk x.state t d) leaves.state leaves;
   state = λ _. leaves.state;
   whole = whole;
 }
 
-pub onward : {D : Type 0} (look : D → View) (x y : ExecutorView D) (d : Effects) → Leads look x y d → Onward look x y d
-onward look x y d leads = onward_at look x y d leads.crash leads.whole
+pub onward : {D : Type 0} (view : D → View) (x y : ExecutorView D) (d : Effects) → Leads view x y d → Onward view x y d
+onward view x y d leads = onward_at view x y d leads.crash leads.whole
 
 -- where calls left it open, its state is the recorded one
-pub leads_still : {D : Type 0} (look : D → View) (w x : ExecutorView D) (a : Effects) → ((look x.disk).honest → Lawful (look x.disk))
-    → x.is_open ≡ true → Onward look w x a → Leads look x x no_effects
-leads_still look w x a lawful is_open so_far = record {
-  crash = no_call look x.disk x.state lawful
-      (settles look w.disk x.disk w.state x.state a (so_far.whole is_open)
-      (subst (λ (s : State). Leaves look w.disk x.disk w.state s a) (sym (so_far.state is_open)) so_far.crash))
-      (started (look x.disk) PairHasReserve (left_now (look w.disk) (look x.disk) PairHasReserve so_far.crash.reserved lawful) lawful);
+pub leads_still : {D : Type 0} (view : D → View) (w x : ExecutorView D) (a : Effects) → ((view x.disk).honest → Lawful (view x.disk))
+    → x.is_open ≡ true → Onward view w x a → Leads view x x no_effects
+leads_still view w x a lawful is_open so_far = record {
+  crash = no_call view x.disk x.state lawful
+      (settles view w.disk x.disk w.state x.state a (so_far.whole is_open)
+      (subst (λ (s : State). Leaves view w.disk x.disk w.state s a) (sym (so_far.state is_open)) so_far.crash))
+      (started (view x.disk) PairHasReserve (left_now (view w.disk) (view x.disk) PairHasReserve so_far.crash.reserved lawful) lawful);
   book = sym (append-nil x.children.book);
   log = sym (append-nil x.children.log);
   site = refl;
@@ -106,11 +106,11 @@ no_pending : (e : Event) (reply : Reply) → (reply ≡ Refused Disk → ⊥) �
 no_pending e (Refused Disk) not_disk = absurd (not_disk refl)
 no_pending e reply not_disk = refl
 
-leads_command : {D : Type 0} (look : D → View) (x y : ExecutorView D) (r : Result Event Refusal) (reply : Reply) → Leads look x x no_effects
-    → Obeys look r (ledger_of x) (ledger_of y) reply → OnlyLedgerChanges x y → ((y.is_open ≡ false) ↔ (reply ≡ Refused Disk)) → Leads look x y (command_effects r reply)
-leads_command look x y (Err refusal) reply still obeys beside closes =
-    subst (λ (z : ExecutorView _). Leads look x z no_effects) (sym (same_view x y obeys.1 beside)) still
-leads_command look x y (Ok e) reply still records beside closes = record {
+leads_command : {D : Type 0} (view : D → View) (x y : ExecutorView D) (r : Result Event Refusal) (reply : Reply) → Leads view x x no_effects
+    → Obeys view r (ledger_of x) (ledger_of y) reply → OnlyLedgerChanges x y → ((y.is_open ≡ false) ↔ (reply ≡ Refused Disk)) → Leads view x y (command_effects r reply)
+leads_command view x y (Err refusal) reply still obeys beside closes =
+    subst (λ (z : ExecutorView _). Leads view x z no_effects) (sym (same_view x y obeys.1 beside)) still
+leads_command view x y (Ok e) reply still records beside closes = record {
   crash = records.crash;
   book = ap (λ (c : ChildrenView). c.book) beside.children ∙ sym (append-nil x.children.book);
   log = ap (λ (c : ChildrenView). c.log) beside.children ∙ sym (append-nil x.children.log);
@@ -120,19 +120,19 @@ leads_command look x y (Ok e) reply still records beside closes = record {
   whole = λ is_open. no_pending e reply (λ disk. absurd (true≢false (sym is_open ∙ closes.1 disk)));
 }
 
-leads_request : {D : Type 0} (look : D → View) (now : ℕ) (request : Request) (x y : ExecutorView D) (reply : Reply) → Leads look x x no_effects
-    → ServesOpen look now request x y reply → ((y.is_open ≡ false) ↔ (reply ≡ Refused Disk))
-    → Leads look x y (request_effects x.state now request reply)
-leads_request look now (asked.Question question) x y reply still serves closes =
-    subst (λ (z : ExecutorView _). Leads look x z no_effects) (sym serves.1) still
-leads_request look now (asked.Command command) x y reply still serves closes =
-    leads_command look x y (event_of x.state now command) reply still serves.0 serves.1 closes
+leads_request : {D : Type 0} (view : D → View) (now : ℕ) (request : Request) (x y : ExecutorView D) (reply : Reply) → Leads view x x no_effects
+    → ServesOpen view now request x y reply → ((y.is_open ≡ false) ↔ (reply ≡ Refused Disk))
+    → Leads view x y (request_effects x.state now request reply)
+leads_request view now (asked.Question question) x y reply still serves closes =
+    subst (λ (z : ExecutorView _). Leads view x z no_effects) (sym serves.1) still
+leads_request view now (asked.Command command) x y reply still serves closes =
+    leads_command view x y (event_of x.state now command) reply still serves.0 serves.1 closes
 
 -- the effects of a turn of any kind
-pub leads_turn : {D : Type 0} {kind : TurnKind} {most : ℕ} (look : D → View) (now : ℕ) (x y : ExecutorView D) (end : TurnEnd)
-    (takes : MakesTurn kind most look now x y end)
-    → Leads look x y takes.turns.effects
-leads_turn look now x y end takes = record {
+pub leads_turn : {D : Type 0} {kind : TurnKind} {most : ℕ} (view : D → View) (now : ℕ) (x y : ExecutorView D) (end : TurnEnd)
+    (takes : MakesTurn kind most view now x y end)
+    → Leads view x y takes.turns.effects
+leads_turn view now x y end takes = record {
   crash = takes.turns.crash;
   book = takes.turns.book;
   log = takes.turns.log;
@@ -143,39 +143,39 @@ leads_turn look now x y end takes = record {
 }
 
 -- the effects of one input
-pub leads_open : {D : Type 0} (look : D → View) (i : Input) (x y : ExecutorView D) (reply : Reply) (d : Effects) → Leads look x x no_effects
-    → TakesOpen look i x y reply d → Leads look x y d
-leads_open look (input.Request now request) x y reply d still takes =
-    subst (λ (e : Effects). Leads look x y e) (sym takes.does)
-    (leads_request look now request x y reply still takes.serves takes.closes)
-leads_open look (input.Turn now) x y reply d still takes =
-    subst (λ (e : Effects). Leads look x y e) (sym takes.does) (leads_turn look now x y takes.end takes.takes)
+pub leads_open : {D : Type 0} (view : D → View) (i : Input) (x y : ExecutorView D) (reply : Reply) (d : Effects) → Leads view x x no_effects
+    → TakesOpen view i x y reply d → Leads view x y d
+leads_open view (input.Request now request) x y reply d still takes =
+    subst (λ (e : Effects). Leads view x y e) (sym takes.does)
+    (leads_request view now request x y reply still takes.serves takes.closes)
+leads_open view (input.Turn now) x y reply d still takes =
+    subst (λ (e : Effects). Leads view x y e) (sym takes.does) (leads_turn view now x y takes.end takes.takes)
 
 -- calls after others
-pub onward_joined : {D : Type 0} (look : D → View) (x y z : ExecutorView D) (a b : Effects) → y.is_open ≡ true → Onward look x y a
-    → Onward look y z b → Onward look x z (followed_by a b)
-onward_joined look x y z a b is_open one two =
+pub onward_joined : {D : Type 0} (view : D → View) (x y z : ExecutorView D) (a b : Effects) → y.is_open ≡ true → Onward view x y a
+    → Onward view y z b → Onward view x z (followed_by a b)
+onward_joined view x y z a b is_open one two =
     let nothing : a.pending ≡ [] = one.whole is_open in
     let t : State = after_all x.state a.events in
     let all : after_all x.state (a.events ++ b.events) ≡ after_all t b.events = after_all-append x.state a.events b.events in
-    let later : Leaves look y.disk z.disk t (after_all t b.events) b =
-    subst (λ (s : State). Leaves look y.disk z.disk s (after_all s b.events) b) (one.state is_open) two.crash in
+    let later : Leaves view y.disk z.disk t (after_all t b.events) b =
+    subst (λ (s : State). Leaves view y.disk z.disk s (after_all s b.events) b) (one.state is_open) two.crash in
     record {
       crash =
-          subst (λ (s : State). Leaves look x.disk z.disk x.state s (followed_by a b)) (sym all)
-          (joined look x.disk y.disk z.disk x.state t (after_all t b.events) a b nothing one.crash later);
+          subst (λ (s : State). Leaves view x.disk z.disk x.state s (followed_by a b)) (sym all)
+          (joined view x.disk y.disk z.disk x.state t (after_all t b.events) a b nothing one.crash later);
       state = λ still. two.state still ∙ ap (λ (s : State). after_all s b.events) (one.state is_open) ∙ sym all;
       whole = λ still. ap (λ (p : List Event). p ++ b.pending) nothing ∙ two.whole still;
     }
 
-leads_joined : {D : Type 0} (look : D → View) (x y z : ExecutorView D) (a b : Effects) → y.is_open ≡ true → Leads look x y a → Leads look y z b
-    → Leads look x z (followed_by a b)
-leads_joined look x y z a b is_open one two =
-    let on = onward_joined look x y z a b is_open (onward look x y a one) (onward look y z b two) in
+leads_joined : {D : Type 0} (view : D → View) (x y z : ExecutorView D) (a b : Effects) → y.is_open ≡ true → Leads view x y a → Leads view y z b
+    → Leads view x z (followed_by a b)
+leads_joined view x y z a b is_open one two =
+    let on = onward_joined view x y z a b is_open (onward view x y a one) (onward view y z b two) in
     let reached : z.state ≡ after_all x.state (a.events ++ b.events) = two.crash.state
     ∙ ap (λ (s : State). after_all s b.events) one.crash.state ∙ sym (after_all-append x.state a.events b.events) in record {
       crash =
-          subst (λ (s : State). Leaves look x.disk z.disk x.state s (followed_by a b)) (sym reached) on.crash;
+          subst (λ (s : State). Leaves view x.disk z.disk x.state s (followed_by a b)) (sym reached) on.crash;
       book = two.book ∙ ap (λ (es : List Entry). es ++ b.entries) one.book ∙ append_assoc x.children.book a.entries b.entries;
       log = two.log ∙ ap (λ (es : List Entry). es ++ b.entries) one.log ∙ append_assoc x.children.log a.entries b.entries;
       site = two.site ∙ one.site;
@@ -188,27 +188,27 @@ leads_joined look x y z a b is_open one two =
     }
 
 -- one more input, taken while the executor is open or closed
-leads_more : {D : Type 0} (o : Bool) (look : D → View) (i : Input) (x y z : ExecutorView D) (reply : Reply) (a b : Effects) → y.is_open ≡ o
-    → ((look y.disk).honest → Lawful (look y.disk)) → TakesWhile o look i y z reply b → Leads look x y a
-    → Leads look x z (followed_by a b)
-leads_more true look i x y z reply a b is_open lawful takes leads =
-    leads_joined look x y z a b is_open leads
-    (leads_open look i y z reply b (leads_still look x y a lawful is_open (onward look x y a leads)) takes)
-leads_more false look i x y z reply a b closed lawful takes leads =
-    subst (λ (w : ExecutorView _). Leads look x w (followed_by a b)) (sym takes.1)
-    (subst (λ (d : Effects). Leads look x y (followed_by a d)) (sym takes.2) (subst (λ (d : Effects). Leads look x y d) (sym (followed_by_none a)) leads))
+leads_more : {D : Type 0} (o : Bool) (view : D → View) (i : Input) (x y z : ExecutorView D) (reply : Reply) (a b : Effects) → y.is_open ≡ o
+    → ((view y.disk).honest → Lawful (view y.disk)) → TakesWhile o view i y z reply b → Leads view x y a
+    → Leads view x z (followed_by a b)
+leads_more true view i x y z reply a b is_open lawful takes leads =
+    leads_joined view x y z a b is_open leads
+    (leads_open view i y z reply b (leads_still view x y a lawful is_open (onward view x y a leads)) takes)
+leads_more false view i x y z reply a b closed lawful takes leads =
+    subst (λ (w : ExecutorView _). Leads view x w (followed_by a b)) (sym takes.1)
+    (subst (λ (d : Effects). Leads view x y (followed_by a d)) (sym takes.2) (subst (λ (d : Effects). Leads view x y d) (sym (followed_by_none a)) leads))
 
 -- one more input, in a session
-pub sits_more : {D : Type 0} (look : D → View) (x y z : ExecutorView D) (is : List Input) (rs : List Reply) (i : Input) (r : Reply) (b : Effects)
-    → ((look y.disk).honest → Lawful (look y.disk)) → Sits look is x y rs → TakesWhile y.is_open look i y z r b
-    → Sits look (is ++ i ∷ []) x z (rs ++ r ∷ [])
-sits_more look x y z is rs i r b lawful sits takes = record {
+pub sits_more : {D : Type 0} (view : D → View) (x y z : ExecutorView D) (is : List Input) (rs : List Reply) (i : Input) (r : Reply) (b : Effects)
+    → ((view y.disk).honest → Lawful (view y.disk)) → Sits view is x y rs → TakesWhile y.is_open view i y z r b
+    → Sits view (is ++ i ∷ []) x z (rs ++ r ∷ [])
+sits_more view x y z is rs i r b lawful sits takes = record {
   effects = followed_by sits.effects b;
-  each = session_more look x y z is rs i r sits.effects b sits.each takes;
-  leads = λ was_open. leads_more y.is_open look i x y z r sits.effects b refl lawful takes (sits.leads was_open);
+  each = session_more view x y z is rs i r sits.effects b sits.each takes;
+  leads = λ was_open. leads_more y.is_open view i x y z r sits.effects b refl lawful takes (sits.leads was_open);
 }
 
-pub sits_start : {D : Type 0} (look : D → View) (law : JournalLemmas) (x : ExecutorView D) → ((look x.disk).honest → Lawful (look x.disk))
-    → ExecutorInvariant look x → Sits look [] x x []
-sits_start look law x lawful sound =
-    record { effects = no_effects; each = (refl, refl); leads = λ is_open. leads_start look law x lawful (sound is_open) }
+pub sits_start : {D : Type 0} (view : D → View) (law : JournalLemmas) (x : ExecutorView D) → ((view x.disk).honest → Lawful (view x.disk))
+    → ExecutorInvariant view x → Sits view [] x x []
+sits_start view law x lawful sound =
+    record { effects = no_effects; each = (refl, refl); leads = λ is_open. leads_start view law x lawful (sound is_open) }

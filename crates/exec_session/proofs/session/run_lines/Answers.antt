@@ -18,13 +18,13 @@ answer_lines-ended-requires g c =
 
 pub returns-clause-ends : goal.returns-clause-ends
 returns-clause-ends g c =
-    let look = g.D.Disk.view in
+    let view = g.D.Disk.view in
     let source = g.M.Metadata.gives c.args.context.now.metadata.now in
     let rules = rules_of c.args.context.now in
     let (edge, executor) = c.into_parts-edge.result in record {
       last = executor;
       ends =
-          ends_from look source rules _ _ _ _ _ c.answer_lines-ended.result c.new-session.ensures.place
+          ends_from view source rules _ _ _ _ _ c.answer_lines-ended.result c.new-session.ensures.place
           (sym c.into_parts-edge.ensures.parts) c.answer_lines-ended.ensures.ends;
       disk_is = c.close-disk.ensures.disk ∙ ap (λ (x : ExecutorView g.row.D.Denot). x.disk) c.abandon.ensures.abandoned;
       children_are = c.close-disk.ensures.children ∙ ap (λ (x : ExecutorView g.row.D.Denot). x.children) c.abandon.ensures.abandoned;
@@ -32,16 +32,16 @@ returns-clause-ends g c =
 
 pub returns-clause-reported : goal.returns-clause-reported
 returns-clause-reported g c =
-    let look = g.D.Disk.view in
+    let view = g.D.Disk.view in
     let (edge, executor) = c.into_parts-edge.result in
     let last = c.abandon.new.self in
-    let holds = all_still_hold look edge.client_view executor last c.into_parts-edge.ensures.holds
-    (abandoned_holds look executor last c.abandon.ensures.abandoned) in
+    let holds = all_still_hold view edge.client_view executor last c.into_parts-edge.ensures.holds
+    (abandoned_holds view executor last c.abandon.ensures.abandoned) in
     let opened = ap (λ (w : Position _). w.at.client_view.opened) c.into_parts-edge.ensures.parts ∙ c.answer_lines-ended.ensures.lasts.opened
     ∙ ap (λ (w : Position _). w.at.client_view.opened) c.new-session.ensures.place ∙ c.requires.fresh.0 in
     record {
       last = last;
-      holds = subst (λ (o : ExecutorView g.row.D.Denot). IsBacked look o last edge.client_view.reported) opened holds;
+      holds = subst (λ (o : ExecutorView g.row.D.Denot). IsBacked view o last edge.client_view.reported) opened holds;
       is_closed = ap (λ (x : ExecutorView g.row.D.Denot). x.is_open) c.abandon.ensures.abandoned;
       disk_is = c.close-disk.ensures.disk;
       children_are = c.close-disk.ensures.children;

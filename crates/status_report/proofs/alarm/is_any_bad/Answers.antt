@@ -7,12 +7,12 @@ pub loop-place-preserved : goal.loop-place-preserved
 loop-place-preserved c =
     let s = c.args.state.now.state in
     let lt : c.loop-place.place < length s.resources = search rules in
-    let is : asks c.args.look.now (entry_at s c.loop-place.place) ≡ false = search rules in
-    none_more c.args.look.now s c.loop-place.place lt c.loop-place.invariant is
+    let is : asks c.args.options.now (entry_at s c.loop-place.place) ≡ false = search rules in
+    none_more c.args.options.now s c.loop-place.place lt c.loop-place.invariant is
 
 pub returns-then-is_bad_at : goal.returns-then-is_bad_at
 returns-then-is_bad_at c =
     let s = c.args.state.now.state in
     let lt : c.loop-place.place < length s.resources = search rules in
-    let is : asks c.args.look.now (entry_at s c.loop-place.place) ≡ true = search rules in
-    sym (one_bad c.args.look.now s c.loop-place.place lt is)
+    let is : asks c.args.options.now (entry_at s c.loop-place.place) ≡ true = search rules in
+    sym (one_bad c.args.options.now s c.loop-place.place lt is)

@@ -4,4 +4,4 @@ use Rattle.status_report.specs.Failed.{failed_id}
 use Rattle.status_report.proofs.failures.failed_ids.Given as goal
 
 abbrev pub invariant-loop-place : goal.invariant-loop-place
-invariant-loop-place l = l.ids.items ≡ flat_map (failed_id l.look) (take l.place l.state.state.resources)
+invariant-loop-place l = l.ids.items ≡ flat_map (failed_id l.options) (take l.place l.state.state.resources)

@@ -9,7 +9,7 @@ use Rattle.status_report.proofs.lines.add_actions.Goals as goal
 
 pub returns-clause-text : goal.returns-clause-text
 returns-clause-text c =
-    let f = action_line c.args.look.now (at_place c.args.state.now.state c.args.place).history.ended in
+    let f = action_line c.args.options.now (at_place c.args.state.now.state c.args.place).history.ended in
     let from_7 : List Action = action.ValidateAll ∷ [] in
     let from_6 : List Action = action.ReloadAgent ∷ from_7 in
     let from_5 : List Action = action.Stop ∷ from_6 in

@@ -8,9 +8,9 @@ use Rattle.status_report.proofs.lines.add_history.Goals as goal
 
 pub returns-in_ok-add-in-Some-clause-text : goal.returns-in_ok-add-in-Some-clause-text
 returns-in_ok-add-in-Some-clause-text c =
-    let look = c.args.look.now in
+    let options = c.args.options.now in
     let es = (at_place c.args.state.now.state c.args.place).history.ended in
     let heading = codes "\n  history, oldest first:" in
-    let lines = flat_map (past_line look) es in
-    let parts : history_text look es ≡ heading ++ lines = rw c.in-Some.is refl in
-    headed c.add_results.result heading lines (history_text look es) _ _ _ parts c.in_ok-add-in-Some.ensures.text c.add_results.ensures.text
+    let lines = flat_map (past_line options) es in
+    let parts : history_text options es ≡ heading ++ lines = rw c.in-Some.is refl in
+    headed c.add_results.result heading lines (history_text options es) _ _ _ parts c.in_ok-add-in-Some.ensures.text c.add_results.ensures.text

@@ -7,4 +7,4 @@ use Rattle.status_report.proofs.lines.add_monitors.Given as goal
 abbrev pub invariant-loop-at : goal.invariant-loop-at
 invariant-loop-at l =
     let r = at_place l.state.state l.place in
-    l.text.items ≡ l.fn.text.items ++ flat_map (monitor_line l.look r.history.ended) (take l.at r.recurring)
+    l.text.items ≡ l.fn.text.items ++ flat_map (monitor_line l.options r.history.ended) (take l.at r.recurring)

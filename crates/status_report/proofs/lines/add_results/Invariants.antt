@@ -6,4 +6,4 @@ use Rattle.status_report.proofs.lines.add_results.Given as goal
 
 abbrev pub invariant-loop-at : goal.invariant-loop-at
 invariant-loop-at l =
-    l.text.items ≡ l.fn.text.items ++ flat_map (past_line l.look) (take l.at (at_place l.state.state l.place).history.ended)
+    l.text.items ≡ l.fn.text.items ++ flat_map (past_line l.options) (take l.at (at_place l.state.state l.place).history.ended)

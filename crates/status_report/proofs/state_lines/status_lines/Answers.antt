@@ -8,17 +8,17 @@ use Rattle.status_report.proofs.state_lines.status_lines.Goals.{then-asks_for+in
 
 pub loop-place-preserved : goal.loop-place-preserved
 loop-place-preserved c =
-    let look = c.args.look.now in
+    let options = c.args.options.now in
     let s = c.args.state.now.state in
     let lt : c.loop-place.place < length s.resources = search rules in
     elim c.if-asks_for.branch [
       | then-asks_for+in_ok-line+in_ok-append w ↦
-          let asked : is_asked_for look (entry_at s c.loop-place.place).0 ≡ true = search rules in
+          let asked : is_asked_for options (entry_at s c.loop-place.place).0 ≡ true = search rules in
           let same : c.if-asks_for.lines.items ≡ c.loop-place.lines.items ++ w.in_ok-line.line.items = search rules in
           same ∙ ap (λ t. t ++ w.in_ok-line.line.items) c.loop-place.invariant
-          ∙ lines_of_more (status_line look) look s c.loop-place.place w.in_ok-line.line.items lt asked w.in_ok-line.ensures.line
+          ∙ lines_of_more (status_line options) options s c.loop-place.place w.in_ok-line.line.items lt asked w.in_ok-line.ensures.line
       | else-asks_for w ↦
-          let asked : is_asked_for look (entry_at s c.loop-place.place).0 ≡ false = search rules in
+          let asked : is_asked_for options (entry_at s c.loop-place.place).0 ≡ false = search rules in
           let same : c.if-asks_for.lines.items ≡ c.loop-place.lines.items = search rules in
-          same ∙ c.loop-place.invariant ∙ lines_of_same (status_line look) look s c.loop-place.place lt asked
+          same ∙ c.loop-place.invariant ∙ lines_of_same (status_line options) options s c.loop-place.place lt asked
     ]

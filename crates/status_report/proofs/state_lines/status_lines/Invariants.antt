@@ -5,4 +5,4 @@ use Rattle.status_report.specs.Tables.{asked_entries}
 use Rattle.status_report.proofs.state_lines.status_lines.Given as goal
 
 abbrev pub invariant-loop-place : goal.invariant-loop-place
-invariant-loop-place l = l.lines.items ≡ flat_map (status_line l.look) (asked_entries l.look (take l.place l.state.state.resources))
+invariant-loop-place l = l.lines.items ≡ flat_map (status_line l.options) (asked_entries l.options (take l.place l.state.state.resources))

@@ -7,18 +7,18 @@ use Rattle.status_report.proofs.table.rows_of.Goals.{then-asks_for+in_ok-row+in_
 
 pub loop-place-preserved : goal.loop-place-preserved
 loop-place-preserved c =
-    let look = c.args.look.now in
+    let options = c.args.options.now in
     let s = c.args.state.now.state in
     let lt : c.loop-place.place < length s.resources = search rules in
     elim c.if-asks_for.branch [
       | then-asks_for+in_ok-row+in_ok-append w ↦
-          let asked : is_asked_for look (entry_at s c.loop-place.place).0 ≡ true = search rules in
+          let asked : is_asked_for options (entry_at s c.loop-place.place).0 ≡ true = search rules in
           let same : c.if-asks_for.rows.items ≡ c.loop-place.rows.items ++ w.in_ok-row.row.items = search rules in
-          subst (λ text. AreRows look (asked_entries look (take (c.loop-place.place + 1) s.resources)) text) (sym same)
-          (asked_more look s c.loop-place.place c.loop-place.rows.items w.in_ok-row.row.items lt asked c.loop-place.invariant w.in_ok-row.ensures.row)
+          subst (λ text. AreRows options (asked_entries options (take (c.loop-place.place + 1) s.resources)) text) (sym same)
+          (asked_more options s c.loop-place.place c.loop-place.rows.items w.in_ok-row.row.items lt asked c.loop-place.invariant w.in_ok-row.ensures.row)
       | else-asks_for w ↦
-          let asked : is_asked_for look (entry_at s c.loop-place.place).0 ≡ false = search rules in
+          let asked : is_asked_for options (entry_at s c.loop-place.place).0 ≡ false = search rules in
           let same : c.if-asks_for.rows.items ≡ c.loop-place.rows.items = search rules in
-          subst (λ text. AreRows look (asked_entries look (take (c.loop-place.place + 1) s.resources)) text) (sym same)
-          (asked_same look s c.loop-place.place c.loop-place.rows.items lt asked c.loop-place.invariant)
+          subst (λ text. AreRows options (asked_entries options (take (c.loop-place.place + 1) s.resources)) text) (sym same)
+          (asked_same options s c.loop-place.place c.loop-place.rows.items lt asked c.loop-place.invariant)
     ]

@@ -5,6 +5,6 @@ use Rattle.status_report.proofs.table.table_of.Goals as goal
 
 pub returns-then-is_some-clause-none : goal.returns-then-is_some-clause-none
 returns-then-is_some-clause-none c =
-    let es = asked_entries c.args.look.now c.args.state.now.state.resources in
+    let es = asked_entries c.args.options.now c.args.state.now.state.resources in
     let empty : length c.in_ok-rows.rows.items ≡ 0 = search rules in
-    no_rows c.args.look.now es c.in_ok-rows.rows.items empty c.in_ok-rows.ensures.rows
+    no_rows c.args.options.now es c.in_ok-rows.rows.items empty c.in_ok-rows.ensures.rows

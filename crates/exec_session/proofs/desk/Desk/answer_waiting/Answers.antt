@@ -1,6 +1,6 @@
 use Rattle.std.proofs.Common.{◌≡◌, arith, rules, subst, sym}
 use Rattle.exec_session.specs.Held.{held_lines}
-use Rattle.exec_session.specs.Looks.{HasLooked, misses_in, reads_in}
+use Rattle.exec_session.specs.Polls.{HasPolled, misses_in, reads_in}
 use Rattle.exec_session.specs.Rules.{rules_of}
 use Rattle.exec_session.specs.Waiting.{ComesOrEnds, midway}
 use Rattle.exec_session.specs.declared.lines.Taken.TheVariants.{More}
@@ -13,8 +13,8 @@ answer_rest-requires g c =
     let it = c.take_waiting.new.self in
     record { «open» = open_while c.args.context.now.way (midway it.worker it.pending) c.in_ok-waited.ensures.waits }
 
-pub returns-clause-looked : goal.returns-clause-looked
-returns-clause-looked g c =
+pub returns-clause-polled : goal.returns-clause-polled
+returns-clause-polled g c =
     let old = c.args.self.now.worker.at in
     let it = c.take_waiting.new.self in
     let new = c.answer_rest.new.self in
@@ -24,8 +24,8 @@ returns-clause-looked g c =
     looked_later (held_lines new.pending.held) (reads_in old.events) (misses_in old.events) (reads_in old.events) (misses_in old.events)
     it.worker.at.events new.worker.at.events (omega arith) (omega arith) (lasts_reads it.worker.at new.worker.at c.answer_rest.ensures.lasts)
     (lasts_misses it.worker.at new.worker.at c.answer_rest.ensures.lasts)
-    (subst (λ h. HasLooked (reads_in old.events) (misses_in old.events) (held_lines h) it.worker.at.events) (sym c.answer_rest.ensures.held)
-    (c.in_ok-waited.ensures.looked more)))
+    (subst (λ h. HasPolled (reads_in old.events) (misses_in old.events) (held_lines h) it.worker.at.events) (sym c.answer_rest.ensures.held)
+    (c.in_ok-waited.ensures.polled more)))
 
 pub returns-clause-takes : goal.returns-clause-takes
 returns-clause-takes g c = record {

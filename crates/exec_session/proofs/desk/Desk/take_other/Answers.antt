@@ -18,12 +18,12 @@ returns-then-ne g c = record {
         between = record { buffer = c.requires.between.buffer; free = c.requires.between.free };
         comes =
             λ p own most may finds.
-            let look = g.D.Disk.view in
+            let view = g.D.Disk.view in
             let source = g.M.Metadata.gives c.args.context.now.metadata.now in
             let held = rules_of c.args.context.now in
             let old = c.args.self.now in
             let new = c.answer_gathered.new in
-            step_ends look source held p own most (λ n few. may n (omega (arith, few))) (waiting old.pending.gathered) (waiting new.gathered)
+            step_ends view source held p own most (λ n few. may n (omega (arith, few))) (waiting old.pending.gathered) (waiting new.gathered)
             old.pending.held (line_bytes old.pending.buffer) c.args.found old.worker new.self c.next_step-step.result
             (open_while c.args.context.now.way (midway old.worker old.pending) c.requires.waits) finds c.in_ok-answer_gathered.ensures.answers.done
             (search (rules, c.ne.ensures, c.if-ne.true)) c.next_step-step.ensures;
@@ -40,7 +40,7 @@ returns g c = record {
         between = record { buffer = c.requires.between.buffer; free = c.requires.between.free };
         comes =
             λ p own most may finds.
-            let look = g.D.Disk.view in
+            let view = g.D.Disk.view in
             let source = g.M.Metadata.gives c.args.context.now.metadata.now in
             let held = rules_of c.args.context.now in
             let old = c.args.self.now in
@@ -48,10 +48,10 @@ returns g c = record {
             let new = c.answer_found.new.self in
             let more : c.next_step-step.result ≡ More = search (rules, c.ne.ensures, c.if-ne.false) in
             let goes_on = subst (IsTaken held.way middle.self.at.executor false) more c.next_step-step.ensures in
-            let answered = found_answered look source held p own most (λ n few. may n (omega (arith, few))) (waiting old.pending.gathered)
+            let answered = found_answered view source held p own most (λ n few. may n (omega (arith, few))) (waiting old.pending.gathered)
             c.args.found old.worker middle.self (open_while c.args.context.now.way (midway old.worker old.pending) c.requires.waits)
             c.in_ok-answer_gathered.ensures.answers.keeps.1 finds c.in_ok-answer_gathered.ensures.answers.done goes_on.1 in
-            found_taken look source held p own Failed most may (waiting middle.gathered) old.pending.held (line_bytes old.pending.buffer) c.args.found
+            found_taken view source held p own Failed most may (waiting middle.gathered) old.pending.held (line_bytes old.pending.buffer) c.args.found
             middle.self new c.in_ok-has_ended.has_ended c.next_step.result c.in_ok-answer_gathered.ensures.none c.requires.between.free
             c.requires.between.buffer c.in_ok-has_ended.ensures.keeps.1 answered c.in_ok-has_ended.ensures.takes c.next_step.ensures;
       };
@@ -85,18 +85,18 @@ returns-in_err-has_ended g c = record {
         between = record { buffer = c.requires.between.buffer; free = c.requires.between.free };
         comes =
             λ p own most may finds.
-            let look = g.D.Disk.view in
+            let view = g.D.Disk.view in
             let source = g.M.Metadata.gives c.args.context.now.metadata.now in
             let held = rules_of c.args.context.now in
             let old = c.args.self.now in
             let middle = c.answer_gathered.new in
             let more : c.next_step-step.result ≡ More = search (rules, c.ne.ensures, c.if-ne.false) in
             let goes_on = subst (IsTaken held.way middle.self.at.executor false) more c.next_step-step.ensures in
-            let answered = found_answered look source held p own most (λ n few. may n (omega (arith, few))) (waiting old.pending.gathered)
+            let answered = found_answered view source held p own most (λ n few. may n (omega (arith, few))) (waiting old.pending.gathered)
             c.args.found old.worker middle.self (open_while c.args.context.now.way (midway old.worker old.pending) c.requires.waits)
             c.in_ok-answer_gathered.ensures.answers.keeps.1 finds c.in_ok-answer_gathered.ensures.answers.done goes_on.1 in
             comes_err _ _ _ _ own _ _ c.from_residual-in_err-has_ended.result c.from_residual-in_err-has_ended.ensures.0
-            (found_breaks look source held p own most c.args.found middle.self c.answer_found.new.self.at _
+            (found_breaks view source held p own most c.args.found middle.self c.answer_found.new.self.at _
             answered c.in_err-has_ended.ensures.takes);
       };
 }

@@ -14,7 +14,7 @@ use Rattle.exec_session.proofs.desk.Desk.take_read.Goals as goal
 
 pub returns-in_default-clause-takes : goal.returns-in_default-clause-takes
 returns-in_default-clause-takes g c = λ p own most may come.
-    let look = g.D.Disk.view in
+    let view = g.D.Disk.view in
     let source = g.M.Metadata.gives c.args.context.now.metadata.now in
     let rules = rules_of c.args.context.now in
     let old = c.args.self.now in
@@ -24,14 +24,14 @@ returns-in_default-clause-takes g c = λ p own most may come.
     let kept' = line_bytes c.read.new.buffer in
     let place' = c.read.new.self in
     let mid = mid_before held c.requires.free come.left kept old.worker.left come.mid in
-    c.answer_rest.ensures.takes p own most may (come_more look source rules p own most (most + 1) commands held kept' place' (omega arith)
-    (read_part look source rules p own most commands held kept kept' old.worker place' c.requires.free c.requires.there
+    c.answer_rest.ensures.takes p own most may (come_more view source rules p own most (most + 1) commands held kept' place' (omega arith)
+    (read_part view source rules p own most commands held kept kept' old.worker place' c.requires.free c.requires.there
     c.in_ok-next.ensures.noted come
     (at_none c.in_ok-next.field-0 _ _ c.in_default.is (c.in_ok-next.ensures.gathers come.left mid))))
 
 pub returns-in-Ok-clause-takes : goal.returns-in-Ok-clause-takes
 returns-in-Ok-clause-takes g c = λ p own most may come.
-    let look = g.D.Disk.view in
+    let view = g.D.Disk.view in
     let source = g.M.Metadata.gives c.args.context.now.metadata.now in
     let rules = rules_of c.args.context.now in
     let old = c.args.self.now in
@@ -45,16 +45,16 @@ returns-in-Ok-clause-takes g c = λ p own most may come.
     let found = c.note_found.new.found in
     let reads = noted_reads g.T.Client.refuses rules.way come.left place'.left read found
     (c.found_in-found.ensures.found come.left place'.left next) c.note_found.ensures.found in
-    let finds = found_next look source rules p own most commands held kept old.worker place' found c.requires.free
+    let finds = found_next view source rules p own most commands held kept old.worker place' found c.requires.free
     c.requires.there c.in_ok-next.ensures.noted come reads in
     c.answer_rest-in-Ok.ensures.takes p own most may
-    (found_held look source rules p own most commands (Some c.in-Ok.held) (line_bytes c.clear.new.self) c.in-Ok.held found
+    (found_held view source rules p own most commands (Some c.in-Ok.held) (line_bytes c.clear.new.self) c.in-Ok.held found
     c.note_found.new.self c.in-Ok.ensures.held refl c.clear.ensures
-    (subst (λ (w : Position _). HasFound look source rules p own most commands found w) (sym c.note_found.ensures.same) finds))
+    (subst (λ (w : Position _). HasFound view source rules p own most commands found w) (sym c.note_found.ensures.same) finds))
 
 pub returns-clause-takes : goal.returns-clause-takes
 returns-clause-takes g c = λ p own most may come.
-    let look = g.D.Disk.view in
+    let view = g.D.Disk.view in
     let source = g.M.Metadata.gives c.args.context.now.metadata.now in
     let rules = rules_of c.args.context.now in
     let old = c.args.self.now in
@@ -68,17 +68,17 @@ returns-clause-takes g c = λ p own most may come.
     let found = c.note_found.new.found in
     let reads = noted_reads g.T.Client.refuses rules.way come.left place'.left read found
     (c.found_in-found.ensures.found come.left place'.left next) c.note_found.ensures.found in
-    let finds = found_next look source rules p own most commands held kept old.worker place' found c.requires.free
+    let finds = found_next view source rules p own most commands held kept old.worker place' found c.requires.free
     c.requires.there c.in_ok-next.ensures.noted come reads in
     let at_note = c.note_found.new.self in
-    let finds' = subst (λ (w : Position _). HasFound look source rules p own most commands found w) (sym c.note_found.ensures.same) finds in
+    let finds' = subst (λ (w : Position _). HasFound view source rules p own most commands found w) (sym c.note_found.ensures.same) finds in
     c.take_found.ensures.takes.comes p own most may
-    (found_looked look source rules p own most commands c.in-Err.other at_note c.has_line-has_next.new.self (Peeked c.has_line-has_next.result) (
+    (found_looked view source rules p own most commands c.in-Err.other at_note c.has_line-has_next.new.self (Peeked c.has_line-has_next.result) (
       old.worker.at.events,
       ap (λ (w : Position _). w.at.events) c.note_found.ensures.same ∙ ap (λ (s : Spot _). s.events) c.in_ok-next.ensures.noted,
     )
     c.has_line-has_next.ensures.noted
-    (subst (λ (f : Found). HasFound look source rules p own most commands f at_note) (sym c.in-Err.ensures.same) finds'))
+    (subst (λ (f : Found). HasFound view source rules p own most commands f at_note) (sym c.in-Err.ensures.same) finds'))
 
 pub returns-in_err-next-clause-takes : goal.returns-in_err-next-clause-takes
 returns-in_err-next-clause-takes g c = λ p own most may come.
@@ -108,22 +108,22 @@ pub returns-clause-reads : goal.returns-clause-reads
 returns-clause-reads g c =
     let old = c.args.self.now.worker.at in
     let read = c.note_found.new.self in
-    let looked = c.has_line-has_next.new.self in
+    let polled = c.has_line-has_next.new.self in
     let new = c.take_found.new.self.worker.at in
     let is_read = ap (λ (w : Position _). w.at) c.note_found.ensures.same ∙ c.in_ok-next.ensures.noted in
     read_then old read.at new (one_read old read.at true is_read)
-    (lasts_both read.at looked.at new (lasts_noted read looked (Peeked c.has_line-has_next.result) c.has_line-has_next.ensures.noted)
+    (lasts_both read.at polled.at new (lasts_noted read polled (Peeked c.has_line-has_next.result) c.has_line-has_next.ensures.noted)
     c.take_found.ensures.takes.lasts)
 
 pub returns-clause-lasts : goal.returns-clause-lasts
 returns-clause-lasts g c =
     let old = c.args.self.now.worker.at in
     let read = c.note_found.new.self in
-    let looked = c.has_line-has_next.new.self in
+    let polled = c.has_line-has_next.new.self in
     let new = c.take_found.new.self.worker.at in
     let is_read = ap (λ (w : Position _). w.at) c.note_found.ensures.same ∙ c.in_ok-next.ensures.noted in
     lasts_both old read.at new (lasts_event old read.at (Read true) is_read)
-    (lasts_both read.at looked.at new (lasts_noted read looked (Peeked c.has_line-has_next.result) c.has_line-has_next.ensures.noted)
+    (lasts_both read.at polled.at new (lasts_noted read polled (Peeked c.has_line-has_next.result) c.has_line-has_next.ensures.noted)
     c.take_found.ensures.takes.lasts)
 
 pub returns-clause-waits : goal.returns-clause-waits

@@ -4,7 +4,7 @@ use Rattle.exec_session.specs.Gathered.{waiting}
 use Rattle.exec_session.specs.Rules.{rules_of}
 use Rattle.exec_session.specs.Waiting.{ComesOrEnds, midway}
 use Rattle.exec_session.specs.declared.lines.Taken.TheVariants.{More}
-use Rattle.exec_session.specs.Looks.{misses_in, reads_in}
+use Rattle.exec_session.specs.Polls.{misses_in, reads_in}
 use Rattle.exec_session.proofs.LastLemmas.{lasts_both, lasts_misses, lasts_reads, lasts_same}
 use Rattle.exec_session.proofs.RoundLemmas.{ends_more, lasts_looked, looked_held, looked_once, looked_read, wait_looked}
 use Rattle.exec_session.proofs.WaitLemmas.{come_more, comes_err, may_serve}
@@ -19,8 +19,8 @@ loop-reads-init g c = record {
   come = λ p own come. come;
 }
 
-pub returns-then-not-may_read-clause-looked : goal.returns-then-not-may_read-clause-looked
-returns-then-not-may_read-clause-looked g c = λ _.
+pub returns-then-not-may_read-clause-polled : goal.returns-then-not-may_read-clause-polled
+returns-then-not-may_read-clause-polled g c = λ _.
     let old = c.args.self.now in
     let it = c.loop-reads.self in
     looked_held it.pending.held (reads_in old.worker.at.events) (misses_in old.worker.at.events) c.may_read.new.worker.at.events
@@ -30,8 +30,8 @@ returns-then-not-may_read-clause-looked g c = λ _.
       c.may_read.ensures.missed c.if-not-may_read.true free,
     ))
 
-pub returns-clause-looked : goal.returns-clause-looked
-returns-clause-looked g c = λ _.
+pub returns-clause-polled : goal.returns-clause-polled
+returns-clause-polled g c = λ _.
     let old = c.args.self.now in
     let it = c.loop-reads.self in
     looked_read it.pending.held (reads_in old.worker.at.events) (misses_in old.worker.at.events) it.worker.at.events

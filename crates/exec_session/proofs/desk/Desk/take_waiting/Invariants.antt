@@ -1,5 +1,5 @@
 use Rattle.std.proofs.Common.{◌≡◌, ◌≤◌, ◌+◌}
-use Rattle.exec_session.specs.Looks.{reads_in}
+use Rattle.exec_session.specs.Polls.{reads_in}
 use Rattle.exec_session.specs.Runs.{OwnTurn}
 use Rattle.exec_session.specs.Rules.{rules_of}
 use Rattle.exec_session.specs.Spots.{Lasts, Position}

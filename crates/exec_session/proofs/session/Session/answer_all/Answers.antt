@@ -31,13 +31,13 @@ returns-in-End-clause-ends g c =
 
 pub returns-in-Closed-clause-ends : goal.returns-in-Closed-clause-ends
 returns-in-Closed-clause-ends g c =
-    let look = g.D.Disk.view in
+    let view = g.D.Disk.view in
     let source = g.M.Metadata.gives c.args.context.now.metadata.now in
     let rules = rules_of c.args.context.now in
     let p = c.args.self.now.desk.worker in
     let new = c.round.new.self in
-    fault_sent look source rules p c.send_end.new.self new.desk.worker.at new.desk.worker c.send_end.result refl
-    (subst (λ (t : Taken). GoesRound {E = Failed} look source rules p new.pause.since new.own (midway new.desk.worker new.desk.pending) (Ok t)) c.in-Closed.is
+    fault_sent view source rules p c.send_end.new.self new.desk.worker.at new.desk.worker c.send_end.result refl
+    (subst (λ (t : Taken). GoesRound {E = Failed} view source rules p new.pause.since new.own (midway new.desk.worker new.desk.pending) (Ok t)) c.in-Closed.is
     (c.in_ok-round.ensures.rounds.goes p c.loop-rounds.invariant.come))
     c.send_end.ensures.sends
 
@@ -59,13 +59,13 @@ leave-requires g c =
 
 pub returns-in-Leaves-clause-ends : goal.returns-in-Leaves-clause-ends
 returns-in-Leaves-clause-ends g c =
-    let look = g.D.Disk.view in
+    let view = g.D.Disk.view in
     let source = g.M.Metadata.gives c.args.context.now.metadata.now in
     let rules = rules_of c.args.context.now in
     let p = c.args.self.now.desk.worker in
     let new = c.round.new.self in
-    left_so look source rules p c.leave.new.self new.desk.worker.at new.desk.worker c.leave.result refl
-    (subst (λ (t : Taken). GoesRound {E = Failed} look source rules p new.pause.since new.own (midway new.desk.worker new.desk.pending) (Ok t)) c.in-Leaves.is
+    left_so view source rules p c.leave.new.self new.desk.worker.at new.desk.worker c.leave.result refl
+    (subst (λ (t : Taken). GoesRound {E = Failed} view source rules p new.pause.since new.own (midway new.desk.worker new.desk.pending) (Ok t)) c.in-Leaves.is
     (c.in_ok-round.ensures.rounds.goes p c.loop-rounds.invariant.come))
     c.leave.ensures.leaves
 

@@ -56,14 +56,14 @@ returns-then-is_leaving g c = record {
       (λ p come.
       let old = c.args.self.now in
       let new = c.answer_round.new.self in
-      let look = g.D.Disk.view in
+      let view = g.D.Disk.view in
       let source = g.M.Metadata.gives c.args.context.now.metadata.now in
       let held = rules_of c.args.context.now in
       let more : c.in_ok-taken.taken ≡ More = search (rules, c.ne.ensures, c.if-ne.false) in
-      let so_far = subst (ComesOrEnds look source held p come.own 64 (midway new.worker new.pending)) more
+      let so_far = subst (ComesOrEnds view source held p come.own 64 (midway new.worker new.pending)) more
       (c.in_ok-taken.ensures.takes.comes p come.own
-      (round_begins look source held p old.pause.since old.own (midway old.desk.worker old.desk.pending) c.requires.way come)) in
-      come_leave look source held p come.own c.requires.way 64 (waiting new.pending.gathered) new.pending.held
+      (round_begins view source held p old.pause.since old.own (midway old.desk.worker old.desk.pending) c.requires.way come)) in
+      come_leave view source held p come.own c.requires.way 64 (waiting new.pending.gathered) new.pending.held
       (line_bytes new.pending.buffer) new.worker (c.in_ok-taken.ensures.none more) (c.is_leaving.ensures.leaves c.if-is_leaving.true) so_far);
 }
 
@@ -76,20 +76,20 @@ returns-in_err-end g c = record {
       let old = c.args.self.now in
       let it = c.answer_round.new.self in
       let new = c.make_own_turn.new.self in
-      let look = g.D.Disk.view in
+      let view = g.D.Disk.view in
       let source = g.M.Metadata.gives c.args.context.now.metadata.now in
       let held = rules_of c.args.context.now in
       let more : c.in_ok-taken.taken ≡ More = search (rules, c.ne.ensures, c.if-ne.false) in
-      let so_far = subst (ComesOrEnds look source held p come.own 64 (midway it.worker it.pending)) more
+      let so_far = subst (ComesOrEnds view source held p come.own 64 (midway it.worker it.pending)) more
       (c.in_ok-taken.ensures.takes.comes p come.own
-      (round_begins look source held p old.pause.since old.own (midway old.desk.worker old.desk.pending) c.requires.way come)) in
-      turn_breaks look source held p come.own c.requires.way 64 (waiting it.pending.gathered) it.pending.held
+      (round_begins view source held p old.pause.since old.own (midway old.desk.worker old.desk.pending) c.requires.way come)) in
+      turn_breaks view source held p come.own c.requires.way 64 (waiting it.pending.gathered) it.pending.held
       (line_bytes it.pending.buffer) it.worker new.at (c.in_ok-taken.ensures.none more) (
         c.is_leaving.ensures.rests c.if-is_leaving.false,
         looked_since come.own old.pause.since old.own (held_lines old.desk.pending.held) (held_lines it.pending.held) old.desk.worker.at it.worker.at come.since
-            (c.in_ok-taken.ensures.looked more),
+            (c.in_ok-taken.ensures.polled more),
       ) so_far
-      (subst (λ (e : TurnEnd). OwnTurnBreaks look held e it.worker.at new.at) (sym come.since.ended) c.in_err-end.ensures.made.breaks)
+      (subst (λ (e : TurnEnd). OwnTurnBreaks view held e it.worker.at new.at) (sym come.since.ended) c.in_err-end.ensures.made.breaks)
       c.in_err-end.ensures.made.cause);
 }
 
@@ -102,22 +102,22 @@ returns-then-not-is_open g c = record {
       let old = c.args.self.now in
       let it = c.answer_round.new.self in
       let new = c.make_own_turn.new.self in
-      let look = g.D.Disk.view in
+      let view = g.D.Disk.view in
       let source = g.M.Metadata.gives c.args.context.now.metadata.now in
       let held = rules_of c.args.context.now in
       let more : c.in_ok-taken.taken ≡ More = search (rules, c.ne.ensures, c.if-ne.false) in
-      let so_far = subst (ComesOrEnds look source held p come.own 64 (midway it.worker it.pending)) more
+      let so_far = subst (ComesOrEnds view source held p come.own 64 (midway it.worker it.pending)) more
       (c.in_ok-taken.ensures.takes.comes p come.own
-      (round_begins look source held p old.pause.since old.own (midway old.desk.worker old.desk.pending) c.requires.way come)) in
-      turn_closes look source held p come.own c.requires.way 64 (waiting it.pending.gathered) it.pending.held
+      (round_begins view source held p old.pause.since old.own (midway old.desk.worker old.desk.pending) c.requires.way come)) in
+      turn_closes view source held p come.own c.requires.way 64 (waiting it.pending.gathered) it.pending.held
       (line_bytes it.pending.buffer) it.worker new c.make_own_turn.new.pause.moment c.make_own_turn.new.pause.moment c.in_ok-end.end
       (c.in_ok-taken.ensures.none more) so_far (
         (
           c.is_leaving.ensures.rests c.if-is_leaving.false,
           looked_since come.own old.pause.since old.own (held_lines old.desk.pending.held) (held_lines it.pending.held) old.desk.worker.at it.worker.at come.since
-              (c.in_ok-taken.ensures.looked more),
+              (c.in_ok-taken.ensures.polled more),
         ),
-        subst (λ (e : TurnEnd). MakesOwnTurn look held e c.make_own_turn.new.pause.moment it.worker.at new.at c.in_ok-end.end)
+        subst (λ (e : TurnEnd). MakesOwnTurn view held e c.make_own_turn.new.pause.moment it.worker.at new.at c.in_ok-end.end)
             (sym come.since.ended) c.in_ok-end.ensures.made.done,
         inl (omega arith),
       ) (sym c.if-not-is_open.ensures.value));
@@ -169,7 +169,7 @@ returns-then-wait g c = record {
             let it = c.answer_round.new.self in
             let turned = c.make_own_turn.new.self in
             let end = c.in_ok-end.end in
-            let look = g.D.Disk.view in
+            let view = g.D.Disk.view in
             let source = g.M.Metadata.gives c.args.context.now.metadata.now in
             let held = rules_of c.args.context.now in
             let more : c.in_ok-taken.taken ≡ More = search (rules, c.ne.ensures, c.if-ne.false) in
@@ -177,19 +177,19 @@ returns-then-wait g c = record {
             let rests = c.is_leaving.ensures.rests c.if-is_leaving.false in
             let commands = waiting it.pending.gathered in
             let kept = line_bytes it.pending.buffer in
-            let so_far = subst (ComesOrEnds look source held p come.own 64 (midway it.worker it.pending)) more
+            let so_far = subst (ComesOrEnds view source held p come.own 64 (midway it.worker it.pending)) more
             (c.in_ok-taken.ensures.takes.comes p come.own
-            (round_begins look source held p old.pause.since old.own (midway old.desk.worker old.desk.pending) c.requires.way come)) in
+            (round_begins view source held p old.pause.since old.own (midway old.desk.worker old.desk.pending) c.requires.way come)) in
             let moment = c.make_own_turn.new.pause.moment in
             let since = c.wait.new.pause.since in
-            let made = turn_made look source held p come.own c.requires.way 64 commands it.pending.held kept it.worker turned moment since end none
+            let made = turn_made view source held p come.own c.requires.way 64 commands it.pending.held kept it.worker turned moment since end none
             c.in_ok-end.ensures.made.keeps.1 so_far (
               (
                 rests,
                 looked_since come.own old.pause.since old.own (held_lines old.desk.pending.held) (held_lines it.pending.held) old.desk.worker.at it.worker.at come.since
-                    (c.in_ok-taken.ensures.looked more),
+                    (c.in_ok-taken.ensures.polled more),
               ),
-              subst (λ (e : TurnEnd). MakesOwnTurn look held e moment it.worker.at turned.at end) (sym come.since.ended) c.in_ok-end.ensures.made.done,
+              subst (λ (e : TurnEnd). MakesOwnTurn view held e moment it.worker.at turned.at end) (sym come.since.ended) c.in_ok-end.ensures.made.done,
               quiet_later come.own turned.at.executor.children.book moment old.pause.since since come.since.quiet
                   (subst (λ (n : ℕ). IsQuietSince turned.at.executor.children.book moment n since) c.in_ok-end.ensures.since c.wait.ensures.quiet),
             )
@@ -197,9 +197,9 @@ returns-then-wait g c = record {
             let last = turned_at moment since end (held_lines it.pending.held) turned.at in
             let (m, waited, same) = c.if-wait.ensures.waits in
             let waits = subst (λ (n : ℕ). Waits since n turned m) c.if-wait.ensures.moment waited in
-            round_again look source held p moment since end turned.at (midway c.wait.new.worker it.pending)
+            round_again view source held p moment since end turned.at (midway c.wait.new.worker it.pending)
             (waits_last since moment turned c.wait.new.worker (waits_more since moment turned m c.wait.new.worker (Asked true) waits refl same))
-            (waits_come look source held p last 0 commands it.pending.held kept turned c.wait.new.worker none rests
+            (waits_come view source held p last 0 commands it.pending.held kept turned c.wait.new.worker none rests
             (waits_more since moment turned m c.wait.new.worker (Asked true) waits refl same) made);
       };
 }
@@ -228,7 +228,7 @@ returns-else-wait g c = record {
             let it = c.answer_round.new.self in
             let turned = c.make_own_turn.new.self in
             let end = c.in_ok-end.end in
-            let look = g.D.Disk.view in
+            let view = g.D.Disk.view in
             let source = g.M.Metadata.gives c.args.context.now.metadata.now in
             let held = rules_of c.args.context.now in
             let more : c.in_ok-taken.taken ≡ More = search (rules, c.ne.ensures, c.if-ne.false) in
@@ -236,19 +236,19 @@ returns-else-wait g c = record {
             let rests = c.is_leaving.ensures.rests c.if-is_leaving.false in
             let commands = waiting it.pending.gathered in
             let kept = line_bytes it.pending.buffer in
-            let so_far = subst (ComesOrEnds look source held p come.own 64 (midway it.worker it.pending)) more
+            let so_far = subst (ComesOrEnds view source held p come.own 64 (midway it.worker it.pending)) more
             (c.in_ok-taken.ensures.takes.comes p come.own
-            (round_begins look source held p old.pause.since old.own (midway old.desk.worker old.desk.pending) c.requires.way come)) in
+            (round_begins view source held p old.pause.since old.own (midway old.desk.worker old.desk.pending) c.requires.way come)) in
             let moment = c.make_own_turn.new.pause.moment in
             let since = c.wait.new.pause.since in
-            let made = turn_made look source held p come.own c.requires.way 64 commands it.pending.held kept it.worker turned moment since end none
+            let made = turn_made view source held p come.own c.requires.way 64 commands it.pending.held kept it.worker turned moment since end none
             c.in_ok-end.ensures.made.keeps.1 so_far (
               (
                 rests,
                 looked_since come.own old.pause.since old.own (held_lines old.desk.pending.held) (held_lines it.pending.held) old.desk.worker.at it.worker.at come.since
-                    (c.in_ok-taken.ensures.looked more),
+                    (c.in_ok-taken.ensures.polled more),
               ),
-              subst (λ (e : TurnEnd). MakesOwnTurn look held e moment it.worker.at turned.at end) (sym come.since.ended) c.in_ok-end.ensures.made.done,
+              subst (λ (e : TurnEnd). MakesOwnTurn view held e moment it.worker.at turned.at end) (sym come.since.ended) c.in_ok-end.ensures.made.done,
               quiet_later come.own turned.at.executor.children.book moment old.pause.since since come.since.quiet
                   (subst (λ (n : ℕ). IsQuietSince turned.at.executor.children.book moment n since) c.in_ok-end.ensures.since c.wait.ensures.quiet),
             )
@@ -256,8 +256,8 @@ returns-else-wait g c = record {
             let last = turned_at moment since end (held_lines it.pending.held) turned.at in
             let (m, waited, same) = c.if-wait.ensures.waits in
             let waits = subst (λ (n : ℕ). Waits since n turned m) c.if-wait.ensures.moment waited in
-            event_breaks look source held p last 0 commands it.pending.held kept m c.wait.new.worker.at (Asked false) refl
+            event_breaks view source held p last 0 commands it.pending.held kept m c.wait.new.worker.at (Asked false) refl
             (ap (λ (w : Position _). w.at) same)
-            (waits_come look source held p last 0 commands it.pending.held kept turned m none rests waits made);
+            (waits_come view source held p last 0 commands it.pending.held kept turned m none rests waits made);
       };
 }

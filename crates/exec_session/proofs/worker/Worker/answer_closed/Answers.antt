@@ -11,11 +11,11 @@ send_reply-requires g c =
 pub returns : goal.returns
 returns g c = record {
   answers =
-      let look = g.D.Disk.view in
+      let view = g.D.Disk.view in
       let source = g.M.Metadata.gives c.args.context.now.metadata.now in
       let p = c.args.self.now in
       let q = c.send_reply.new.self in
-      answers_step look source _ c.send_reply.result c.args.line.now c.closed_reply.result p p q (here_keeps p)
-      (λ sends_so sends_all. closed_answered look source _ sends_so c.args.line.now c.closed_reply.result p.at q.at
+      answers_step view source _ c.send_reply.result c.args.line.now c.closed_reply.result p p q (here_keeps p)
+      (λ sends_so sends_all. closed_answered view source _ sends_so c.args.line.now c.closed_reply.result p.at q.at
       c.requires.closed c.closed_reply.ensures sends_all) c.send_reply.ensures.sends;
 }

@@ -21,27 +21,27 @@ make_room-requires g c = record {
 
 pub send-requires : goal.send-requires
 send-requires g c =
-    let look = g.D.Disk.view in
+    let view = g.D.Disk.view in
     let x = c.self.inside.executor in
     let r = c.make_room.new.executor in
     let y = c.serve_gathered.new.executor in
     let is = sym c.replies.ensures in record {
       may_send =
-          may_send look c.self.inside.edge.client_view x y _ c.self.invariant
-          (subst (λ (rs : List Reply). IsBacked look x y (map answered rs)) is
-          (both_hold look x r y [] _ c.make_room.ensures.holds c.serve_gathered.ensures.holds))
+          may_send view c.self.inside.edge.client_view x y _ c.self.invariant
+          (subst (λ (rs : List Reply). IsBacked view x y (map answered rs)) is
+          (both_hold view x r y [] _ c.make_room.ensures.holds c.serve_gathered.ensures.holds))
           (subst (λ (rs : List Reply). AllByRecursion (MayAnswer y) rs) is c.serve_gathered.ensures.says);
     }
 
 pub invariant_of-self : goal.invariant_of-self
 invariant_of-self g c =
-    let look = g.D.Disk.view in
+    let view = g.D.Disk.view in
     let x = c.self.inside.executor in
     let r = c.make_room.new.executor in
     let y = c.serve_gathered.new.executor in
-    after_sent look c.self.inside.edge.client_view c.send.new.self.client_view x y _ c.self.invariant
-    (subst (λ (rs : List Reply). IsBacked look x y (map answered rs)) (sym c.replies.ensures)
-    (both_hold look x r y [] _ c.make_room.ensures.holds c.serve_gathered.ensures.holds))
+    after_sent view c.self.inside.edge.client_view c.send.new.self.client_view x y _ c.self.invariant
+    (subst (λ (rs : List Reply). IsBacked view x y (map answered rs)) (sym c.replies.ensures)
+    (both_hold view x r y [] _ c.make_room.ensures.holds c.serve_gathered.ensures.holds))
     c.send.ensures.reported
 
 pub returns-clause-answers : goal.returns-clause-answers
@@ -52,7 +52,7 @@ returns-clause-answers g c = record {
       (send_keeps c.args.context.now.form [] c.serve_gathered.new.executor c.self.inside.edge c.send.new.self (is_ok c.send.result) m
       c.self.inside.executor c.self.view_is c.send.ensures.reported.0 c.send.ensures.left c.send.ensures.noted);
   done =
-      let look = g.D.Disk.view in
+      let view = g.D.Disk.view in
       let form = c.args.context.now.form in
       let x = c.self.inside.executor in
       let e = c.self.inside.edge in
@@ -60,9 +60,9 @@ returns-clause-answers g c = record {
       let new = c.send.new.self in
       let now = c.now-moment.result in
       let commands = waiting c.args.gathered.now in
-      all_answered look _ c.send.result commands c.args.self.now.at (spot y new.client_view new.events) (some_waits _ (sym c.is_empty.ensures ∙ c.if-is_empty.false))
+      all_answered view _ c.send.result commands c.args.self.now.at (spot y new.client_view new.events) (some_waits _ (sym c.is_empty.ensures ∙ c.if-is_empty.false))
       (ok_map c.send.result _ _
-      (λ sends_all. together_heard (SendsAll form) look _ now commands x y e c.args.self.now c.now-moment.new.self (spot y new.client_view new.events) _
+      (λ sends_all. together_heard (SendsAll form) view _ now commands x y e c.args.self.now c.now-moment.new.self (spot y new.client_view new.events) _
       c.now-moment.ensures.noted c.self.view_is refl
       (record {
         middle = c.make_room.new.executor;
@@ -73,7 +73,7 @@ returns-clause-answers g c = record {
       (subst (λ (rs : List Reply). SendsAll form (spot y e.client_view e.events) (spot y new.client_view new.events) (map answered rs)) c.replies.ensures sends_all))
       (sends form _ y e new c.send.result c.send.ensures.receives c.send.ensures.noted));
   breaks =
-      let look = g.D.Disk.view in
+      let view = g.D.Disk.view in
       let form = c.args.context.now.form in
       let x = c.self.inside.executor in
       let e = c.self.inside.edge in
@@ -81,9 +81,9 @@ returns-clause-answers g c = record {
       let new = c.send.new.self in
       let now = c.now-moment.result in
       let commands = waiting c.args.gathered.now in
-      batch_broken look _ c.send.result commands c.args.self.now.at (spot y new.client_view new.events) (some_waits _ (sym c.is_empty.ensures ∙ c.if-is_empty.false))
+      batch_broken view _ c.send.result commands c.args.self.now.at (spot y new.client_view new.events) (some_waits _ (sym c.is_empty.ensures ∙ c.if-is_empty.false))
       (err_map c.send.result _ _
-      (λ sends_all. together_heard (SendsPart form) look _ now commands x y e c.args.self.now c.now-moment.new.self (spot y new.client_view new.events) _
+      (λ sends_all. together_heard (SendsPart form) view _ now commands x y e c.args.self.now c.now-moment.new.self (spot y new.client_view new.events) _
       c.now-moment.ensures.noted c.self.view_is refl
       (record {
         middle = c.make_room.new.executor;

@@ -8,13 +8,13 @@ use Rattle.exec_session.proofs.worker.Worker.answer_meta.Goals as goal
 pub returns : goal.returns
 returns g c = record {
   answers =
-      let look = g.D.Disk.view in
+      let view = g.D.Disk.view in
       let source = g.M.Metadata.gives c.args.context.now.metadata.now in
       let rules = rules_of c.args.context.now in
       let p = c.args.self.now in
       let q = c.send_reply.new.self in
       let found = Ok (line.Meta c.args.provider.now c.args.agent.now c.args.limit) in
-      answers_step look source rules c.send_reply.result found c.meta_reply.result p p q (here_keeps p)
-      (λ sends_so sends_all. open_answered look source rules sends_so found c.meta_reply.result p.at p.at q.at c.requires.«open» (c.meta_reply.ensures, refl) sends_all)
+      answers_step view source rules c.send_reply.result found c.meta_reply.result p p q (here_keeps p)
+      (λ sends_so sends_all. open_answered view source rules sends_so found c.meta_reply.result p.at p.at q.at c.requires.«open» (c.meta_reply.ensures, refl) sends_all)
       c.send_reply.ensures.sends;
 }

@@ -16,21 +16,21 @@ make_room-requires g c = record {
 
 pub send-requires : goal.send-requires
 send-requires g c =
-    let look = g.D.Disk.view in
+    let view = g.D.Disk.view in
     let x = c.self.inside.executor in
     let r = c.make_room.new.executor in
     let y = c.request_reply.new.executor in
-    let holds = both_hold look x r y [] (answered c.request_reply.result ∷ []) c.make_room.ensures.holds c.request_reply.ensures.holds in
-    record { may_send = may_send look c.self.inside.edge.client_view x y _ c.self.invariant holds c.request_reply.ensures.says }
+    let holds = both_hold view x r y [] (answered c.request_reply.result ∷ []) c.make_room.ensures.holds c.request_reply.ensures.holds in
+    record { may_send = may_send view c.self.inside.edge.client_view x y _ c.self.invariant holds c.request_reply.ensures.says }
 
 pub invariant_of-self : goal.invariant_of-self
 invariant_of-self g c =
-    let look = g.D.Disk.view in
+    let view = g.D.Disk.view in
     let x = c.self.inside.executor in
     let r = c.make_room.new.executor in
     let y = c.request_reply.new.executor in
-    let holds = both_hold look x r y [] (answered c.request_reply.result ∷ []) c.make_room.ensures.holds c.request_reply.ensures.holds in
-    after_sent look c.self.inside.edge.client_view c.send.new.self.client_view x y _ c.self.invariant holds c.send.ensures.reported
+    let holds = both_hold view x r y [] (answered c.request_reply.result ∷ []) c.make_room.ensures.holds c.request_reply.ensures.holds in
+    after_sent view c.self.inside.edge.client_view c.send.new.self.client_view x y _ c.self.invariant holds c.send.ensures.reported
 
 pub returns : goal.returns
 returns g c = record {
@@ -42,24 +42,24 @@ returns g c = record {
             (send_keeps c.args.context.now.form [] c.request_reply.new.executor c.self.inside.edge c.send.new.self (is_ok c.send.result) m
             c.self.inside.executor c.self.view_is c.send.ensures.reported.0 c.send.ensures.left c.send.ensures.noted);
         done =
-            let look = g.D.Disk.view in
+            let view = g.D.Disk.view in
             let form = c.args.context.now.form in
             let y = c.request_reply.new.executor in
             let e = c.self.inside.edge in
             let new = c.send.new.self in
             ok_map c.send.result _ _
-            (λ sends_all. request_answered look _ _ (SendsAll form) c.now-now.result c.args.request c.self.inside.executor c.make_room.new.executor y e
+            (λ sends_all. request_answered view _ _ (SendsAll form) c.now-now.result c.args.request c.self.inside.executor c.make_room.new.executor y e
             c.args.self.now c.now-now.new.self (spot y new.client_view new.events) c.request_reply.result c.now-now.ensures.noted c.self.view_is
             c.requires.«open» c.make_room.ensures.makes c.request_reply.ensures.serves c.request_reply.ensures.fails c.request_reply.ensures.closes sends_all)
             (sends form _ y e new c.send.result c.send.ensures.receives c.send.ensures.noted);
         breaks =
-            let look = g.D.Disk.view in
+            let view = g.D.Disk.view in
             let form = c.args.context.now.form in
             let y = c.request_reply.new.executor in
             let e = c.self.inside.edge in
             let new = c.send.new.self in
             err_map c.send.result _ _
-            (λ sends_all. request_answered look _ _ (SendsPart form) c.now-now.result c.args.request c.self.inside.executor c.make_room.new.executor y e
+            (λ sends_all. request_answered view _ _ (SendsPart form) c.now-now.result c.args.request c.self.inside.executor c.make_room.new.executor y e
             c.args.self.now c.now-now.new.self (spot y new.client_view new.events) c.request_reply.result c.now-now.ensures.noted c.self.view_is
             c.requires.«open» c.make_room.ensures.makes c.request_reply.ensures.serves c.request_reply.ensures.fails c.request_reply.ensures.closes sends_all)
             (sends_part form _ y e new c.send.result c.send.ensures.breaks c.send.ensures.noted);

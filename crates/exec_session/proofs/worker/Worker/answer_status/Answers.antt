@@ -19,14 +19,14 @@ send_reply-requires g c =
 pub returns : goal.returns
 returns g c = record {
   answers =
-      let look = g.D.Disk.view in
+      let view = g.D.Disk.view in
       let source = g.M.Metadata.gives c.args.context.now.metadata.now in
       let rules = rules_of c.args.context.now in
       let p = c.args.self.now in
       let q = c.send_reply.new.self in
       let reply = c.status_reply-reply.result in
       let is = subst (λ (x : ExecutorView _). IsStatusReply x reply) (ap (λ (P : Position _). P.at.executor) c.self.view_is) c.status_reply-reply.ensures.status in
-      answers_step look source rules c.send_reply.result (Ok line.Status) reply p p q (here_keeps p)
-      (λ sends_so sends_all. open_answered look source rules sends_so (Ok line.Status) reply p.at p.at q.at c.requires.«open» (is, refl) sends_all)
+      answers_step view source rules c.send_reply.result (Ok line.Status) reply p p q (here_keeps p)
+      (λ sends_so sends_all. open_answered view source rules sends_so (Ok line.Status) reply p.at p.at q.at c.requires.«open» (is, refl) sends_all)
       c.send_reply.ensures.sends;
 }

@@ -22,53 +22,53 @@ make_room-requires g c = record {
 
 pub invariant_of-self : goal.invariant_of-self
 invariant_of-self g c =
-    let look = g.D.Disk.view in
+    let view = g.D.Disk.view in
     let x = c.self.inside.executor in
     let middle = c.make_room.new.executor in
-    all_still_hold look c.self.inside.edge.client_view x middle c.self.invariant
-    (cleared_room look x c.clear_book.new.self middle c.clear_book.ensures.cleared c.make_room.ensures.holds)
+    all_still_hold view c.self.inside.edge.client_view x middle c.self.invariant
+    (cleared_room view x c.clear_book.new.self middle c.clear_book.ensures.cleared c.make_room.ensures.holds)
 
 pub send-requires : goal.send-requires
 send-requires g c =
-    let look = g.D.Disk.view in
+    let view = g.D.Disk.view in
     let is_open = sym c.if-not-make_room.ensures.value in
     let old = c.self.inside.executor in
     let middle = c.make_room.new.executor in
     let last = c.turn-end.new.self in
-    let takes = subst (λ b. TurnsWhile b look c.args.now middle last c.turn-end.result) is_open c.turn-end.ensures.turns in
-    let room = cleared_room look old c.clear_book.new.self middle c.clear_book.ensures.cleared c.make_room.ensures.holds in
-    let reported = turn_after_room look c.args.now old middle last c.turn-end.result room is_open takes in record {
+    let takes = subst (λ b. TurnsWhile b view c.args.now middle last c.turn-end.result) is_open c.turn-end.ensures.turns in
+    let room = cleared_room view old c.clear_book.new.self middle c.clear_book.ensures.cleared c.make_room.ensures.holds in
+    let reported = turn_after_room view c.args.now old middle last c.turn-end.result room is_open takes in record {
       may_send =
-          may_send look c.self.inside.edge.client_view old last _ c.self.invariant
-          (subst (λ (items : List SentItem). IsBacked look old last items) (sym c.of_executor-turn.ensures.items) reported) tt;
+          may_send view c.self.inside.edge.client_view old last _ c.self.invariant
+          (subst (λ (items : List SentItem). IsBacked view old last items) (sym c.of_executor-turn.ensures.items) reported) tt;
     }
 
 pub invariant_of-self-2 : goal.invariant_of-self-2
 invariant_of-self-2 g c =
-    let look = g.D.Disk.view in
+    let view = g.D.Disk.view in
     let is_open = sym c.if-not-make_room.ensures.value in
     let old = c.self.inside.executor in
     let middle = c.make_room.new.executor in
     let last = c.turn-end.new.self in
-    let takes = subst (λ b. TurnsWhile b look c.args.now middle last c.turn-end.result) is_open c.turn-end.ensures.turns in
-    let room = cleared_room look old c.clear_book.new.self middle c.clear_book.ensures.cleared c.make_room.ensures.holds in
-    let reported = turn_after_room look c.args.now old middle last c.turn-end.result room is_open takes in
-    after_sent look c.self.inside.edge.client_view c.send.new.self.client_view old last _ c.self.invariant
-    (subst (λ (items : List SentItem). IsBacked look old last items) (sym c.of_executor-turn.ensures.items) reported)
+    let takes = subst (λ b. TurnsWhile b view c.args.now middle last c.turn-end.result) is_open c.turn-end.ensures.turns in
+    let room = cleared_room view old c.clear_book.new.self middle c.clear_book.ensures.cleared c.make_room.ensures.holds in
+    let reported = turn_after_room view c.args.now old middle last c.turn-end.result room is_open takes in
+    after_sent view c.self.inside.edge.client_view c.send.new.self.client_view old last _ c.self.invariant
+    (subst (λ (items : List SentItem). IsBacked view old last items) (sym c.of_executor-turn.ensures.items) reported)
     c.send.ensures.reported
 
 pub invariant_of-self-in_err-send : goal.invariant_of-self-in_err-send
 invariant_of-self-in_err-send g c =
-    let look = g.D.Disk.view in
+    let view = g.D.Disk.view in
     let is_open = sym c.if-not-make_room.ensures.value in
     let old = c.self.inside.executor in
     let middle = c.make_room.new.executor in
     let last = c.turn-end.new.self in
-    let takes = subst (λ b. TurnsWhile b look c.args.now middle last c.turn-end.result) is_open c.turn-end.ensures.turns in
-    let room = cleared_room look old c.clear_book.new.self middle c.clear_book.ensures.cleared c.make_room.ensures.holds in
-    let reported = turn_after_room look c.args.now old middle last c.turn-end.result room is_open takes in
-    after_sent look c.self.inside.edge.client_view c.send.new.self.client_view old last _ c.self.invariant
-    (subst (λ (items : List SentItem). IsBacked look old last items) (sym c.of_executor-turn.ensures.items) reported)
+    let takes = subst (λ b. TurnsWhile b view c.args.now middle last c.turn-end.result) is_open c.turn-end.ensures.turns in
+    let room = cleared_room view old c.clear_book.new.self middle c.clear_book.ensures.cleared c.make_room.ensures.holds in
+    let reported = turn_after_room view c.args.now old middle last c.turn-end.result room is_open takes in
+    after_sent view c.self.inside.edge.client_view c.send.new.self.client_view old last _ c.self.invariant
+    (subst (λ (items : List SentItem). IsBacked view old last items) (sym c.of_executor-turn.ensures.items) reported)
     c.send.ensures.reported
 
 pub returns-then-not-make_room : goal.returns-then-not-make_room
@@ -93,17 +93,17 @@ returns g c = record {
             send_keeps c.args.context.now.form [] c.turn-end.new.self c.self.inside.edge c.send.new.self (is_ok c.send.result) c.args.self.now
             c.self.inside.executor c.self.view_is c.send.ensures.reported.0 c.send.ensures.left c.send.ensures.noted;
         done =
-            let look = g.D.Disk.view in
+            let view = g.D.Disk.view in
             let is_open = sym c.if-not-make_room.ensures.value in
             let e = c.self.inside.edge in
             let middle = c.make_room.new.executor in
             let last = c.turn-end.new.self in
             let new = c.send.new.self in
             let form = c.args.context.now.form in
-            turn_heard (SendsAll form) look _ c.args.now c.self.inside.executor c.clear_book.new.self middle last e c.args.self.now
+            turn_heard (SendsAll form) view _ c.args.now c.self.inside.executor c.clear_book.new.self middle last e c.args.self.now
             (spot last new.client_view new.events) c.turn-end.result c.self.view_is c.requires.shown c.clear_book.ensures.cleared
             c.make_room.ensures.makes is_open refl
-            (subst (λ b. TurnsWhile b look c.args.now middle last c.turn-end.result) is_open c.turn-end.ensures.turns)
+            (subst (λ b. TurnsWhile b view c.args.now middle last c.turn-end.result) is_open c.turn-end.ensures.turns)
             (subst (λ (items : List SentItem). SendsAll form (spot last e.client_view e.events) (spot last new.client_view new.events) items)
             c.of_executor-turn.ensures.items
             (record { executor = refl; receives = c.in_ok-send.ensures.receives; events = c.in_ok-send.ensures.noted }));
@@ -115,7 +115,7 @@ returns g c = record {
 pub returns-in_err-send : goal.returns-in_err-send
 returns-in_err-send g c = record {
   made =
-      let look = g.D.Disk.view in
+      let view = g.D.Disk.view in
       let is_open = sym c.if-not-make_room.ensures.value in
       let e = c.self.inside.edge in
       let middle = c.make_room.new.executor in
@@ -127,10 +127,10 @@ returns-in_err-send g c = record {
       c.self.inside.executor c.self.view_is c.send.ensures.reported.0 c.send.ensures.left c.send.ensures.noted
       ) (
         c.turn-end.result,
-        turn_heard (SendsPart form) look _ c.args.now c.self.inside.executor c.clear_book.new.self middle last e c.args.self.now
+        turn_heard (SendsPart form) view _ c.args.now c.self.inside.executor c.clear_book.new.self middle last e c.args.self.now
             (spot last new.client_view new.events) c.turn-end.result c.self.view_is c.requires.shown c.clear_book.ensures.cleared
             c.make_room.ensures.makes is_open refl
-            (subst (λ b. TurnsWhile b look c.args.now middle last c.turn-end.result) is_open c.turn-end.ensures.turns)
+            (subst (λ b. TurnsWhile b view c.args.now middle last c.turn-end.result) is_open c.turn-end.ensures.turns)
             (subst (λ (items : List SentItem). SendsPart form (spot last e.client_view e.events) (spot last new.client_view new.events) items)
             c.of_executor-turn.ensures.items
             (record { executor = refl; receives = c.in_err-send.ensures.breaks; events = c.in_err-send.ensures.noted })),

@@ -11,25 +11,25 @@ use Rattle.exec_session.proofs.worker.Worker.send.Goals as goal
 
 pub send-requires : goal.send-requires
 send-requires g c =
-    let look = g.D.Disk.view in
+    let view = g.D.Disk.view in
     let x = c.self.inside.executor in
     let e = c.self.inside.edge in
     let p = c.args.self.now in
     let items = sent_in c.args.what.now in record {
       may_send =
-          may_send look e.client_view x x _ c.self.invariant
-          (parts (λ (P : Position _). IsBacked look P.at.executor P.at.executor items) x e p c.self.view_is c.requires.holds)
+          may_send view e.client_view x x _ c.self.invariant
+          (parts (λ (P : Position _). IsBacked view P.at.executor P.at.executor items) x e p c.self.view_is c.requires.holds)
           (parts (λ (P : Position _). IsOfView P.at.executor c.args.what.now) x e p c.self.view_is c.requires.says);
     }
 
 pub invariant_of-self : goal.invariant_of-self
 invariant_of-self g c =
-    let look = g.D.Disk.view in
+    let view = g.D.Disk.view in
     let x = c.self.inside.executor in
     let e = c.self.inside.edge in
     let items = sent_in c.args.what.now in
-    after_sent look e.client_view c.send.new.self.client_view x x items c.self.invariant
-    (parts (λ (P : Position _). IsBacked look P.at.executor P.at.executor items) x e c.args.self.now c.self.view_is c.requires.holds)
+    after_sent view e.client_view c.send.new.self.client_view x x items c.self.invariant
+    (parts (λ (P : Position _). IsBacked view P.at.executor P.at.executor items) x e c.args.self.now c.self.view_is c.requires.holds)
     c.send.ensures.reported
 
 pub returns : goal.returns

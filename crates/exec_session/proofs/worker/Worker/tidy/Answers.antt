@@ -3,8 +3,8 @@ use Rattle.exec_session.proofs.worker.Worker.tidy.Goals as goal
 
 pub invariant_of-self : goal.invariant_of-self
 invariant_of-self g c =
-    let look = g.D.Disk.view in
+    let view = g.D.Disk.view in
     let x = c.self.inside.executor in
     let y = c.tidy_timed.new.executor in
-    all_still_hold look c.self.inside.edge.client_view x y c.self.invariant
-    (tidied_holds look x y c.tidy_timed.result c.tidy_timed.ensures.tidies)
+    all_still_hold view c.self.inside.edge.client_view x y c.self.invariant
+    (tidied_holds view x y c.tidy_timed.result c.tidy_timed.ensures.tidies)

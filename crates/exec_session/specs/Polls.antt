@@ -3,7 +3,7 @@ use Rattle.std.specs.Prelude.{◌≡◌, ◌⊎◌, ⊤, ℕ, ◌+◌, ◌<◌, 
 use Rattle.ocf_types.specs.declared.refusal.Refusal.{Refusal}
 use Rattle.exec_commands.specs.declared.line.Line.{Line}
 use Rattle.exec_trace.specs.declared.event.IoEvent.{IoEvent}
-use Rattle.exec_trace.specs.declared.event.IoEvent.TheVariants.{Looked, Peeked, Read}
+use Rattle.exec_trace.specs.declared.event.IoEvent.TheVariants.{Polled, Peeked, Read}
 use Rattle.exec_session.specs.Limits.{reads_a_turn}
 
 -- lines that were read, as this or refused, and are not answered yet
@@ -12,7 +12,7 @@ Lines = List (Result Line Refusal)
 
 -- a poll that found input
 abbrev pub states_there : IoEvent → Bool
-states_there (Looked millis ready) = ready
+states_there (Polled millis ready) = ready
 states_there (Peeked has_line) = has_line
 states_there _ = false
 
@@ -39,7 +39,7 @@ reads_of _ = 0
 
 -- 1 for a poll that found nothing
 abbrev pub misses_of : IoEvent → ℕ
-misses_of (Looked millis ready) = if ready then 0 else 1
+misses_of (Polled millis ready) = if ready then 0 else 1
 misses_of _ = 0
 
 -- the number of reads
@@ -54,6 +54,6 @@ misses_in (event ∷ events) = misses_of event + misses_in events
 
 -- A session has polled for lines since there were this many reads and this many polls that found nothing: another one found nothing, or
 -- as many reads were made as may be between two turns. While one of these lines is unanswered it need not poll.
-abbrev pub HasLooked : ℕ → ℕ → Lines → List IoEvent → Type 0
-HasLooked reads misses [] events = (misses < misses_in events) ⊎ (reads + reads_a_turn ≤ reads_in events)
-HasLooked reads misses (line ∷ lines) events = ⊤
+abbrev pub HasPolled : ℕ → ℕ → Lines → List IoEvent → Type 0
+HasPolled reads misses [] events = (misses < misses_in events) ⊎ (reads + reads_a_turn ≤ reads_in events)
+HasPolled reads misses (line ∷ lines) events = ⊤

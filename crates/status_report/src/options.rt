@@ -17,7 +17,7 @@ pub struct Reason<'a> {
 
 /// What a status is asked to show, and how.
 #[derive(Clone, Copy)]
-pub struct Look<'a> {
+pub struct StatusOptions<'a> {
     /// The moment from which ages are counted.
     pub moment: Moment,
     /// The id of the single resource to show, with its history, or `None` for all resources.
@@ -39,7 +39,7 @@ impl Reason<'_> {
     }
 }
 
-impl<'a> Look<'a> {
+impl<'a> StatusOptions<'a> {
     // The reason at this index.
     fn reason_at(&self, at: usize) -> Reason<'a>
         requires { at < length self.now.reasons.now }

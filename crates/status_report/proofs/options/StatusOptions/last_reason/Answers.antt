@@ -1,8 +1,8 @@
 use Rattle.std.proofs.Common.{sym, ◌∙◌}
 use Rattle.status_report.specs.Reasons.{is_of}
 use Rattle.resource_status.proofs.ResultLemmas.{last_no, last_yes}
-use Rattle.status_report.proofs.look.Look.last_reason.Goals as goal
-use Rattle.status_report.proofs.look.Look.last_reason.Goals.{then-is_of, else-is_of}
+use Rattle.status_report.proofs.options.StatusOptions.last_reason.Goals as goal
+use Rattle.status_report.proofs.options.StatusOptions.last_reason.Goals.{then-is_of, else-is_of}
 
 pub loop-at-preserved : goal.loop-at-preserved
 loop-at-preserved c =
