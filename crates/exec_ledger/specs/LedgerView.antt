@@ -3,8 +3,8 @@ use Rattle.std.specs.Prelude.{◌≡◌, Bool, true, false}
 use Rattle.ocf_types.specs.Due.{Due}
 use Rattle.ocf_types.specs.State.{State}
 use Rattle.disk_model.specs.View.{View}
-use Rattle.exec_journal.specs.Journal.{journal_disk, journal_place}
-use Rattle.exec_journal.specs.Place.{Place}
+use Rattle.exec_journal.specs.Journal.{journal_disk, journal_position}
+use Rattle.exec_journal.specs.Position.{Position}
 use Rattle.exec_journal.specs.Reserve.{HasReserve}
 use Rattle.exec_journal.specs.Settled.{IsSettled}
 use Rattle.exec_journal.specs.declared.journal.Journal.{Journal}
@@ -23,7 +23,7 @@ pub record LedgerView (D : Type 0) : Type 0 where
   pub state : State
   pub monitors : Monitors
   pub disk : D
-  pub place : Place
+  pub position : Position
   pub refuses : Bool
 
 -- the view of a journal and a state, open or closed, and of books
@@ -33,7 +33,7 @@ ledger_view is_open journal state = record {
   state = state.state;
   monitors = state.monitors;
   disk = journal_disk journal;
-  place = journal_place journal;
+  position = journal_position journal;
   refuses = state.refuses;
 }
 
@@ -46,12 +46,12 @@ due_in h = due_of h.monitors
 
 -- its journal is settled at its state, if its disk is honest
 abbrev pub IsOnJournal : {D : Type 0} → (D → View) → LedgerView D → Type 0
-IsOnJournal view h = (view h.disk).honest → IsSettled h.place h.state (view h.disk)
+IsOnJournal view h = (view h.disk).honest → IsSettled h.position h.state (view h.disk)
 
 -- Its journal is settled at its state, and its reserve holds the results of what runs and a boot.
 pub record LedgerKeeps {D : Type 0} (view : D → View) (h : LedgerView D) : Type 0 where
   pub journal : IsOnJournal view h
-  pub room : HasReserve h.place.tail h.state
+  pub room : HasReserve h.position.tail h.state
 
 -- the invariant: the same while it is open
 abbrev pub LedgerInvariant : {D : Type 0} → (D → View) → LedgerView D → Type 0

@@ -5,7 +5,7 @@ use Rattle.disk_model.specs.Image.{Image}
 use Rattle.disk_model.specs.View.{View}
 use Rattle.exec_journal.specs.Found.{FoundAs}
 use Rattle.exec_journal.specs.Opening.{OpensAt}
-use Rattle.exec_journal.specs.Place.{Place}
+use Rattle.exec_journal.specs.Position.{Position}
 use Rattle.exec_faults.specs.declared.fault.Fault.{Fault}
 use Rattle.exec_faults.specs.declared.fault.Fault.TheVariants as fault
 use Rattle.journal_measure.specs.RanOn.{HasCounts}
@@ -54,7 +54,7 @@ module _ {T : Type 0} (reads : Image) (now : ℕ) (old new : Option (List ℕ)) 
   writes (Err fault.ChildrenIgnored) found is_size has written = absurd written
 
 -- the same for a journal that was opened on a disk of this measure
-pub writes_opened : {T : Type 0} (now : ℕ) (old new : Option (List ℕ)) (size : Size) (counts : List (List ℕ × RunCount)) (p : Place) (s : State)
+pub writes_opened : {T : Type 0} (now : ℕ) (old new : Option (List ℕ)) (size : Size) (counts : List (List ℕ × RunCount)) (p : Position) (s : State)
     (first opened last : View) (ended : Result T Fault) → OpensAt p s first opened → (first.honest → IsSize first.reads size)
     → (first.honest → (t : State) → FoundAs t first.reads → HasCounts first.reads counts)
     → IsWritten (metrics_text now size (count_at counts) s) old new ended → last ≡ opened → last.honest → WritesAs first.reads now old new ended

@@ -11,13 +11,13 @@ use Rattle.exec_options.specs.declared.once.OnceOptions.{OnceOptions}
 use Rattle.exec_options.specs.declared.words.Wanted.{Wanted}
 use Rattle.exec_options.specs.declared.words.Wanted.TheVariants as wanted
 use Rattle.exec_options.specs.declared.options.Subcommand.{Subcommand}
-use Rattle.exec_options.specs.declared.options.JournalPlace.{JournalPlace}
-use Rattle.exec_options.specs.declared.options.JournalPlace.TheVariants.{Folder, Memory}
+use Rattle.exec_options.specs.declared.options.JournalLocation.{JournalLocation}
+use Rattle.exec_options.specs.declared.options.JournalLocation.TheVariants.{Folder, Memory}
 use Rattle.exec_options.specs.App.{default_id, default_orphans, default_path, default_root, default_tidy_at, default_timeout, ocfexec_app}
 use Rattle.exec_options.specs.Subcommands.{is_query, once_word, subcommand_word}
 
 -- the directory of a journal; `None` for one in memory
-abbrev pub folder_of : JournalPlace → Option Text
+abbrev pub folder_of : JournalLocation → Option Text
 folder_of (Folder dir) = Some dir.now
 folder_of Memory = None
 

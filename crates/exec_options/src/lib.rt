@@ -11,6 +11,6 @@ mod words;
 
 pub use fault::WordsFault;
 pub use once::OnceOptions;
-pub use options::{JournalPlace, Options, Subcommand};
+pub use options::{JournalLocation, Options, Subcommand};
 pub use texts::VERSION;
 pub use words::{Wanted, read_words};

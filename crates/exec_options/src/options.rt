@@ -53,7 +53,7 @@ impl Subcommand {
 
 /// Where the journal is kept.
 #[derive(Clone, Copy, Debug, PartialEq, Eq)]
-pub enum JournalPlace<'a> {
+pub enum JournalLocation<'a> {
     /// In the files of this directory.
     Folder(&'a str),
     /// In memory: it is lost when the program ends.
@@ -64,7 +64,7 @@ pub enum JournalPlace<'a> {
 #[derive(Clone, Copy, Debug, PartialEq, Eq)]
 pub struct Options<'a> {
     pub subcommand: Subcommand,
-    pub journal: JournalPlace<'a>,
+    pub journal: JournalLocation<'a>,
     /// Whether root also opens a journal whose directory or files other users can write.
     pub any_owner: bool,
     /// The directory of the agents, an absolute path: an agent is the file `resource.d/PROVIDER/TYPE` in it.

@@ -11,7 +11,7 @@ use crate::app::{ID, JOURNAL, ORPHANS, PATH, ROOT, TIDY_AT, TIMEOUT};
 use crate::fault::WordsFault;
 use crate::line::command_line;
 use crate::once::OnceOptions;
-use crate::options::{JournalPlace, Options, Subcommand};
+use crate::options::{JournalLocation, Options, Subcommand};
 use clap::ArgMatches;
 use growth::{Grows, vec_of};
 use log_lines::moment_begun;
@@ -55,19 +55,19 @@ fn default_folder<'a>(subcommand: Subcommand, named: Option<&'a str>) -> Option<
 }
 
 // Where the journal is kept, if the environment names the directory `named`.
-fn journal_place<'a>(
+fn journal_location<'a>(
     subcommand: Subcommand,
     named: Option<&'a str>,
     matches: &ArgMatches<'a>,
-) -> Option<JournalPlace<'a>>
+) -> Option<JournalLocation<'a>>
     ensures { option_map folder_of result
         ≡ place_in subcommand (option_map (λ s. s.now) named.entry) (rows_of (found_of matches.now)) }
 {
     match (text_of(matches, "journal"), is_set(matches, "memory")) {
-        (Some(folder), false) => Some(JournalPlace::Folder(folder)),
-        (None, true) => Some(JournalPlace::Memory),
+        (Some(folder), false) => Some(JournalLocation::Folder(folder)),
+        (None, true) => Some(JournalLocation::Memory),
         (None, false) => match default_folder(subcommand, named) {
-            Some(folder) => Some(JournalPlace::Folder(folder)),
+            Some(folder) => Some(JournalLocation::Folder(folder)),
             None => None,
         },
         (Some(_), true) => None,
@@ -219,7 +219,7 @@ fn once_of<'a>(alloc: Global, matches: &ArgMatches<'a>) -> Result<Wanted<'a>, Wo
 fn options_of<'a>(
     alloc: Global,
     subcommand: Subcommand,
-    journal: JournalPlace<'a>,
+    journal: JournalLocation<'a>,
     matches: &ArgMatches<'a>,
 ) -> Result<Options<'a>, WordsFault>
     ensures read { IfOk result (λ o. (o.subcommand ≡ subcommand) × (o.journal ≡ journal.entry)
@@ -268,7 +268,7 @@ fn journal_of<'a>(
         (rows_of (found_of matches.now))) }
     ensures memory { IfErr result (λ f. f ≡ WordsFault.Memory → IsTrue ⟦<Global as Grows>⟧.refuses) }
 {
-    let Some(journal) = journal_place(subcommand, named, matches) else {
+    let Some(journal) = journal_location(subcommand, named, matches) else {
         return Err(WordsFault::Choice);
     };
     match options_of(alloc, subcommand, journal, matches) {

@@ -7,8 +7,8 @@ use Rattle.file_disk.specs.RamDisk.{IsFresh, view_of}
 use Rattle.file_disk.specs.declared.ram.RamDisk.{RamDisk}
 use Rattle.exec_options.specs.Words.{AsksFor}
 use Rattle.exec_options.specs.declared.once.OnceOptions.{OnceOptions}
-use Rattle.exec_options.specs.declared.options.JournalPlace.{JournalPlace}
-use Rattle.exec_options.specs.declared.options.JournalPlace.TheVariants.{Memory}
+use Rattle.exec_options.specs.declared.options.JournalLocation.{JournalLocation}
+use Rattle.exec_options.specs.declared.options.JournalLocation.TheVariants.{Memory}
 use Rattle.exec_options.specs.declared.options.Options.{Options}
 use Rattle.exec_options.specs.declared.words.Wanted.{Wanted}
 use Rattle.exec_options.specs.declared.words.Wanted.TheVariants as wanted
@@ -21,12 +21,12 @@ use Rattle.exec_program.specs.Runs.{RunsOn}
 
 -- a session over a fresh disk in memory
 pub runs_in_memory : {F L A S R W H : Type 0} (refuses : Bool) (asked : Asked F L A S R W H) (tend : A → ChildrenView) (gives : S → Source)
-    (left : R → Option (List ℕ)) (contents : W → Option (List ℕ)) (view : F → View) (o : Options) (log : L) (place : JournalPlace)
+    (left : R → Option (List ℕ)) (contents : W → Option (List ℕ)) (view : F → View) (o : Options) (log : L) (place : JournalLocation)
     (disk : RamDisk Global) (ended : Result Unit Fault) → place ≡ Memory → IsFresh (record { a = []; b = [] }) disk
     → RunsOn asked tend gives left contents view_of o log disk ended → IfErr ended (HasCause refuses)
     → RunsAt refuses asked tend gives left contents view o log place ended
 runs_in_memory refuses asked tend gives left contents view o log place disk ended is fresh runs cause =
-    subst (λ (x : JournalPlace). RunsAt refuses asked tend gives left contents view o log x ended) (sym is) (disk, fresh, runs, cause)
+    subst (λ (x : JournalLocation). RunsAt refuses asked tend gives left contents view o log x ended) (sym is) (disk, fresh, runs, cause)
 
 -- an action that was run once
 pub does_once : {F L A S R W H : Type 0} (refuses : Bool) (asked : Asked F L A S R W H) (tend : A → ChildrenView) (gives : S → Source)

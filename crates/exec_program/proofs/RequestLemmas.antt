@@ -4,8 +4,8 @@ use Rattle.ocf_types.specs.State.{State}
 use Rattle.disk_model.specs.View.{View}
 use Rattle.exec_options.specs.Words.{AsksFor, folder_of}
 use Rattle.exec_options.specs.declared.once.OnceOptions.{OnceOptions}
-use Rattle.exec_options.specs.declared.options.JournalPlace.{JournalPlace}
-use Rattle.exec_options.specs.declared.options.JournalPlace.TheVariants.{Folder, Memory}
+use Rattle.exec_options.specs.declared.options.JournalLocation.{JournalLocation}
+use Rattle.exec_options.specs.declared.options.JournalLocation.TheVariants.{Folder, Memory}
 use Rattle.exec_options.specs.declared.options.Options.{Options}
 use Rattle.exec_options.specs.declared.options.Subcommand.{Subcommand}
 use Rattle.exec_options.specs.declared.words.Wanted.{Wanted}

@@ -5,9 +5,9 @@ use Rattle.ocf_types.specs.State.{State}
 use Rattle.disk_model.specs.View.{View}
 use Rattle.exec_commands.specs.declared.left.Left.{Left}
 use Rattle.exec_journal.specs.Opening.{OpensAt}
-use Rattle.exec_journal.specs.Place.{Place}
-use Rattle.exec_options.specs.declared.options.JournalPlace.{JournalPlace}
-use Rattle.exec_options.specs.declared.options.JournalPlace.TheVariants.{Folder}
+use Rattle.exec_journal.specs.Position.{Position}
+use Rattle.exec_options.specs.declared.options.JournalLocation.{JournalLocation}
+use Rattle.exec_options.specs.declared.options.JournalLocation.TheVariants.{Folder}
 use Rattle.exec_options.specs.declared.options.Options.{Options}
 use Rattle.exec_program.specs.Asked.{Asked}
 use Rattle.exec_program.specs.Starts.{site_of}
@@ -15,7 +15,7 @@ use Rattle.exec_program.specs.Waits.{WaitsAt, WaitsFor}
 
 -- a journal in a directory was read, and the program waited for what is left, at the site of the options
 pub waits_in : {F L A S R W H D : Type 0} (asked : Asked F L A S R W H) (view : D → View) (o : Options) (old under new : D) (left : List Left)
-    (place : JournalPlace) (folder : Bor (List ℕ)) (p : Place) (s : State) (site : SiteView)
+    (place : JournalLocation) (folder : Bor (List ℕ)) (p : Position) (s : State) (site : SiteView)
     → place ≡ Folder folder → OpensAt p s (view old) (view under) → new ≡ under → site ≡ site_of o
     → asked.orphans folder.now o.orphans o.leave_orphans site s (Some left) → WaitsFor asked view o old new left place
 waits_in asked view o old under new left place folder p s site is found same at waited =
@@ -23,4 +23,4 @@ waits_in asked view o old under new left place folder p s site is found same at 
     let receives : asked.orphans folder.now o.orphans o.leave_orphans (site_of o) s (Some left) =
     subst (λ (x : SiteView). asked.orphans folder.now o.orphans o.leave_orphans x s (Some left)) at waited in
     let waits : WaitsAt asked o folder.now (view old) (view new) (Some left) = record { place = p; state = s; found = reads; waited = receives } in
-    subst (λ (x : JournalPlace). WaitsFor asked view o old new left x) (sym is) (inl waits)
+    subst (λ (x : JournalLocation). WaitsFor asked view o old new left x) (sym is) (inl waits)

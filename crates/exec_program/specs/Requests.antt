@@ -5,7 +5,7 @@ use Rattle.ocf_env.specs.Places.{SiteView}
 use Rattle.ocf_types.specs.State.{State}
 use Rattle.disk_model.specs.View.{View}
 use Rattle.exec_journal.specs.Opening.{OpensAt}
-use Rattle.exec_journal.specs.Place.{Place}
+use Rattle.exec_journal.specs.Position.{Position}
 use Rattle.exec_options.specs.Faults.{IsFault}
 use Rattle.exec_options.specs.Words.{Gives, GivesOnce, folder_of}
 use Rattle.exec_options.specs.declared.fault.WordsFault.{WordsFault}
@@ -46,7 +46,7 @@ Allows {L} may asks = (r : Request L) → asks r → may r
 
 -- a state at which the journal on this disk opens
 abbrev pub IsFoundOn : {D : Type 0} → (D → View) → D → State → Type 0
-IsFoundOn {D} view disk state = (p : Place) × ((new : D) × OpensAt p state (view disk) (view new))
+IsFoundOn {D} view disk state = (p : Position) × ((new : D) × OpensAt p state (view disk) (view new))
 
 -- the same on files that were asked for, of the directory that the options name
 abbrev pub IsFoundIn : {F L A S R W H : Type 0} → Asked F L A S R W H → (F → View) → Options → State → Type 0

@@ -11,8 +11,8 @@ use Rattle.exec_commands.specs.declared.left.Left.{Left}
 use Rattle.exec_commands.specs.declared.notice.NoticeForm.{NoticeForm}
 use Rattle.exec_commands.specs.declared.notice.NoticeForm.TheVariants.{Short, Timed}
 use Rattle.exec_options.specs.declared.texts.TheConstants.{VERSION}
-use Rattle.exec_options.specs.declared.options.JournalPlace.{JournalPlace}
-use Rattle.exec_options.specs.declared.options.JournalPlace.TheVariants.{Folder, Memory}
+use Rattle.exec_options.specs.declared.options.JournalLocation.{JournalLocation}
+use Rattle.exec_options.specs.declared.options.JournalLocation.TheVariants.{Folder, Memory}
 use Rattle.exec_options.specs.declared.options.Options.{Options}
 use Rattle.exec_options.specs.declared.options.Subcommand.{Subcommand}
 use Rattle.exec_options.specs.declared.options.Subcommand.TheVariants as subcommand
@@ -36,7 +36,7 @@ way_of subcommand.Serve = way.Serve
 way_of _ = way.Run
 
 -- the directory whose journal is served; long times may pass without a call of its device
-abbrev pub served_at : Subcommand → JournalPlace → Option (List ℕ)
+abbrev pub served_at : Subcommand → JournalLocation → Option (List ℕ)
 served_at subcommand.Serve (Folder folder) = Some folder.now
 served_at _ _ = None
 
@@ -70,7 +70,7 @@ pub record IsHeldTo (o : Options) (left : List Left) (rules : Rules) : Type 0 wh
   pub tidy_at : rules.tidy_at ≡ o.tidy_at
 
 -- the executor of a journal is recorded in a directory
-abbrev pub LeavesWord : {F L A S R W H : Type 0} → Asked F L A S R W H → JournalPlace → Type 0
+abbrev pub LeavesWord : {F L A S R W H : Type 0} → Asked F L A S R W H → JournalLocation → Type 0
 LeavesWord asked (Folder folder) = asked.word folder.now
 LeavesWord asked Memory = ⊤
 

@@ -7,7 +7,7 @@ use crate::host::Host;
 use crate::limits::MOST_TURNS;
 use exec_commands::{Left, NoticeForm, Service};
 use exec_events::Events;
-use exec_options::{JournalPlace, Options, Subcommand, VERSION};
+use exec_options::{JournalLocation, Options, Subcommand, VERSION};
 use exec_session::{Pace, RunContext, Way};
 use std::alloc::Global;
 
@@ -30,7 +30,7 @@ pub fn served_folder<'a>(options: Options<'a>) -> Option<&'a str>
     ensures { option_map (λ s. s.now) result ≡ served_folder options.entry }
 {
     match (options.subcommand, options.journal) {
-        (Subcommand::Serve, JournalPlace::Folder(folder)) => Some(folder),
+        (Subcommand::Serve, JournalLocation::Folder(folder)) => Some(folder),
         _ => None,
     }
 }

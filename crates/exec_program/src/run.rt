@@ -19,7 +19,7 @@ use exec_client::JsonClient;
 use exec_events::Eventful;
 use exec_faults::Fault;
 use exec_lines::{RunClock, moment_now};
-use exec_options::{JournalPlace, Options};
+use exec_options::{JournalLocation, Options};
 use exec_session::{LineRoom, run_lines};
 use exec_trace::Edge;
 use executor::Executor;
@@ -55,7 +55,7 @@ fn leave_own_word<H: Host>(host: &H, options: Options, clock: &impl Clock)
         → H.may host.now (LeaveWord folder) }
     ensures { LeavesWord (H.asked host.now) options.entry.journal }
 {
-    if let JournalPlace::Folder(folder) = options.journal {
+    if let JournalLocation::Folder(folder) = options.journal {
         host.leave_word(folder, moment_now(clock).get());
     }
 }

@@ -9,7 +9,7 @@ use std::alloc::{AllocError, Global};
 
 // The site in options of either kind.
 #[derive(Clone, Copy)]
-struct Place<'a> {
+struct SitePaths<'a> {
     root: &'a str,
     path: &'a str,
     via: Option<&'a str>,
@@ -23,7 +23,7 @@ fn text(alloc: Global, text: &str) -> Result<Text, AllocError>
     Ok(Text::new(text_of(alloc, text)?))
 }
 
-fn site_at(alloc: Global, place: Place) -> Result<Site, AllocError>
+fn site_at(alloc: Global, place: SitePaths) -> Result<Site, AllocError>
     ensures site { IfOk result
         (λ s. s ≡ record {
           root = place.entry.root.now;
@@ -47,7 +47,7 @@ pub fn site_of(alloc: Global, options: Options) -> Result<Site, AllocError>
     ensures site { IfOk result (λ s. s ≡ site_of options.entry) }
     ensures memory { OnErr result (IsTrue ⟦<Global as Grows>⟧.refuses) }
 {
-    let place = Place {
+    let place = SitePaths {
         root: options.root,
         path: options.path,
         via: options.via,
@@ -61,7 +61,7 @@ pub fn site_of_once(alloc: Global, options: &OnceOptions) -> Result<Site, AllocE
     ensures site { IfOk result (λ s. s ≡ once_site_of options.now) }
     ensures memory { OnErr result (IsTrue ⟦<Global as Grows>⟧.refuses) }
 {
-    let place = Place {
+    let place = SitePaths {
         root: options.root,
         path: options.path,
         via: options.via,

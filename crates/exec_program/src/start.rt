@@ -7,7 +7,7 @@ ghost use Rattle.exec_program.specs.Starts.{IsEndOf, IsWrittenAs, StartEndsFor, 
 use crate::host::Host;
 use crate::run::run_agents;
 use exec_faults::Fault;
-use exec_options::{JournalPlace, Options, Subcommand, Wanted, WordsFault, read_words};
+use exec_options::{JournalLocation, Options, Subcommand, Wanted, WordsFault, read_words};
 use file_disk::RamDisk;
 use growth::Grows;
 use std::alloc::Global;
@@ -100,8 +100,8 @@ fn look<H: Host>(host: &H, options: Options) -> Result<(), Fault>
     ensures looks { Looks (H.asked host.now) options.entry options.entry.journal result }
 {
     match options.journal {
-        JournalPlace::Folder(folder) => host.show_files(options, folder),
-        JournalPlace::Memory => host.show_memory(options),
+        JournalLocation::Folder(folder) => host.show_files(options, folder),
+        JournalLocation::Memory => host.show_memory(options),
     }
 }
 
@@ -123,10 +123,10 @@ fn start_agents<H: Host>(host: &H, options: Options) -> Result<(), Fault>
         Err(fault) => return Err(fault),
     };
     match options.journal {
-        JournalPlace::Folder(folder) => match host.files(options, folder) {
+        JournalLocation::Folder(folder) => match host.files(options, folder) {
             Ok(disk) => run_agents(host, options, log, disk),
             Err(fault) => Err(fault),
         },
-        JournalPlace::Memory => run_agents(host, options, log, RamDisk::new(host.alloc())),
+        JournalLocation::Memory => run_agents(host, options, log, RamDisk::new(host.alloc())),
     }
 }

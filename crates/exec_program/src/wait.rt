@@ -9,7 +9,7 @@ use disk_model::Disk;
 use exec_commands::Left;
 use exec_faults::Fault;
 use exec_journal::Journal;
-use exec_options::{JournalPlace, Options};
+use exec_options::{JournalLocation, Options};
 use ocf_env::Site;
 
 /// Waits for what is left of the actions that a journal finds interrupted, before their interruption is recorded, and gives the processes
@@ -30,7 +30,7 @@ pub fn await_interrupted<H: Host, D: Disk + Drop>(
         × IsUnheard (H.asked host.now) D.view options.entry disk options.entry.journal) }
 {
     let alloc = host.alloc();
-    let JournalPlace::Folder(folder) = options.journal else {
+    let JournalLocation::Folder(folder) = options.journal else {
         return Ok((disk, Vec::new(alloc)));
     };
     let wait = Wait {

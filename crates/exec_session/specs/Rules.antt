@@ -37,7 +37,7 @@ second_mark = part_limit - (reserve + 70 * event_limit)
 
 -- a tidy would gain enough
 abbrev pub is_worthwhile : {D : Type 0} → ExecutorView D → Bool
-is_worthwhile x = nat_le (tidied_tail x.state + worthwhile) x.place.tail
+is_worthwhile x = nat_le (tidied_tail x.state + worthwhile) x.position.tail
 
 -- the time of a tidy, in milliseconds, where each piece of 4,096 bytes takes this many
 abbrev pub tidy_time : {D : Type 0} → ExecutorView D → ℕ → ℕ
@@ -56,8 +56,8 @@ is_at_leisure x now lasts = not (any_busy x.state) && not (is_monitor_due x now 
 -- enough; and either nothing would have to wait for it, or the tail is past the second mark.
 abbrev pub is_tidy_due : {D : Type 0} → Rules → ExecutorView D → ℕ → ℕ → Bool
 is_tidy_due rules x now pace =
-    nat_lt 0 rules.tidy_at && nat_lt rules.tidy_at x.place.tail && is_worthwhile x
-    && (nat_lt second_mark x.place.tail || is_at_leisure x now (tidy_time x pace))
+    nat_lt 0 rules.tidy_at && nat_lt rules.tidy_at x.position.tail && is_worthwhile x
+    && (nat_lt second_mark x.position.tail || is_at_leisure x now (tidy_time x pace))
 
 -- If a tidy is due at this time, one is made, and else nothing is done. The time of a piece, at least a millisecond, was measured in the
 -- last tidy, or is a guess.

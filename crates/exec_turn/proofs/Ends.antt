@@ -11,7 +11,7 @@ use Rattle.disk_model.specs.View.{Lawful, View}
 use Rattle.disk_model.specs.declared.disk.DiskFault.{DiskFault}
 use Rattle.child_model.specs.Children.{ChildrenView}
 use Rattle.child_model.specs.declared.answer.Entry.{Entry}
-use Rattle.exec_journal.specs.Place.{Place}
+use Rattle.exec_journal.specs.Position.{Position}
 use Rattle.exec_ledger.specs.Actives.{Active}
 use Rattle.exec_ledger.specs.Laws.{due_after_all-append, joined}
 use Rattle.exec_turn.specs.Laws.{then_started}
@@ -43,7 +43,7 @@ book_full kind view k x from does leaves = record {
 both_entries : (was first second : List Entry) {mid now : List Entry} → mid ≡ was ++ first → now ≡ mid ++ second → now ≡ was ++ (first ++ second)
 both_entries was first second one two = two ∙ ap (λ (l : List Entry). l ++ second) one ∙ append_assoc was first second
 
-module _ {D : Type 0} {view : D → View} {at : ℕ} {k0 k1 : D} {s0 s1 : State} {d0 d1 : Due} {p0 p1 : Place} {a0 a1 : Bool} {from c1 : ChildrenView}
+module _ {D : Type 0} {view : D → View} {at : ℕ} {k0 k1 : D} {s0 s1 : State} {d0 d1 : Due} {p0 p1 : Position} {a0 a1 : Bool} {from c1 : ChildrenView}
     {n1 : List Notice} where
   -- the batch of results failed
   results_failed : (kind : TurnKind) {f : DiskFault} (p : PollsBatch view k0 k1 (scene s0 d0 p0 at a0) (scene s1 d1 p1 at a1) from c1 n1 (Err f))
@@ -93,7 +93,7 @@ module _ {D : Type 0} {view : D → View} {at : ℕ} {k0 k1 : D} {s0 s1 : State}
     picks begun end picked = subst (λ (x : Scene). PickedAt end x begun) p.moves picked
 
     -- the batch of begins failed
-    pub no_begins : {k2 : D} {s2 : State} {d2 : Due} {p2 : Place} {a2 : Bool} {begun : List Active} {f : DiskFault}
+    pub no_begins : {k2 : D} {s2 : State} {d2 : Due} {p2 : Position} {a2 : Bool} {begun : List Active} {f : DiskFault}
         → BeginsBatch view k1 k2 (scene s1 d1 p1 at a1) (scene s2 d2 p2 at a2) begun (Err f)
         → Turns view k0 k2 (scene s0 d0 p0 at a0) s2 d2 from c1 n1 turn_end.Disk
     no_begins {k2 = k2} {s2 = s2} {begun = begun} b =
@@ -117,7 +117,7 @@ module _ {D : Type 0} {view : D → View} {at : ℕ} {k0 k1 : D} {s0 s1 : State}
           cause = λ _. let increased = batch.cause in let older = p.crash.reserved.passed.failures in omega (arith, increased, older);
         }
 
-    module _ {k2 : D} {s2 : State} {d2 : Due} {p2 : Place} {a2 : Bool} {begun : List Active} {end : TurnEnd}
+    module _ {k2 : D} {s2 : State} {d2 : Due} {p2 : Position} {a2 : Bool} {begun : List Active} {end : TurnEnd}
         (b : BeginsBatch view k1 k2 (scene s1 d1 p1 at a1) (scene s2 d2 p2 at a2) begun (Ok end))
         (lawful : (view k2).honest → Lawful (view k2)) where
       abbrev before : List Event
@@ -169,7 +169,7 @@ module _ {D : Type 0} {view : D → View} {at : ℕ} {k0 k1 : D} {s0 s1 : State}
         }
 
       -- the batch of refused starts failed
-      pub no_refusals : {k3 : D} {s3 : State} {d3 : Due} {p3 : Place} {a3 : Bool} {c2 : ChildrenView} {n3 : List Notice} {f : DiskFault}
+      pub no_refusals : {k3 : D} {s3 : State} {d3 : Due} {p3 : Position} {a3 : Bool} {c2 : ChildrenView} {n3 : List Notice} {f : DiskFault}
           → StartsBatch view k2 k3 (scene s2 d2 p2 at a2) (scene s3 d3 p3 at a3) begun c1 c2 n1 n3 (Err f)
           → Turns view k0 k3 (scene s0 d0 p0 at a0) s3 d3 from c2 n3 turn_end.Disk
       no_refusals {k3 = k3} {s3 = s3} x = let batch = x.recorded in record {
@@ -211,7 +211,7 @@ module _ {D : Type 0} {view : D → View} {at : ℕ} {k0 k1 : D} {s0 s1 : State}
       not_disk turn_end.Disk h is = absurd h.0.0
 
       -- all batches were recorded
-      pub whole_turn : {k3 : D} {s3 : State} {d3 : Due} {p3 : Place} {a3 : Bool} {c2 : ChildrenView} {n3 : List Notice} {z : Unit}
+      pub whole_turn : {k3 : D} {s3 : State} {d3 : Due} {p3 : Position} {a3 : Bool} {c2 : ChildrenView} {n3 : List Notice} {z : Unit}
           → StartsBatch view k2 k3 (scene s2 d2 p2 at a2) (scene s3 d3 p3 at a3) begun c1 c2 n1 n3 (Ok z)
           → Turns view k0 k3 (scene s0 d0 p0 at a0) s3 d3 from c2 n3 end
       whole_turn {k3 = k3} {s3 = s3} {d3 = d3} {n3 = n3} x =

@@ -22,7 +22,7 @@ pub record EachPolled (x : Scene) (ps : List Polled) : Type 0 where
 
 -- the actions begun from this view, by what ended the picks; want of memory ends them only where the allocator refuses growths
 abbrev pub PickedAt : TurnEnd → Scene → List Active → Type 0
-PickedAt end x bs = Picked end x.state x.due x.place.tail x.at bs × (end ≡ turn_end.Memory → IsTrue x.refuses)
+PickedAt end x bs = Picked end x.state x.due x.position.tail x.at bs × (end ≡ turn_end.Memory → IsTrue x.refuses)
 
 -- The answers in a turn: a poll of each running action, the actions begun after their results, and a start of each of these, all
 -- in order of registration, when the journal's disk had had this many device calls.

@@ -2,7 +2,7 @@
 ghost use Rattle.std.specs.Prelude.{◌≡◌, ◌<◌, ◌≤◌, IfOk, IsTrue, OnErr, length, vec_len};
 ghost use Rattle.std.specs.List.{AllByRecursion};
 ghost use Rattle.std.specs.Vec.{vec_capacity};
-ghost use Rattle.exec_journal.specs.Journal.{journal_place};
+ghost use Rattle.exec_journal.specs.Journal.{journal_position};
 ghost use Rattle.exec_state.specs.Store.{dues};
 ghost use Rattle.ocf_types.specs.Limits.{longest_begin};
 ghost use Rattle.ocf_types.specs.Places.{id_at};
@@ -90,7 +90,7 @@ pub(crate) fn pick_all<D: Disk + Drop, A: Grows, S: Allocator>(
     requires batch_room { length state.now.state.resources ≤ vec_capacity batch.old }
     requires start_room { length state.now.state.resources ≤ vec_capacity starts.old }
     ensures picked { Picked result state.now.state (dues state.now)
-        (journal_place journal.now).tail at (all_starting starts.new.items) }
+        (journal_position journal.now).tail at (all_starting starts.new.items) }
     ensures memory { result ≡ TurnEnd.Memory → IsTrue A.refuses }
     ensures batch { batch.new.items ≡ begins at (all_starting starts.new.items) }
     ensures are_starts { AllByRecursion (IsStart site.now state.now.state) starts.new.items }

@@ -6,7 +6,7 @@ use Rattle.ocf_types.specs.declared.reply.Notice.{Notice}
 use Rattle.disk_model.specs.View.{View}
 use Rattle.ocf_env.specs.Places.{SiteView}
 use Rattle.child_model.specs.Children.{Admits, ChildrenView}
-use Rattle.exec_journal.specs.Place.{Place}
+use Rattle.exec_journal.specs.Position.{Position}
 use Rattle.exec_journal.specs.Reserve.{HasReserve}
 use Rattle.exec_journal.specs.Settled.{IsSettled}
 use Rattle.exec_state.specs.Store.{Monitors, due_of}
@@ -22,7 +22,7 @@ pub record ExecutorView (D : Type 0) : Type 0 where
   pub state : State
   pub monitors : Monitors
   pub disk : D
-  pub place : Place
+  pub position : Position
   pub children : ChildrenView
   pub site : SiteView
   pub reported : List Notice
@@ -36,7 +36,7 @@ executor_view h children site reported opening_report = record {
   state = h.state;
   monitors = h.monitors;
   disk = h.disk;
-  place = h.place;
+  position = h.position;
   children = children;
   site = site;
   reported = reported;
@@ -51,7 +51,7 @@ ledger_of x = record {
   state = x.state;
   monitors = x.monitors;
   disk = x.disk;
-  place = x.place;
+  position = x.position;
   refuses = x.refuses;
 }
 
@@ -69,8 +69,8 @@ due_in x = due_of x.monitors
 -- Its journal is settled at its state, its reserve holds the results of what runs and a boot, the agent processes of all running
 -- actions live, and its children admit its site.
 pub record ExecutorKeeps {D : Type 0} (view : D → View) (x : ExecutorView D) : Type 0 where
-  pub journal : (view x.disk).honest → IsSettled x.place x.state (view x.disk)
-  pub room : HasReserve x.place.tail x.state
+  pub journal : (view x.disk).honest → IsSettled x.position x.state (view x.disk)
+  pub room : HasReserve x.position.tail x.state
   pub matched : ChildrenMatch x.state x.children
   pub admits : Admits x.children.site x.site
 

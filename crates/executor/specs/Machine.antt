@@ -17,7 +17,7 @@ use Rattle.disk_model.specs.View.{Increased}
 use Rattle.child_model.specs.declared.answer.Entry.{Entry}
 use Rattle.exec_state.specs.Answers.{IsReplyOrMemory}
 use Rattle.two_parts.specs.Head.{last_epoch}
-use Rattle.exec_journal.specs.Place.{Place}
+use Rattle.exec_journal.specs.Position.{Position}
 use Rattle.exec_journal.specs.Batches.{IsTooLong}
 use Rattle.exec_ledger.specs.LedgerView.{While}
 use Rattle.exec_ledger.specs.Pieces.{Effects, followed_by, no_effects, batch_effects}
@@ -43,7 +43,7 @@ pub record Label : Type 0 where
   pub answers : List Entry
   pub notices : List Notice
   pub room : ℕ
-  pub place : Place
+  pub position : Position
   pub faults : ℕ × ℕ
 
 -- The choices that the machine leaves open, each with the condition under which a call may make it.
@@ -62,7 +62,7 @@ LacksOnlyIf e m = LacksMemory e → IsTrue m.refuses
 
 -- The journal's capacity. A command by itself may be refused for it only where its event does not fit.
 abbrev pub LacksReserve : Label → Event → Type 0
-LacksReserve l e = IsTooLong l.place.tail (e ∷ [])
+LacksReserve l e = IsTooLong l.position.tail (e ∷ [])
 
 -- The book's capacity. A turn does nothing exactly where the book takes fewer answers than this many for each resource.
 abbrev pub LacksBook : Label → ℕ → Machine → Type 0
@@ -99,7 +99,7 @@ TakesOne l now c r m n did = TakesAll l now (c ∷ []) (r ∷ []) m n did
 -- A turn of a kind at a moment, for which the book has to take this many answers for each resource.
 pub record MovesTurn (kind : TurnKind) (each : ℕ) (end : TurnEnd) (at : ℕ) (l : Label) (m n : Machine) (did : Effects) : Type 0 where
   -- the answers of agent processes make its events and its notices
-  pub turns : kind end (scene m.state m.due l.place at m.refuses) did l.notices
+  pub turns : kind end (scene m.state m.due l.position at m.refuses) did l.notices
   pub answers : l.answers ≡ did.entries
   pub goes_on : n ≡ record (after_events m did.events) { is_open = n.is_open }
   -- nothing is done exactly when the book lacks capacity, and a disk fault alone closes the machine
@@ -110,7 +110,7 @@ pub record MovesTurn (kind : TurnKind) (each : ℕ) (end : TurnEnd) (at : ℕ) (
 -- a tidy, by its end: it records nothing
 abbrev pub TidyEnds : TidyEnd → Label → Machine → Machine → Effects → Type 0
 TidyEnds tidy.Done l m n did = GoesOn [] m n did
-TidyEnds tidy.EpochSpent l m n did = (l.place.epoch ≡ last_epoch) × GoesOn [] m n did
+TidyEnds tidy.EpochSpent l m n did = (l.position.epoch ≡ last_epoch) × GoesOn [] m n did
 TidyEnds tidy.Disk l m n did = Fails l [] n did
 TidyEnds tidy.Closed l m n did = ⊥
 

@@ -13,7 +13,7 @@ use Rattle.gated_slots.specs.declared.append.SlotFault.{SlotFault}
 use Rattle.gated_slots.specs.declared.append.SlotFault.TheVariants as slot
 use Rattle.exec_journal.specs.Found.{FoundAs, HasDamage, IsToWrite, JournalAt}
 use Rattle.exec_journal.specs.Opening.{OpensLike}
-use Rattle.exec_journal.specs.Place.{Place}
+use Rattle.exec_journal.specs.Position.{Position}
 use Rattle.exec_journal.specs.Reserve.{AllHaveReserve, PairHasReserve}
 use Rattle.two_parts.specs.declared.damage.Damage.{Damage}
 use Rattle.exec_journal.specs.declared.fault.JournalFault.{JournalFault}
@@ -40,10 +40,10 @@ StartsLike old now c = OpensLike old c ⊎ ((s : State) × FoundAs s old.reads �
 
 -- on these parts something is queued or running, and a boot does not fit after the last record
 pub record LacksReserve (c : Image) : Type 0 where
-  pub place : Place
+  pub position : Position
   pub state : State
-  pub holds : JournalAt place state c
-  pub lacks : LacksBoot place.tail state
+  pub holds : JournalAt position state c
+  pub lacks : LacksBoot position.tail state
 
 -- these parts hold a journal of the second layout in which nothing is queued or running, or a damaged one of either
 abbrev pub IsQuiet : Image → Type 0

@@ -23,7 +23,7 @@ label_in view was_open e old new effects = record {
   answers = effects.entries;
   notices = notices_of was_open e new.reported;
   room = old.children.room;
-  place = old.place;
+  position = old.position;
   faults = ((view old.disk).failures, (view new.disk).failures);
 }
 

@@ -15,7 +15,7 @@ use Rattle.executor.specs.ExecutorView.{ExecutorView, due_in}
 -- of it to another.
 pub record MakesTurn {D : Type 0} (kind : TurnKind) (entries : ℕ) (view : D → View) (now : ℕ) (old new : ExecutorView D) (end : TurnEnd) : Type 0 where
   pub turns : TurnsAs kind view old.disk new.disk
-      (scene old.state (due_in old) old.place (moment old.state now) old.refuses) new.state (due_in new) old.children new.children new.reported end
+      (scene old.state (due_in old) old.position (moment old.state now) old.refuses) new.state (due_in new) old.children new.children new.reported end
   -- its site, its allocator and the report of its opening stay
   pub site : new.site ≡ old.site
   pub allocator : new.refuses ≡ old.refuses

@@ -4,7 +4,7 @@ ghost use Rattle.journal_folder.specs.Ends.{IsNotOpened};
 
 use diagnostics::{explain, report, report_cause};
 use exec_faults::Fault;
-use exec_options::{JournalPlace, Options};
+use exec_options::{JournalLocation, Options};
 use file_disk::{FileDisk, FileError, OpenFault, Owners, ReportsError};
 use process_ends::System;
 use std::io::ErrorKind;
@@ -94,7 +94,7 @@ pub fn found<D: Drop>(
 /// Reports that the journal's device failed, and its error.
 pub fn report_device(system: &System<'_>, options: Options, error: Option<FileError>) {
     match (options.journal, error) {
-        (JournalPlace::Folder(folder), Some(met)) => {
+        (JournalLocation::Folder(folder), Some(met)) => {
             report_cause(system, Fault::Disk, met.located(folder));
         }
         _ => report(system, Fault::Disk),

@@ -1,6 +1,6 @@
 //! The moment and the options of a status.
 use exec_lines::moment_now;
-use exec_options::{JournalPlace, Options};
+use exec_options::{JournalLocation, Options};
 use exec_orphans::{read_holder, uptime};
 use ocf_types::Moment;
 use status_report::StatusOptions;
@@ -14,10 +14,10 @@ fn executor_moment(rt: &HostRuntime, folder: &str) -> Option<Moment> {
 
 /// The moment at which ages are taken. The moments of a journal are readings of its executor's clock, which does not follow
 /// changes of the system's clock. So this is that clock's reading if it can be known, and else the system's.
-pub fn moment_of(rt: &HostRuntime, journal: JournalPlace) -> Moment {
+pub fn moment_of(rt: &HostRuntime, journal: JournalLocation) -> Moment {
     let known = match journal {
-        JournalPlace::Folder(folder) => executor_moment(rt, folder),
-        JournalPlace::Memory => None,
+        JournalLocation::Folder(folder) => executor_moment(rt, folder),
+        JournalLocation::Memory => None,
     };
     match known {
         Some(moment) => moment,

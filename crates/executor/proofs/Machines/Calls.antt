@@ -187,7 +187,7 @@ module _ {D : Type 0} (view : D → View) where
   -- a turn of a kind, by its label
   turn_so : (kind : TurnKind) (each now : ℕ) (x y : ExecutorView D) (end : TurnEnd) (e : Exchange) (t : MakesTurn kind each view now x y end)
       → MovesTurn kind each end (moment x.state now)
-      (record { exchange = e; answers = t.turns.effects.entries; notices = y.reported; room = x.children.room; place = x.place; faults = ((view x.disk).failures, (view y.disk).failures) })
+      (record { exchange = e; answers = t.turns.effects.entries; notices = y.reported; room = x.children.room; position = x.position; faults = ((view x.disk).failures, (view y.disk).failures) })
       (machine_of x) (machine_of y) t.turns.effects
   turn_so kind each now x y end e t = record {
     turns = t.turns.does;

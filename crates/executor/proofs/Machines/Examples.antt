@@ -15,7 +15,7 @@ use Rattle.child_model.specs.Children.{start_answer}
 use Rattle.child_model.specs.declared.answer.Entry.{Entry}
 use Rattle.child_model.specs.declared.answer.Poll.{Poll}
 use Rattle.child_model.specs.declared.answer.Poll.TheVariants as poll
-use Rattle.exec_journal.specs.Place.{first_place}
+use Rattle.exec_journal.specs.Position.{first_position}
 use Rattle.exec_ledger.specs.Actives.{active}
 use Rattle.exec_ledger.specs.Scenes.{Scene, scene}
 use Rattle.exec_turn.specs.Picks.{begin_of, begins as begins_at}
@@ -60,7 +60,7 @@ no_polls at (p ∷ ps) is = absurd (by p.poll (none_before (entries_of at p.who.
 -- a turn at 10, by its end, its answers, the book's capacity and its notices
 abbrev pub turned : TurnEnd → List Entry → ℕ → List Notice → Label
 turned end answers room notices =
-    record { exchange = Took (input.Turn 10) (reply.Turn end); answers = answers; notices = notices; room = room; place = first_place; faults = (0, 0) }
+    record { exchange = Took (input.Turn 10) (reply.Turn end); answers = answers; notices = notices; room = room; position = first_position; faults = (0, 0) }
 
 -- an open machine with one action in its queue, and none running
 abbrev waiting : Machine
@@ -72,7 +72,7 @@ done_so : (answers : List Entry) (room : ℕ) (notices : List Notice) (m n : Mac
     → (x : Scene) × (x.state ≡ m.state) × (answers ≡ did.entries) × Whole turn_end.Done x did notices
 done_so answers room notices m n did ((end, is, t), memory) =
     let same : end ≡ turn_end.Done = (let reported : reply.Turn turn_end.Done ≡ reply.Turn end = is in cc) in
-    let x : Scene = scene m.state m.due first_place (moment m.state 10) m.refuses in
+    let x : Scene = scene m.state m.due first_position (moment m.state 10) m.refuses in
     (x, refl, t.answers, subst (λ (e : TurnEnd). IsTurn e x did notices) same t.turns)
 
 -- a notice that no answer gives

@@ -11,7 +11,7 @@ use Rattle.ocf_types.specs.declared.reply.ReplyOf.TheVariants as reply
 use Rattle.ocf_types.specs.declared.reply.TurnEnd.TheVariants as turn_end
 use Rattle.child_model.specs.Children.{start_answer}
 use Rattle.child_model.specs.declared.answer.Entry.{Entry}
-use Rattle.exec_journal.specs.Place.{Place}
+use Rattle.exec_journal.specs.Position.{Position}
 use Rattle.exec_journal.specs.Batches.{IsTooLong}
 use Rattle.exec_ledger.specs.Actives.{Active}
 use Rattle.exec_ledger.specs.Laws.{asked_one}
@@ -55,7 +55,7 @@ running = record { call = 1; run = 1; task = task.Start; timeout = 20000; interv
 abbrev begun : Active
 begun = record { id = r1; running = running }
 
-module _ (p : Place) (fits : IsTooLong p.tail (begins_at 10 (begun ∷ [])) → ⊥) where
+module _ (p : Position) (fits : IsTooLong p.tail (begins_at 10 (begun ∷ [])) → ⊥) where
   -- the calls
   abbrev asks : Label
   asks = record {
@@ -63,7 +63,7 @@ module _ (p : Place) (fits : IsTooLong p.tail (begins_at 10 (begun ∷ [])) → 
     answers = [];
     notices = [];
     room = 256;
-    place = p;
+    position = p;
     faults = (0, 0);
   }
 
@@ -73,7 +73,7 @@ module _ (p : Place) (fits : IsTooLong p.tail (begins_at 10 (begun ∷ [])) → 
     answers = answer ∷ [];
     notices = [];
     room = 256;
-    place = p;
+    position = p;
     faults = (0, 0);
   }
 

@@ -15,7 +15,7 @@ use Rattle.gated_slots.specs.declared.append.SlotFault.{SlotFault}
 use Rattle.gated_slots.specs.declared.append.SlotFault.TheVariants as slot
 use Rattle.exec_journal.specs.Found.{FoundAs, IsToWrite, JournalAt}
 use Rattle.exec_journal.specs.Opening.{FailsToOpen, Opens, OpensAt, OpensLike}
-use Rattle.exec_journal.specs.Place.{Place}
+use Rattle.exec_journal.specs.Position.{Position}
 use Rattle.exec_journal.specs.Reserve.{AllHaveReserve, HasReserve, PairHasReserve}
 use Rattle.exec_journal.specs.Settled.{IsSettled}
 use Rattle.two_parts.specs.declared.damage.Damage.{Damage}
@@ -112,7 +112,7 @@ unready_memory old new from to now opens kids theirs own = record {
 }
 
 -- the children are another journal's
-unready_foreign : (old new : View) (p : Place) (s : State) (from to : ChildrenView) (now : ℕ) → OpensAt p s old new → to ≡ from
+unready_foreign : (old new : View) (p : Position) (s : State) (from to : ChildrenView) (now : ℕ) → OpensAt p s old new → to ≡ from
     → s.next_run ≤ from.last_run → NotOpened old new from to now why.Foreign
 unready_foreign old new p s from to now opens kids later = record {
   did = read_only old new now opens.opens.crash opens.opens.reserved opens.opens.unwritten;
@@ -141,7 +141,7 @@ own_children once c s from found low foreign =
     let later = foreign.later in
     omega (arith, next, low, later)
 
-pub unready : ((c : Image) (s t : State) → FoundAs s c → FoundAs t c → s ≡ t) → (old new : View) (p : Place) (s : State) (from to : ChildrenView) (now : ℕ) (fault : OpenError) → OpensAt p s old new
+pub unready : ((c : Image) (s t : State) → FoundAs s c → FoundAs t c → s ≡ t) → (old new : View) (p : Position) (s : State) (from to : ChildrenView) (now : ℕ) (fault : OpenError) → OpensAt p s old new
     → IsUnready from to s fault → NotOpened old new from to now fault
 unready once old new p s from to now fault opens is = elim is.either [
   | inl foreign ↦ (let kids = is.foreign foreign in
@@ -155,7 +155,7 @@ unready once old new p s from to now fault opens is = elim is.either [
 
 module _ {D : Type 0} (view : D → View) (law : JournalLemmas) (once : (c : Image) (s t : State) → FoundAs s c → FoundAs t c → s ≡ t)
     (old : View) (from : ChildrenView) (now : ℕ) (mid : ExecutorView D) (over : IsOver from mid)
-    (opens : OpensAt mid.place mid.state old (view mid.disk)) where
+    (opens : OpensAt mid.position mid.state old (view mid.disk)) where
   -- memory was refused before the boot
   pub report_refused : (d : D) (to : ChildrenView) → d ≡ mid.disk → to ≡ mid.children → NotOpened old (view d) from to now why.Memory
   report_refused d to same kids =
@@ -169,7 +169,7 @@ module _ {D : Type 0} (view : D → View) (law : JournalLemmas) (once : (c : Ima
     both_passed passed = passed_on old (view mid.disk) (view new.disk) opens.opens.crash.passed passed
 
     did_both : (crash : CrashesTo (view mid.disk) (view new.disk) (BootsFrom mid.state now))
-        → (HasReserve mid.place.tail mid.state → CrashesTo (view mid.disk) (view new.disk) PairHasReserve) → (any_busy mid.state ≡ false → new ≡ ledger_of mid)
+        → (HasReserve mid.position.tail mid.state → CrashesTo (view mid.disk) (view new.disk) PairHasReserve) → (any_busy mid.state ≡ false → new ≡ ledger_of mid)
         → OpensDisk old (view new.disk) now
     did_both crash reserved quiet = record {
       crash = joined old (view mid.disk) (view new.disk) (StartsLike old now)
@@ -196,31 +196,31 @@ module _ {D : Type 0} (view : D → View) (law : JournalLemmas) (once : (c : Ima
             }
 
     -- where nothing was written, the same is found
-    holds_before : (view mid.disk).honest → (IsToWrite old.reads → ⊥) → JournalAt mid.place mid.state old.reads
+    holds_before : (view mid.disk).honest → (IsToWrite old.reads → ⊥) → JournalAt mid.position mid.state old.reads
     holds_before h unwritten =
-        subst (λ (c : Image). JournalAt mid.place mid.state c) ((opens.opens.unwritten (λ _. unwritten)).same h) (opens.settled h).holds
+        subst (λ (c : Image). JournalAt mid.position mid.state c) ((opens.opens.unwritten (λ _. unwritten)).same h) (opens.settled h).holds
 
     -- and nothing was written where a boot does not fit
-    lacks_unwritten : (view mid.disk).honest → LacksBoot mid.place.tail mid.state → IsToWrite old.reads → ⊥
+    lacks_unwritten : (view mid.disk).honest → LacksBoot mid.position.tail mid.state → IsToWrite old.reads → ⊥
     lacks_unwritten h lacks to_write =
         let room = opens.anew h to_write lacks.0 in
         let short = lacks.1 in
         omega (arith, room, short)
 
-    lacks_reserve : (view mid.disk).honest → LacksBoot mid.place.tail mid.state → LacksReserve old.reads
+    lacks_reserve : (view mid.disk).honest → LacksBoot mid.position.tail mid.state → LacksReserve old.reads
     lacks_reserve h lacks =
-        record { place = mid.place; state = mid.state; holds = holds_before h (lacks_unwritten h lacks); lacks = lacks }
+        record { position = mid.position; state = mid.state; holds = holds_before h (lacks_unwritten h lacks); lacks = lacks }
 
-    lacks_boot : (view mid.disk).honest → LacksReserve old.reads → LacksBoot mid.place.tail mid.state
+    lacks_boot : (view mid.disk).honest → LacksReserve old.reads → LacksBoot mid.position.tail mid.state
     lacks_boot h lacks =
-        let same = once old.reads lacks.state mid.state (law.found lacks.place lacks.state old.reads lacks.holds) (opens.found h) in
-        let here = subst (λ (s : State). LacksBoot lacks.place.tail s) same lacks.lacks in
-        let at = (law.once lacks.place mid.place lacks.state mid.state old.reads lacks.holds
-        (holds_before h (law.stays lacks.place lacks.state old.reads lacks.holds))).0 in
+        let same = once old.reads lacks.state mid.state (law.found lacks.position lacks.state old.reads lacks.holds) (opens.found h) in
+        let here = subst (λ (s : State). LacksBoot lacks.position.tail s) same lacks.lacks in
+        let at = (law.once lacks.position mid.position lacks.state mid.state old.reads lacks.holds
+        (holds_before h (law.stays lacks.position lacks.state old.reads lacks.holds))).0 in
         subst (λ p. LacksBoot p.tail mid.state) at here
 
     pub opened : (x : Unit) (final : ExecutorView D) (ran queued : List Notice) → Boots view now (ledger_of mid) new (Ok x) → final.is_open ≡ true
-        → final.state ≡ new.state → final.disk ≡ new.disk → final.place ≡ new.place
+        → final.state ≡ new.state → final.disk ≡ new.disk → final.position ≡ new.position
         → due_in final ≡ due_at final.state (moment mid.state now) → final.children ≡ mid.children → final.reported ≡ mid.reported
         → final.opening_report ≡ record { interrupted = ran; dropped = queued }
         → ran ≡ interrupted mid.state (moment mid.state now) → queued ≡ dropped mid.state (moment mid.state now)
@@ -237,8 +237,8 @@ module _ {D : Type 0} (view : D → View) (law : JournalLemmas) (once : (c : Ima
           sound = λ _. record {
             journal =
                 λ h. subst (λ p. IsSettled p final.state (view final.disk)) (sym place)
-                (subst (λ (s : State). IsSettled new.place s (view final.disk)) (sym state)
-                (subst (λ (d : D). IsSettled new.place new.state (view d)) (sym disk) (boots.settled (honest_new h))));
+                (subst (λ (s : State). IsSettled new.position s (view final.disk)) (sym state)
+                (subst (λ (d : D). IsSettled new.position new.state (view d)) (sym disk) (boots.settled (honest_new h))));
             room = λ busy. absurd (true≢false (sym busy ∙ quiet_now));
             matched = subst (λ (v : ChildrenView). ChildrenMatch final.state v) (sym given) (quiet_matched final.state from quiet_now rising);
             admits = subst (λ (v : ChildrenView). Admits v.site final.site) (sym given) admits;

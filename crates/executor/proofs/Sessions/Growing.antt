@@ -58,7 +58,7 @@ session_more view x y z (j ∷ is) (q ∷ rs) i r a b (m, first, later, takes, r
 pub leads_start : {D : Type 0} (view : D → View) (law : JournalLemmas) (x : ExecutorView D) → ((view x.disk).honest → Lawful (view x.disk))
     → ExecutorKeeps view x → Leads view x x no_effects
 leads_start view law x lawful keeps = record {
-  crash = settled_leaves law x.place x.state view x.disk lawful keeps.journal keeps.room;
+  crash = settled_leaves law x.position x.state view x.disk lawful keeps.journal keeps.room;
   book = sym (append-nil x.children.book);
   log = sym (append-nil x.children.log);
   site = refl;

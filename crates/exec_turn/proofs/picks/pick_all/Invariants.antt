@@ -2,7 +2,7 @@ use Rattle.std.proofs.Common.{◌≡◌, ◌*◌, ◌≤◌, length}
 use Rattle.std.specs.List.{AllByRecursion}
 use Rattle.std.specs.Vec.{vec_capacity}
 use Rattle.exec_journal.specs.PartPrefix.{encoded_batch}
-use Rattle.exec_journal.specs.Journal.{journal_place}
+use Rattle.exec_journal.specs.Journal.{journal_position}
 use Rattle.exec_state.specs.Store.{dues}
 use Rattle.exec_turn.specs.Launches.{IsStart, all_starting}
 use Rattle.exec_turn.specs.Picks.{begins}
@@ -14,7 +14,7 @@ invariant-loop-place g l =
     let s = l.state.state in
     let begun = all_starting l.starts.items in
     record {
-      so_far : SoFar s (dues l.state) (journal_place l.journal).tail l.at l.place l.run begun;
+      so_far : SoFar s (dues l.state) (journal_position l.journal).tail l.at l.place l.run begun;
       batch : l.batch.items ≡ begins l.at begun;
       are_starts : AllByRecursion (IsStart l.site s) l.starts.items;
       len : l.len ≡ length (encoded_batch l.batch.items);
