@@ -3,7 +3,7 @@ use crate::steps::{nowhere, registration};
 use child_keeper::{Script, Scripted};
 use disk_model::Fill;
 use executor::{Input, InputOf};
-use life_example::{Machine, live_twice};
+use test_incarnations::{Machine, live_twice};
 use ocf_types::{
     CommandOf, Millis, Outcome, Question, Reply, ReplyOf, RequestOf, RscId, Task, TurnEnd,
 };

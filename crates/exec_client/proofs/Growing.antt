@@ -14,7 +14,7 @@ use Rattle.disk_model.specs.View.{View}
 use Rattle.executor.specs.CallLaws.{followed_by_none, calls_after}
 use Rattle.exec_ledger.specs.Commands.{Obeys}
 use Rattle.executor.specs.Commands.{Serves, ServesWhile}
-use Rattle.executor.specs.Lives.{Abandoned, Calls, Cleared, Does, Exchange, Finished, Batch, Tidied, Took}
+use Rattle.executor.specs.Incarnations.{Abandoned, Calls, Cleared, Does, Exchange, Finished, Batch, Tidied, Took}
 use Rattle.executor.specs.BatchCalls.{TakesBatch}
 use Rattle.executor.specs.BatchLaws.{commands_called}
 use Rattle.exec_ledger.specs.Together.{batch_replies}

@@ -13,7 +13,7 @@ use Rattle.ocf_types.specs.declared.refusal.Refusal.TheVariants.{Disk}
 use Rattle.ocf_types.specs.declared.reply.ReplyOf.TheVariants as reply
 use Rattle.disk_model.specs.View.{View}
 use Rattle.exec_ledger.specs.Commands.{Obeys}
-use Rattle.executor.specs.Lives.{Abandoned, Calls, Cleared, Does, Exchange, Finished, Batch, Tidied, Took}
+use Rattle.executor.specs.Incarnations.{Abandoned, Calls, Cleared, Does, Exchange, Finished, Batch, Tidied, Took}
 use Rattle.exec_ledger.specs.Replies.{IsReplyTo, acknowledged}
 use Rattle.exec_ledger.specs.Together.{Adds, Answered, disk_each, failed, batch_replies}
 use Rattle.executor.specs.BatchLaws.{commands_called}

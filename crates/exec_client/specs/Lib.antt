@@ -7,4 +7,4 @@ pub mod BackedBy
 pub mod Sends
 pub mod ClientView
 pub mod MaySend
-pub mod Lives
+pub mod Incarnations

@@ -7,7 +7,7 @@ use Rattle.ocf_types.specs.declared.command.Question.{Question}
 use Rattle.ocf_types.specs.declared.reply.Notice.{Notice}
 use Rattle.ocf_types.specs.declared.reply.ReplyOf.TheVariants as reply
 use Rattle.disk_model.specs.View.{View}
-use Rattle.executor.specs.Lives.{Calls, Exchange}
+use Rattle.executor.specs.Incarnations.{Calls, Exchange}
 use Rattle.executor.specs.Sessions.{Effects}
 use Rattle.executor.specs.ExecutorView.{ExecutorView}
 use Rattle.exec_commands.specs.Replies.{statuses_in}

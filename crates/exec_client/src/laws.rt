@@ -7,12 +7,12 @@ ghost use Rattle.child_model.specs.Children.{poll_answer};
 ghost use Rattle.child_model.specs.declared.answer.Entry.{Entry};
 ghost use Rattle.child_model.specs.declared.answer.Poll.TheVariants.{Signaled};
 ghost use Rattle.exec_journal.specs.Found.{FoundAs};
-ghost use Rattle.executor.specs.Lives.{IsLife, LifeLeaves, Lived, Sitting};
+ghost use Rattle.executor.specs.Incarnations.{AreIncarnations, IncarnationsLeave, SurvivingEvents, Incarnation};
 ghost use Rattle.executor.specs.Promise.{IsKept};
-ghost use Rattle.executor.specs.Runs.{Runs};
-ghost use Rattle.executor.specs.SeenLives.{seen};
+ghost use Rattle.executor.specs.Behaves.{Behaves};
+ghost use Rattle.executor.specs.SeenIncarnations.{seen};
 ghost use Rattle.exec_client.specs.BackedBy.{BackedBy};
-ghost use Rattle.exec_client.specs.Lives.{SentOver};
+ghost use Rattle.exec_client.specs.Incarnations.{SentOver};
 ghost use Rattle.exec_client.specs.SentItem.{SentItem};
 ghost use Rattle.exec_client.specs.Signals.{signal_of};
 
@@ -23,12 +23,12 @@ use executor::laws::promise;
 /// `executor::laws::promise` holds. In this list each acknowledgement and each notice that a client was sent in any incarnation has an
 /// event of its own, in the order in which they were sent.
 pub fn sent_holds<D: Disk>()
-    ensures holds { (start : State) (life : List (Sitting D)) (is : IsLife D.view start life)
-        (reported : List SentItem) → SentOver life reported
-        → (c : Image) → LifeLeaves D.view start life c
+    ensures holds { (start : State) (incarnations : List (Incarnation D)) (is : AreIncarnations D.view start incarnations)
+        (reported : List SentItem) → SentOver incarnations reported
+        → (c : Image) → IncarnationsLeave D.view start incarnations c
         → (zs : List Event) × FoundAs (after_all start zs) c
-        × Runs start (seen D.view start life is) zs × Lived start life zs
-        × IsKept start (seen D.view start life is) zs × BackedBy reported zs }
+        × Behaves start (seen D.view start incarnations is) zs × SurvivingEvents start incarnations zs
+        × IsKept start (seen D.view start incarnations is) zs × BackedBy reported zs }
 {
     promise::<D>();
 }

@@ -2,7 +2,7 @@ pub mod Keeping
 pub mod Openings
 pub mod Sessions
 pub mod Isolation
-pub mod Lives
+pub mod Incarnations
 pub mod History
 pub mod Machines
 pub mod Sharing

@@ -18,7 +18,7 @@ use Rattle.exec_ledger.specs.Together.{disk_each, failed, batch_replies}
 use Rattle.exec_ledger.proofs.Recording.{no_memory}
 use Rattle.exec_turn.specs.Turn.{IsTurn}
 use Rattle.executor.specs.Commands.{ServesOpen}
-use Rattle.executor.specs.Lives.{Abandoned, Calls, Cleared, Does, Exchange, Finished, Batch, Tidied, Took}
+use Rattle.executor.specs.Incarnations.{Abandoned, Calls, Cleared, Does, Exchange, Finished, Batch, Tidied, Took}
 use Rattle.executor.specs.Machine.{LacksMemory}
 use Rattle.exec_ledger.specs.Pieces.{Effects}
 use Rattle.executor.specs.Sessions.{Input, TakesATurn, TakesWhile}

@@ -13,7 +13,7 @@ use Rattle.exec_ledger.specs.CommitGroups.{CommitGroup, Single, TakesGroup, Take
 use Rattle.exec_ledger.specs.CommitGroups.{Batch as GroupedBatch}
 use Rattle.executor.specs.CallLaws.{request_taken, same_view}
 use Rattle.executor.specs.Commands.{Serves}
-use Rattle.executor.specs.Lives.{Calls, Does, Exchange, Batch, Took}
+use Rattle.executor.specs.Incarnations.{Calls, Does, Exchange, Batch, Took}
 use Rattle.executor.specs.CommandBatches.{CallsCommands, IsAt, TakesCommands, commands_of, replies_of}
 use Rattle.executor.specs.Sessions.{TakesWhile}
 use Rattle.executor.specs.ExecutorView.{OnlyLedgerChanges, ExecutorView, ledger_of, executor_view}

@@ -9,7 +9,7 @@ use Rattle.ocf_types.specs.declared.reply.TurnEnd.{TurnEnd}
 use Rattle.disk_model.specs.View.{View}
 use Rattle.child_model.specs.declared.answer.Entry.{Entry}
 use Rattle.executor.specs.Commands.{ServesWhile}
-use Rattle.executor.specs.Lives.{Calls, Exchange}
+use Rattle.executor.specs.Incarnations.{Calls, Exchange}
 use Rattle.exec_ledger.specs.Pieces.{Effects, followed_by, no_effects}
 use Rattle.executor.specs.Sessions.{TakesWhile, request_effects}
 use Rattle.executor.specs.ExecutorView.{OnlyLedgerChanges, ExecutorView, ledger_of, executor_view}

@@ -4,7 +4,7 @@ use Rattle.std.specs.List.{AllByRecursion, flat_map}
 use Rattle.ocf_types.specs.Kinds.{Command, Reply}
 use Rattle.ocf_types.specs.declared.command.RequestOf.TheVariants as asked
 use Rattle.disk_model.specs.View.{View}
-use Rattle.executor.specs.Lives.{Calls, Exchange, Batch, Took}
+use Rattle.executor.specs.Incarnations.{Calls, Exchange, Batch, Took}
 use Rattle.exec_ledger.specs.Pieces.{Effects}
 use Rattle.exec_ledger.specs.CommitGroups.{TakesCommands as LedgerTakesCommands}
 use Rattle.executor.specs.ExecutorView.{OnlyLedgerChanges, ExecutorView, ledger_of}

@@ -29,7 +29,7 @@ use Rattle.exec_turn.specs.Actives.{result_of}
 use Rattle.exec_turn.specs.Polls.{IsPoll, ending, entries_of}
 use Rattle.exec_turn.specs.Starts.{refused_end}
 use Rattle.exec_ledger.specs.Replies.{acknowledged}
-use Rattle.executor.specs.Lives.{Exchange, Finished, Took}
+use Rattle.executor.specs.Incarnations.{Exchange, Finished, Took}
 use Rattle.executor.specs.ExecutorView.{ExecutorView, due_in}
 use Rattle.executor.specs.declared.session.InputOf.TheVariants as input
 

@@ -24,7 +24,7 @@ use Rattle.exec_ledger.specs.Pieces.{Effects, followed_by, no_effects, batch_eff
 use Rattle.exec_ledger.specs.Scenes.{due_after_all, scene}
 use Rattle.exec_ledger.specs.Together.{Answered, failed}
 use Rattle.exec_turn.specs.Turn.{IsFinish, IsTurn, TurnKind}
-use Rattle.executor.specs.Lives.{Abandoned, Cleared, Exchange, Finished, Batch, Tidied, Took}
+use Rattle.executor.specs.Incarnations.{Abandoned, Cleared, Exchange, Finished, Batch, Tidied, Took}
 use Rattle.executor.specs.Sessions.{closed_reply}
 use Rattle.executor.specs.declared.session.InputOf.TheVariants as input
 

@@ -13,10 +13,10 @@ use Rattle.ocf_types.specs.declared.reply.Notice.{Notice}
 use Rattle.exec_ledger.specs.Replies.{acknowledged}
 use Rattle.exec_ledger.specs.Together.{is_kept}
 use Rattle.executor.specs.Histories.{IsInOrder, IsWithin, interruptions}
-use Rattle.executor.specs.Lives.{Exchange, Batch, Took}
+use Rattle.executor.specs.Incarnations.{Exchange, Batch, Took}
 use Rattle.executor.specs.Machine.{Label}
-use Rattle.executor.specs.Runs.{HasBegins, Opening, Seen, Serving}
-use Rattle.executor.specs.SeenLives.{reports}
+use Rattle.executor.specs.Behaves.{HasBegins, Opening, Seen, Serving}
+use Rattle.executor.specs.SeenIncarnations.{reports}
 use Rattle.executor.specs.declared.session.InputOf.TheVariants as input
 
 -- a claim of an answer that something is recorded: a command that was asked at a moment and got this acknowledgement, or the result of a

@@ -14,14 +14,14 @@ ghost use Rattle.exec_journal.specs.Opening.{Opens};
 ghost use Rattle.exec_journal.specs.Reserve.{PairHasReserve};
 ghost use Rattle.exec_turn.specs.AgentsLive.{AgentsLive};
 ghost use Rattle.executor.specs.Joins.{SameIsolated, as_calls};
-ghost use Rattle.executor.specs.Lives.{BeginsAs, Calls, Does, Exchange, GoesOnFrom, InOpening, IsLife, LifeLeaves, Lived, OpensAfter, Batch, Sat, Sitting};
+ghost use Rattle.executor.specs.Incarnations.{BeginsAs, Calls, Does, Exchange, GoesOnFrom, InOpening, AreIncarnations, IncarnationsLeave, SurvivingEvents, OpensAfter, Batch, Lasted, Incarnation};
 ghost use Rattle.executor.specs.Machine.{LacksMemory};
 ghost use Rattle.executor.specs.Openings.{NotOpened, Opened};
 ghost use Rattle.executor.specs.Promise.{IsKept};
 ghost use Rattle.executor.specs.CommandBatches.{CallsCommands, TakesCommands};
-ghost use Rattle.executor.specs.Runs.{Runs};
-ghost use Rattle.executor.specs.SeenLives.{seen};
-ghost use Rattle.executor.specs.Parts.{AreRising, DistinctKeys, IsAnswered, entries_of_runs, events_of, own_runs, part, part_of};
+ghost use Rattle.executor.specs.Behaves.{Behaves};
+ghost use Rattle.executor.specs.SeenIncarnations.{seen};
+ghost use Rattle.executor.specs.Projections.{AreRising, DistinctKeys, IsAnswered, entries_of_runs, events_of, own_runs, part, projection_of};
 ghost use Rattle.exec_ledger.specs.Together.{Answered};
 ghost use Rattle.exec_ledger.specs.Pieces.{Effects};
 ghost use Rattle.executor.specs.Sessions.{Input, Session};
@@ -66,15 +66,15 @@ pub fn each_alone<D: Disk>()
     ensures batch { (now : ℕ) (x : ExecutorView D) (commands : List Command) (replies : List Reply)
         (es : List Event) (id : List ℕ)
         → Answered now x.state commands replies es
-        → AllByRecursion IsAnswered (part_of id (Batch now commands replies))
+        → AllByRecursion IsAnswered (projection_of id (Batch now commands replies))
         → x.state.clock ≤ cut now
-        → Alone id (isolated_of x id) (part_of id (Batch now commands replies)) []
+        → Alone id (isolated_of x id) (projection_of id (Batch now commands replies)) []
         (events_of id es) }
 {}
 
 /// A resource's part of some calls, and its part of others that begin where the first ones end, are one behaviour of the machine
 /// that has this resource alone.
-pub fn parts_join()
+pub fn lemma_projections_join()
     ensures { (id : List ℕ) (x y : Isolated) (is js : List Exchange) (es fs : List Entry) (vs us : List Event) → Alone id x is es vs
         → SameIsolated (isolated_after_all x vs) y → Alone id y js fs us
         → Alone id x (is ++ js) (es ++ fs) (vs ++ us) }
@@ -122,11 +122,11 @@ pub fn distinct_keys()
 /// acknowledgement has the event of its own command in the list, each notice its result, and each start of an agent its begin.
 /// Openings report as interrupted what boots interrupt. The list is in order.
 pub fn promise<D: Disk>()
-    ensures { (start : State) (life : List (Sitting D)) (is : IsLife D.view start life) (c : Image)
-        → LifeLeaves D.view start life c
+    ensures { (start : State) (incarnations : List (Incarnation D)) (is : AreIncarnations D.view start incarnations) (c : Image)
+        → IncarnationsLeave D.view start incarnations c
         → (zs : List Event) × FoundAs (after_all start zs) c
-        × Runs start (seen D.view start life is) zs × Lived start life zs
-        × IsKept start (seen D.view start life is) zs }
+        × Behaves start (seen D.view start incarnations is) zs × SurvivingEvents start incarnations zs
+        × IsKept start (seen D.view start incarnations is) zs }
 {
     found_once();
     lemma_journal_holds();
@@ -150,29 +150,29 @@ pub fn whole_life<D: Disk>()
     ensures fresh { (c : Image) → IsFreshPair c → BeginsAs empty c }
     ensures first { (start : State) (c : Image) → FoundAs start c → IsFirstPart c
         → BeginsAs start c }
-    ensures holds { (start : State) (life : List (Sitting D)) → IsLife D.view start life
-        → (c : Image) → LifeLeaves D.view start life c
-        → (zs : List Event) × Lived start life zs × FoundAs (after_all start zs) c }
-    ensures reserved { (start : State) (life : List (Sitting D)) → IsLife D.view start life
-        → (c : Image) → LifeLeaves D.view start life c
+    ensures holds { (start : State) (incarnations : List (Incarnation D)) → AreIncarnations D.view start incarnations
+        → (c : Image) → IncarnationsLeave D.view start incarnations c
+        → (zs : List Event) × SurvivingEvents start incarnations zs × FoundAs (after_all start zs) c }
+    ensures reserved { (start : State) (incarnations : List (Incarnation D)) → AreIncarnations D.view start incarnations
+        → (c : Image) → IncarnationsLeave D.view start incarnations c
         → PairHasReserve c }
-    ensures opened { (start : State) (life : List (Sitting D)) (old : D) (from : ChildrenView)
+    ensures opened { (start : State) (incarnations : List (Incarnation D)) (old : D) (from : ChildrenView)
         (now : ℕ) (x : ExecutorView D) (ran queued : List Notice)
-        → IsLife D.view start life → GoesOnFrom D.view start life old
+        → AreIncarnations D.view start incarnations → GoesOnFrom D.view start incarnations old
         → Opened D.view (D.view old) from now x ran queued
-        → (D.view x.disk).honest → OpensAfter start life now x.state ran queued }
-    ensures not_refused { (start : State) (life : List (Sitting D)) (old new : D)
+        → (D.view x.disk).honest → OpensAfter start incarnations now x.state ran queued }
+    ensures not_refused { (start : State) (incarnations : List (Incarnation D)) (old new : D)
         (from to : ChildrenView) (now : ℕ) (fault : OpenError)
-        → IsLife D.view start life
-        → GoesOnFrom D.view start life old → NotOpened (D.view old) (D.view new) from to now fault
+        → AreIncarnations D.view start incarnations
+        → GoesOnFrom D.view start incarnations old → NotOpened (D.view old) (D.view new) from to now fault
         → (D.view new).honest
         → (fault ≢ why.Full) × ((d : Damage) → fault ≢ why.Damaged d) }
     ensures refused { (old new : D) (from to : ChildrenView) (now : ℕ) (fault : OpenError)
         → NotOpened (D.view old) (D.view new) from to now fault
-        → Sat D.view (InOpening old new now (Some fault)) }
+        → Lasted D.view (InOpening old new now (Some fault)) }
     ensures looked { (old new : D) (now : ℕ) (end : Option OpenError)
         → Opens (D.view old) (D.view new)
-        → Sat D.view (InOpening old new now end) }
+        → Lasted D.view (InOpening old new now end) }
 {
     found_once();
     lemma_journal_holds();

@@ -5,16 +5,16 @@ ghost use Rattle.ocf_types.specs.LawfulState.{IsLawfulState};
 ghost use Rattle.ocf_types.specs.State.{State};
 ghost use Rattle.executor.specs.Histories.{Follow};
 ghost use Rattle.executor.specs.Promise.{IsKept};
-ghost use Rattle.executor.specs.Runs.{Runs, Seen};
+ghost use Rattle.executor.specs.Behaves.{Behaves, Seen};
 
 /// The events that remain of a behaviour of the machine from a lawful state apply, each in the state that those before it lead to.
 pub fn runs_apply()
     ensures { (start : State) (xs : List Seen) (zs : List Event) → IsLawfulState start
-        → Runs start xs zs → Follow start zs }
+        → Behaves start xs zs → Follow start zs }
 {}
 
 /// The events that a behaviour of the machine from a lawful state left keep the promise.
 pub fn behaviours_keep()
     ensures { (start : State) (xs : List Seen) (zs : List Event) → IsLawfulState start
-        → Runs start xs zs → IsKept start xs zs }
+        → Behaves start xs zs → IsKept start xs zs }
 {}

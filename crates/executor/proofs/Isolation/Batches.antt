@@ -20,8 +20,8 @@ use Rattle.child_model.specs.declared.answer.Entry.{Entry}
 use Rattle.exec_ledger.specs.Pieces.{Effects, batch_effects}
 use Rattle.exec_ledger.specs.Replies.{KeepsRunning, acknowledged}
 use Rattle.exec_ledger.specs.Together.{Answered, disk_each, failed, is_kept}
-use Rattle.executor.specs.Lives.{Exchange, Batch, Took}
-use Rattle.executor.specs.Parts.{IsAnswered, IsPlain, commanded, events_of, part_of}
+use Rattle.executor.specs.Incarnations.{Exchange, Batch, Took}
+use Rattle.executor.specs.Projections.{IsAnswered, IsPlain, commanded, events_of, projection_of}
 use Rattle.executor.specs.Isolated.{Alone, Follows, Isolated, IsolatedCommand, IsolatedTakes, cut, isolated_after_all}
 use Rattle.executor.specs.declared.session.InputOf.TheVariants as input
 use Rattle.executor.proofs.Isolation.Changes.{AreFresh, IsolatedAs, holds_all}
@@ -162,8 +162,8 @@ module _ (now : ℕ) (id : List ℕ) where
 
   -- the machine takes its commands of a batch; where each reply is a refusal none of them had an event
   pub batch_alone : (y : Isolated) (x : Seen) (cs : List Command) (rs ms : List Reply) (es : List Event) → x.state.clock ≤ cut now
-      → AllByRecursion IsAnswered (part_of id (Batch now cs rs)) → IsolatedAs y x.state x.due id → Answered now x.state cs ms es → AreReportedOf rs ms
-      → Alone id y (part_of id (Batch now cs rs)) [] (events_of id es) × (AllRefused rs → events_of id es ≡ [])
+      → AllByRecursion IsAnswered (projection_of id (Batch now cs rs)) → IsolatedAs y x.state x.due id → Answered now x.state cs ms es → AreReportedOf rs ms
+      → Alone id y (projection_of id (Batch now cs rs)) [] (events_of id es) × (AllRefused rs → events_of id es ≡ [])
   batch_alone y x [] [] [] es clock plain holds is reported = ((refl, ap (events_of id) is), λ refused. ap (events_of id) is)
   batch_alone y x [] [] (m ∷ ms) es clock plain holds bad reported = absurd bad
   batch_alone y x [] (r ∷ rs) [] es clock plain holds is bad = absurd bad
@@ -174,7 +174,7 @@ module _ (now : ℕ) (id : List ℕ) where
   batch_alone y x (c ∷ cs) (r ∷ rs) (m ∷ ms) es clock plain holds (first, later, adds, rest, all) reported =
       let b = bytes_eq id (commanded c) in
       let e = Took (input.Request now (asked.Command c)) r in
-      let parts = part_of id (Batch now cs rs) in
+      let parts = projection_of id (Batch now cs rs) in
       let plain2 = plain_first b e parts plain in
       let did = reported_commands now c x (seen_after x first) r m (batch_effects true first) reported.0 (added now c x m first clock adds) in
       let following = batch_alone (isolated_after_all y (events_of id first)) (seen_after x first) cs rs ms later did.does.clock plain2.1

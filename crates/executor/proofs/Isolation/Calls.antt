@@ -17,9 +17,9 @@ use Rattle.exec_ledger.specs.Pieces.{Effects, no_effects, batch_effects}
 use Rattle.exec_ledger.specs.Together.{Answered, batch_replies}
 use Rattle.executor.specs.Joins.{SameIsolated, as_calls}
 use Rattle.executor.specs.FinishCalls.{FinishedWhile}
-use Rattle.executor.specs.Lives.{Abandoned, Calls, Cleared, Exchange, Finished, Batch, Tidied, Took}
-use Rattle.executor.specs.Lives.{Does as Called}
-use Rattle.executor.specs.Parts.{AreRising, DistinctKeys, IsAnswered, IsPlain, entries_of_runs, events_of, is_about, moment_in, own_runs, part, part_of}
+use Rattle.executor.specs.Incarnations.{Abandoned, Calls, Cleared, Exchange, Finished, Batch, Tidied, Took}
+use Rattle.executor.specs.Incarnations.{Does as Called}
+use Rattle.executor.specs.Projections.{AreRising, DistinctKeys, IsAnswered, IsPlain, entries_of_runs, events_of, is_about, moment_in, own_runs, part, projection_of}
 use Rattle.executor.specs.Sessions.{Input, Session, TakesWhile}
 use Rattle.executor.specs.ExecutorView.{ExecutorView, due_in}
 use Rattle.executor.specs.Isolated.{Alone, Isolated, IsolatedPoll, cut, isolated_after_all, isolated_of, running_in}
@@ -27,7 +27,7 @@ use Rattle.executor.specs.declared.session.InputOf.TheVariants as input
 use Rattle.executor.proofs.Isolation.Batches.{AllRefused, AreReportedOf, IsStep, failed_reported, own_command, plain_first, batch_alone, sent_so}
 use Rattle.executor.proofs.Isolation.Changes.{AreFresh, IsolatedAs, single-append, holds_all}
 use Rattle.executor.proofs.Isolation.Finishes.{finish_done, finish_isolated}
-use Rattle.executor.proofs.Isolation.Joins.{parts_join, holds_self}
+use Rattle.executor.proofs.Isolation.Joins.{lemma_projections_join, holds_self}
 use Rattle.executor.proofs.Isolation.Lists.{each_first, each_last}
 use Rattle.executor.proofs.Isolation.Replies.{isolated_question}
 use Rattle.executor.proofs.Isolation.Requests.{commands, seen}
@@ -35,7 +35,7 @@ use Rattle.executor.proofs.Isolation.CommandBatches.{AreOwn, names_it}
 use Rattle.executor.proofs.Isolation.Runs.{is_mine, own_stays, runs_own}
 use Rattle.executor.proofs.Isolation.Turns.{AllBeginOwn, AreApart, BeginsOwn, fresh-append, ids_stay, turn_done, turn_isolated}
 use Rattle.executor.proofs.Isolation.Went.{Went, call_went, closed_plain, first_fresh, here, own_append}
-use Rattle.executor.proofs.Lives.Calls.{calls_closed}
+use Rattle.executor.proofs.Incarnations.Calls.{calls_closed}
 use Rattle.executor.proofs.Sessions.Calls.{session_is_calls}
 
 module _ {D : Type 0} (view : D → View) (mine : ℕ → Bool) (id : List ℕ) where
@@ -106,9 +106,9 @@ module _ {D : Type 0} (view : D → View) (mine : ℕ → Bool) (id : List ℕ) 
       absurd (let bad : turn_end.Closed ≡ turn_end.Done = sym takes.0 ∙ done in cc)
 
   call_alone : (at : ℕ) (y : Isolated) (e : Exchange) (old new : ExecutorView D) (d : Effects) → old.state.clock ≤ moment_in at e
-      → AllByRecursion IsAnswered (part_of id e) → IsolatedAs y old.state (due_in old) id → AreApart old.state
+      → AllByRecursion IsAnswered (projection_of id e) → IsolatedAs y old.state (due_in old) id → AreApart old.state
       → AreOwn mine id (active old.state) → AllBeginOwn mine id d.events → Called view e old new d
-      → Alone id y (part_of id e) (own_entries d.entries) (events_of id d.events)
+      → Alone id y (projection_of id e) (own_entries d.entries) (events_of id d.events)
   unfolding own_entries
   call_alone at y (Took (input.Request now request) r) old new d clock plain holds apart own begins does =
       let e = Took (input.Request now request) r in
@@ -119,21 +119,21 @@ module _ {D : Type 0} (view : D → View) (mine : ℕ → Bool) (id : List ℕ) 
       (turn_alone old.is_open y now old new r d clock plain.0 holds apart own begins does)
   call_alone at y (Batch now cs rs) old new d clock plain holds apart own begins batch =
       let entries : own_entries d.entries ≡ [] = ap own_entries (same_entries batch.does) in
-      subst (λ (l : List Entry). Alone id y (part_of id (Batch now cs rs)) l (events_of id d.events)) (sym entries)
+      subst (λ (l : List Entry). Alone id y (projection_of id (Batch now cs rs)) l (events_of id d.events)) (sym entries)
       (by new.is_open refl batch.takes.reported (same_events batch.does))
     where
-      takes : AreReportedOf rs batch.takes.meant → Alone id y (part_of id (Batch now cs rs)) [] (events_of id batch.takes.events)
+      takes : AreReportedOf rs batch.takes.meant → Alone id y (projection_of id (Batch now cs rs)) [] (events_of id batch.takes.events)
           × (AllRefused rs → events_of id batch.takes.events ≡ [])
       takes reported = batch_alone now id y (seen old) cs rs batch.takes.meant batch.takes.events clock plain holds batch.takes.answered reported
 
       by : (b : Bool) → new.is_open ≡ b → rs ≡ batch_replies b batch.takes.meant → d.events ≡ (batch_effects b batch.takes.events).events
-          → Alone id y (part_of id (Batch now cs rs)) [] (events_of id d.events)
-      by true is reported events = subst (λ (l : List Event). Alone id y (part_of id (Batch now cs rs)) [] (events_of id l)) (sym events)
+          → Alone id y (projection_of id (Batch now cs rs)) [] (events_of id d.events)
+      by true is reported events = subst (λ (l : List Event). Alone id y (projection_of id (Batch now cs rs)) [] (events_of id l)) (sym events)
           (takes (subst (λ (l : List Reply). AreReportedOf l batch.takes.meant) (sym reported) (sent_so batch.takes.meant))).0
       by false is reported events =
           let bad = failed_reported batch.takes.meant in
           let both = takes (subst (λ (l : List Reply). AreReportedOf l batch.takes.meant) (sym reported) bad.0) in
-          subst (λ (l : List Event). Alone id y (part_of id (Batch now cs rs)) [] l)
+          subst (λ (l : List Event). Alone id y (projection_of id (Batch now cs rs)) [] l)
           (both.1 (subst AllRefused (sym reported) bad.1) ∙ sym (ap (events_of id) events)) both.0
   call_alone at y (Finished now end) old new d clock plain holds apart own begins does =
       one_alone true y (Finished now end) (own_entries d.entries) (events_of id d.events)
@@ -147,10 +147,10 @@ module _ {D : Type 0} (view : D → View) (mine : ℕ → Bool) (id : List ℕ) 
       → AllByRecursion IsAnswered (part id es) → Calls view x es z d → AreFresh x.state d.events
   calls_fresh at [] x z d clock rises plain calls = subst (λ (k : Effects). AreFresh x.state k.events) (sym calls.1) tt
   calls_fresh at (e ∷ es) x z d clock rises plain (mid, first, later, does, rest, all) =
-      let went = call_went view mine id at e x mid first (le_trans clock rises.0) (each_first IsAnswered (part_of id e) (part id es) plain) does in
+      let went = call_went view mine id at e x mid first (le_trans clock rises.0) (each_first IsAnswered (projection_of id e) (part id es) plain) does in
       subst (λ (k : Effects). AreFresh x.state k.events) (sym all)
       (by mid.is_open refl went (first_fresh x.state first.events went.more went.does.next)
-      (calls_fresh (moment_in at e) es mid z later went.does.clock rises.1 (each_last IsAnswered (part_of id e) (part id es) plain) rest))
+      (calls_fresh (moment_in at e) es mid z later went.does.clock rises.1 (each_last IsAnswered (projection_of id e) (part id es) plain) rest))
     where
       by : (b : Bool) → mid.is_open ≡ b → Went mine id (moment_in at e) x mid first.events → AreFresh x.state first.events
           → AreFresh mid.state later.events → AreFresh x.state (first.events ++ later.events)
@@ -171,10 +171,10 @@ module _ {D : Type 0} (view : D → View) (mine : ℕ → Bool) (id : List ℕ) 
       subst (λ (k : Effects). IsolatedAs (isolated_after_all y (events_of id k.events)) z.state (due_in z) id) (sym calls.1)
       (subst (λ (w : ExecutorView D). IsolatedAs y w.state (due_in w) id) (sym calls.0) holds)
   calls_hold at (e ∷ es) y x z d clock rises plain holds (mid, first, later, does, rest, all) =
-      let went = call_went view mine id at e x mid first (le_trans clock rises.0) (each_first IsAnswered (part_of id e) (part id es) plain) does in
+      let went = call_went view mine id at e x mid first (le_trans clock rises.0) (each_first IsAnswered (projection_of id e) (part id es) plain) does in
       let y2 = isolated_after_all y (events_of id first.events) in
       let there = calls_hold (moment_in at e) es y2 mid z later went.does.clock rises.1
-      (each_last IsAnswered (part_of id e) (part id es) plain) (holds_after (moment_in at e) y x mid first.events went holds) rest in
+      (each_last IsAnswered (projection_of id e) (part id es) plain) (holds_after (moment_in at e) y x mid first.events went holds) rest in
       subst (λ (v : Isolated). IsolatedAs v z.state (due_in z) id)
       (sym (ap (λ (k : Effects). isolated_after_all y (events_of id k.events)) all
       ∙ ap (isolated_after_all y) (filter-append (names_it id) first.events later.events)
@@ -188,7 +188,7 @@ module _ {D : Type 0} (view : D → View) (mine : ℕ → Bool) (id : List ℕ) 
   alone at [] y x z d clock rises plain holds apart own begins calls = (no_entries d calls.1, no_events d calls.1)
   alone at (e ∷ es) y x z d clock rises plain holds apart own begins (mid, first, later, does, rest, all) =
       let now : x.state.clock ≤ moment_in at e = le_trans clock rises.0 in
-      let plain_here = each_first IsAnswered (part_of id e) (part id es) plain in
+      let plain_here = each_first IsAnswered (projection_of id e) (part id es) plain in
       let went = call_went view mine id at e x mid first now plain_here does in
       let all_begin : AllBeginOwn mine id (first.events ++ later.events) = subst (λ (k : Effects). AllBeginOwn mine id k.events) all begins in
       let begins_first = each_first (λ e. BeginsOwn mine id e.change) first.events later.events all_begin in
@@ -197,7 +197,7 @@ module _ {D : Type 0} (view : D → View) (mine : ℕ → Bool) (id : List ℕ) 
       let y2 = isolated_after_all y (events_of id first.events) in
       let one = call_alone at y e x mid first now plain_here holds apart own begins_first does in
       let following = alone (moment_in at e) es y2 mid z later went.does.clock rises.1
-      (each_last IsAnswered (part_of id e) (part id es) plain) (holds_after (moment_in at e) y x mid first.events went holds)
+      (each_last IsAnswered (projection_of id e) (part id es) plain) (holds_after (moment_in at e) y x mid first.events went holds)
       (subst AreApart (sym went.does.state) (ids_stay x.state done went.does.next apart))
       (subst (λ (s : State). AreOwn mine id (active s)) (sym went.does.state)
       (own_stays mine id x.state done went.does.next (own_append mine id first.events went.more begins_first went.begins) own))
@@ -207,7 +207,7 @@ module _ {D : Type 0} (view : D → View) (mine : ℕ → Bool) (id : List ℕ) 
       (sym (filter-append (λ e. mine e.run) first.entries later.entries))
       (subst (λ (l : List Event). Alone id y (part id (e ∷ es)) (own_entries first.entries ++ own_entries later.entries) l)
       (sym (filter-append (names_it id) first.events later.events))
-      (parts_join id y y2 (part_of id e) (part id es) (own_entries first.entries) (own_entries later.entries) (events_of id first.events)
+      (lemma_projections_join id y y2 (projection_of id e) (part id es) (own_entries first.entries) (own_entries later.entries) (events_of id first.events)
       (events_of id later.events) one (holds_self y2) following)))
 
 module _ {D : Type 0} (view : D → View) (x z : ExecutorView D) where
@@ -241,7 +241,7 @@ module _ {D : Type 0} (view : D → View) (x z : ExecutorView D) where
 
 -- the law of a batch
 pub commands_alone : {D : Type 0} (now : ℕ) (x : ExecutorView D) (commands : List Command) (replies : List Reply) (es : List Event) (id : List ℕ)
-    → Answered now x.state commands replies es → AllByRecursion IsAnswered (part_of id (Batch now commands replies)) → x.state.clock ≤ cut now
-    → Alone id (isolated_of x id) (part_of id (Batch now commands replies)) [] (events_of id es)
+    → Answered now x.state commands replies es → AllByRecursion IsAnswered (projection_of id (Batch now commands replies)) → x.state.clock ≤ cut now
+    → Alone id (isolated_of x id) (projection_of id (Batch now commands replies)) [] (events_of id es)
 commands_alone now x commands replies es id answered plain clock =
     (batch_alone now id (isolated_of x id) (seen x) commands replies replies es clock plain (here x id) answered (sent_so replies)).0

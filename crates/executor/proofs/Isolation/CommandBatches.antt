@@ -22,7 +22,7 @@ use Rattle.exec_turn.specs.Picks.{begin_of, begins}
 use Rattle.exec_turn.specs.Polls.{IsPoll, Polled, ending, ends_of, entries_of, is_late, polls, results, said}
 use Rattle.exec_turn.specs.Starts.{Started, refusals, refused_end, starts}
 use Rattle.ocf_types.specs.Laws.{each_weaken}
-use Rattle.executor.specs.Parts.{events_of}
+use Rattle.executor.specs.Projections.{events_of}
 use Rattle.executor.specs.Isolated.{IsolatedPoll}
 use Rattle.executor.proofs.Isolation.Changes.{AreFresh, IsFresh}
 use Rattle.executor.proofs.Isolation.Lists.{each_flat_map, each_map, each_of_all, each_unmap, filter-flat_map, filter-map, filter_alike, filter_same}

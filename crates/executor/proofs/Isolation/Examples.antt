@@ -7,8 +7,8 @@ use Rattle.ocf_types.specs.declared.command.RequestOf.TheVariants as asked
 use Rattle.ocf_types.specs.declared.reply.ReplyOf.TheVariants as reply
 use Rattle.ocf_types.specs.declared.reply.TidyEnd.TheVariants as tidy
 use Rattle.ocf_types.specs.declared.reply.TurnEnd.TheVariants.{Closed, Done}
-use Rattle.executor.specs.Lives.{Exchange, Finished, Batch, Tidied, Took}
-use Rattle.executor.specs.Parts.{AreRising, IsAnswered, part}
+use Rattle.executor.specs.Incarnations.{Exchange, Finished, Batch, Tidied, Took}
+use Rattle.executor.specs.Projections.{AreRising, IsAnswered, part}
 use Rattle.executor.specs.declared.session.InputOf.TheVariants as input
 use Rattle.executor.proofs.History.Examples.{r1}
 

@@ -15,7 +15,7 @@ use Rattle.exec_ledger.specs.Scenes.{due_after_all, scene}
 use Rattle.exec_turn.specs.Polls.{Polled, polls, results}
 use Rattle.exec_turn.specs.Turn.{EachPolled, IsFinish, OnlyResults}
 use Rattle.executor.specs.Isolated.{Isolated, IsolatedPoll, cut, running_in}
-use Rattle.executor.specs.Parts.{events_of}
+use Rattle.executor.specs.Projections.{events_of}
 use Rattle.executor.specs.ExecutorView.{ExecutorView, due_in}
 use Rattle.executor.specs.TurnCalls.{FinishesTurn}
 use Rattle.executor.proofs.Isolation.Changes.{IsolatedAs}

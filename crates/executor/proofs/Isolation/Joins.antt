@@ -8,7 +8,7 @@ use Rattle.ocf_types.specs.declared.event.Change.TheVariants as change
 use Rattle.ocf_types.specs.declared.event.Step.TheVariants as step
 use Rattle.child_model.specs.declared.answer.Entry.{Entry}
 use Rattle.executor.specs.Joins.{SameIsolated}
-use Rattle.executor.specs.Lives.{Abandoned, Cleared, Exchange, Finished, Batch, Tidied, Took}
+use Rattle.executor.specs.Incarnations.{Abandoned, Cleared, Exchange, Finished, Batch, Tidied, Took}
 use Rattle.executor.specs.Isolated.{Alone, Isolated, IsolatedBegin, IsolatedRest, IsolatedTakes, above_call, above_run, cut, has_monitor, isolated_after, isolated_after_all, isolated_answer, isolated_changed, isolated_sets}
 use Rattle.executor.specs.declared.session.InputOf.TheVariants as input
 use Rattle.executor.proofs.Isolation.Changes.{monitor_before, or_else_alike, single-append}
@@ -113,13 +113,13 @@ pub holds_self : (x : Isolated) → SameIsolated x x
 holds_self x = record { resource = refl; due = λ call there. refl; calls = le_refl x.next_call; runs = le_refl x.next_run }
 
 -- one part, and another from where it ended
-pub parts_join : (id : List ℕ) (x y : Isolated) (is js : List Exchange) (es fs : List Entry) (vs us : List Event) → Alone id x is es vs
+pub lemma_projections_join : (id : List ℕ) (x y : Isolated) (is js : List Exchange) (es fs : List Entry) (vs us : List Event) → Alone id x is es vs
     → SameIsolated (isolated_after_all x vs) y → Alone id y js fs us → Alone id x (is ++ js) (es ++ fs) (vs ++ us)
-parts_join id x y [] js es fs vs us (no_entries, no_events) s h =
+lemma_projections_join id x y [] js es fs vs us (no_entries, no_events) s h =
     subst (λ (l : List Entry). Alone id x js (l ++ fs) (vs ++ us)) (sym no_entries)
     (subst (λ (l : List Event). Alone id x js fs (l ++ us)) (sym no_events)
     (alone_there id x y js fs us (subst (λ (l : List Event). SameIsolated (isolated_after_all x l) y) no_events s) h))
-parts_join id x y (i ∷ is) js es fs vs us (e1, e2, v1, v2, entries_are, events_are, takes, rest) s h =
+lemma_projections_join id x y (i ∷ is) js es fs vs us (e1, e2, v1, v2, entries_are, events_are, takes, rest) s h =
     let there : SameIsolated (isolated_after_all (isolated_after_all x v1) v2) y =
     subst (λ (z : Isolated). SameIsolated z y) (ap (isolated_after_all x) events_are ∙ single-append x v1 v2) s in (
       e1,
@@ -129,5 +129,5 @@ parts_join id x y (i ∷ is) js es fs vs us (e1, e2, v1, v2, entries_are, events
       ap (λ (l : List Entry). l ++ fs) entries_are ∙ append_assoc e1 e2 fs,
       ap (λ (l : List Event). l ++ us) events_are ∙ append_assoc v1 v2 us,
       takes,
-      parts_join id (isolated_after_all x v1) y is js e2 fs v2 us rest there h,
+      lemma_projections_join id (isolated_after_all x v1) y is js e2 fs v2 us rest there h,
     )

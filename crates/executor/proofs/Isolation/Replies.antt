@@ -14,7 +14,7 @@ use Rattle.ocf_types.specs.declared.refusal.Refusal.{Refusal}
 use Rattle.ocf_types.specs.declared.refusal.Refusal.TheVariants as refusal
 use Rattle.ocf_types.specs.declared.reply.ReplyOf.TheVariants as reply
 use Rattle.exec_state.specs.Answers.{IsReplyOrMemory}
-use Rattle.executor.specs.Parts.{IsPlain, commanded, is_about}
+use Rattle.executor.specs.Projections.{IsPlain, commanded, is_about}
 use Rattle.executor.specs.Isolated.{Follows, Isolated, IsolatedCommand, cut, isolated_answer, isolated_event, isolated_tests}
 use Rattle.executor.proofs.Isolation.Requests.{moment_is}
 

@@ -18,7 +18,7 @@ use Rattle.ocf_types.specs.RegistryLaws.{none_is, passed}
 use Rattle.disk_model.specs.View.{View}
 use Rattle.exec_ledger.specs.Scenes.{due_after_all}
 use Rattle.exec_ledger.specs.Commands.{Obeys, Records}
-use Rattle.executor.specs.Parts.{IsPlain, commanded}
+use Rattle.executor.specs.Projections.{IsPlain, commanded}
 use Rattle.exec_ledger.specs.Replies.{IsReplyTo, KeepsRunning, acknowledged, recorded}
 use Rattle.exec_ledger.specs.Together.{Adds}
 use Rattle.exec_ledger.specs.Pieces.{Effects, batch_effects}

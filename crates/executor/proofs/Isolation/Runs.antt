@@ -22,7 +22,7 @@ use Rattle.ocf_types.specs.RegistryLaws.{each_filter}
 use Rattle.ocf_types.specs.Laws.{distinct_none, each_append, each_weaken}
 use Rattle.exec_ledger.specs.Actives.{Active, active, active_in, runs_of, active_of}
 use Rattle.exec_turn.specs.AgentsLive.{AgentsLive}
-use Rattle.executor.specs.Parts.{DistinctKeys, own_runs, run_begun}
+use Rattle.executor.specs.Projections.{DistinctKeys, own_runs, run_begun}
 use Rattle.executor.proofs.Isolation.Changes.{AreFresh, IsFresh}
 use Rattle.executor.proofs.Isolation.Lists.{each_first, each_into, each_last, each_map, each_out, each_unmap, filter-map, owned}
 use Rattle.executor.proofs.Isolation.CommandBatches.{AreOwn}

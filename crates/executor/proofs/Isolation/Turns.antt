@@ -28,7 +28,7 @@ use Rattle.exec_turn.specs.Polls.{IsPoll, Polled, polls, results}
 use Rattle.exec_turn.specs.Starts.{Started, refusals, starts}
 use Rattle.exec_turn.specs.Turn.{IsTurn, TurnReport, Whole}
 use Rattle.exec_ledger.specs.Scenes.{due_after_all, scene}
-use Rattle.executor.specs.Parts.{IsPlain, events_of}
+use Rattle.executor.specs.Projections.{IsPlain, events_of}
 use Rattle.exec_ledger.specs.Laws.{same_entries, same_events}
 use Rattle.exec_ledger.specs.Pieces.{Effects}
 use Rattle.executor.specs.Sessions.{TakesATurn}

@@ -15,9 +15,9 @@ use Rattle.exec_ledger.specs.Laws.{same_events}
 use Rattle.exec_ledger.specs.Pieces.{Effects, no_effects, batch_effects}
 use Rattle.exec_ledger.specs.Together.{batch_replies}
 use Rattle.executor.specs.FinishCalls.{FinishedWhile}
-use Rattle.executor.specs.Lives.{Abandoned, Cleared, Exchange, Finished, Batch, Tidied, Took}
-use Rattle.executor.specs.Lives.{Does as Called}
-use Rattle.executor.specs.Parts.{IsAnswered, IsPlain, events_of, moment_in, part_of}
+use Rattle.executor.specs.Incarnations.{Abandoned, Cleared, Exchange, Finished, Batch, Tidied, Took}
+use Rattle.executor.specs.Incarnations.{Does as Called}
+use Rattle.executor.specs.Projections.{IsAnswered, IsPlain, events_of, moment_in, projection_of}
 use Rattle.executor.specs.BatchCalls.{TakesBatch}
 use Rattle.executor.specs.Sessions.{Input, TakesWhile, closed_reply}
 use Rattle.executor.specs.ExecutorView.{ExecutorView, due_in}
@@ -105,7 +105,7 @@ module _ {D : Type 0} (view : D → View) (mine : ℕ → Bool) (id : List ℕ) 
 
   -- a batch of commands
   batch_went : (now : ℕ) (cs : List Command) (rs : List Reply) (old new : ExecutorView D) (d : Effects) → old.state.clock ≤ cut now
-      → AllByRecursion IsAnswered (part_of id (Batch now cs rs)) → TakesBatch view now cs old new rs d → Went mine id (cut now) old new d.events
+      → AllByRecursion IsAnswered (projection_of id (Batch now cs rs)) → TakesBatch view now cs old new rs d → Went mine id (cut now) old new d.events
   batch_went now cs rs old new d clock plain batch = by new.is_open refl batch.takes.reported (same_events batch.does)
     where
       es : List Event
@@ -140,7 +140,7 @@ module _ {D : Type 0} (view : D → View) (mine : ℕ → Bool) (id : List ℕ) 
 
   -- any call
   pub call_went : (at : ℕ) (e : Exchange) (old new : ExecutorView D) (d : Effects) → old.state.clock ≤ moment_in at e
-      → AllByRecursion IsAnswered (part_of id e) → Called view e old new d → Went mine id (moment_in at e) old new d.events
+      → AllByRecursion IsAnswered (projection_of id e) → Called view e old new d → Went mine id (moment_in at e) old new d.events
   call_went at (Took (input.Request now request) r) old new d clock plain does = request_went old.is_open now r old new d request clock does
   call_went at (Took (input.Turn now) r) old new d clock plain does = turn_went old.is_open now r old new d clock plain.0 does
   call_went at (Batch now cs rs) old new d clock plain does = batch_went now cs rs old new d clock plain does

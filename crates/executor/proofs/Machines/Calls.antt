@@ -18,7 +18,7 @@ use Rattle.disk_model.specs.View.{View}
 use Rattle.child_model.specs.declared.answer.Entry.{Entry}
 use Rattle.exec_turn.specs.Turn.{IsFinish, IsTurn, TurnKind}
 use Rattle.exec_ledger.specs.Commands.{Obeys, Records}
-use Rattle.executor.specs.Lives.{Abandoned, Calls, Cleared, Does, Exchange, Finished, Batch, Tidied, Took}
+use Rattle.executor.specs.Incarnations.{Abandoned, Calls, Cleared, Does, Exchange, Finished, Batch, Tidied, Took}
 use Rattle.executor.specs.Machine.{GoesOn, Label, Machine, MovesAll, MovesOpen, MovesTurn, MovesWhile, TakesAll, TakesOne, TidyEnds}
 use Rattle.exec_ledger.specs.Replies.{acknowledged, pending, recorded}
 use Rattle.exec_ledger.specs.Together.{Adds, Answered, failed, batch_replies}
@@ -27,7 +27,7 @@ use Rattle.executor.specs.BatchCalls.{TakesBatch}
 use Rattle.exec_ledger.specs.Laws.{of_open, same_entries}
 use Rattle.exec_ledger.specs.Pieces.{Effects, no_effects, batch_effects}
 use Rattle.exec_ledger.specs.Scenes.{due_after_all}
-use Rattle.executor.specs.SeenLives.{label_in, labels}
+use Rattle.executor.specs.SeenIncarnations.{label_in, labels}
 use Rattle.executor.specs.Sessions.{TakesATurn, TakesRequest, command_effects}
 use Rattle.exec_ledger.specs.LedgerView.{LedgerView, due_in as held_due}
 use Rattle.executor.specs.CallLaws.{same_view}
@@ -35,7 +35,7 @@ use Rattle.executor.specs.ExecutorView.{OnlyLedgerChanges, ExecutorView, due_in,
 use Rattle.exec_ledger.specs.Tidying.{Tidies}
 use Rattle.executor.specs.TurnCalls.{MakesTurn}
 use Rattle.executor.specs.declared.session.InputOf.TheVariants as input
-use Rattle.executor.proofs.Lives.Calls.{does_nothing}
+use Rattle.executor.proofs.Incarnations.Calls.{does_nothing}
 use Rattle.executor.proofs.Memory.{memory_reported}
 
 -- an executor as the machine

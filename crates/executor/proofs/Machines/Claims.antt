@@ -28,12 +28,12 @@ use Rattle.exec_turn.specs.Polls.{Polled, ends_of, result_notices, results}
 use Rattle.exec_turn.specs.Starts.{refusal_notices, refusals, refused_end}
 use Rattle.exec_ledger.specs.Laws.{same_events}
 use Rattle.exec_turn.specs.Turn.{IsFinish, IsTurn, Whole}
-use Rattle.executor.specs.Lives.{Exchange, Finished, Batch, Took, boots}
+use Rattle.executor.specs.Incarnations.{Exchange, Finished, Batch, Took, boots}
 use Rattle.executor.specs.Machine.{AnswersClosed, Label, Machine, MovesAll, MovesOpen, MovesWhile, TakesAll, TakesOne}
 use Rattle.executor.specs.Promise.{Acknowledged, AllBegun, AllRecorded, Claim, Ended, IsKept, acknowledged_in, acknowledgements, claimed, claims_of}
-use Rattle.executor.specs.Runs.{HasBegins, Opening, Remains, Runs, Seen, SeenService, Serving, opened_on}
+use Rattle.executor.specs.Behaves.{HasBegins, Opening, Remains, Behaves, Seen, SeenUptime, Serving, opened_on}
 use Rattle.executor.specs.declared.session.InputOf.TheVariants as input
-use Rattle.executor.proofs.Lives.Whole.{boots_is}
+use Rattle.executor.proofs.Incarnations.Whole.{boots_is}
 use Rattle.executor.proofs.Machines.Reports.{reports_reported}
 use Rattle.executor.proofs.Machines.Runs.{in_order, moves_so}
 
@@ -232,23 +232,23 @@ all_claims (l ∷ ls) m n did (mid, first, later, moves, rest, is) =
     (later_claims mid.is_open l ls m mid n first later refl moves rest (all_claims ls mid n later rest)))
 
 -- those of an incarnation, in the events that remain of it
-service_recorded : (x : SeenService) (s : State) (p : List Event) → Remains x s p
+uptime_recorded : (x : SeenUptime) (s : State) (p : List Event) → Remains x s p
     → AllRecorded s (flat_map claims_of x.calls) (boots s x.now ++ p)
-service_recorded x s p r =
+uptime_recorded x s p r =
     let cs = flat_map claims_of x.calls in
     let first = all_claims x.calls (opened_on s x.now x.refuses) r.returned r.done r.moves in
     let here : AllRecorded (booted s x.now) cs p =
     subst (AllRecorded (booted s x.now) cs) (sym r.holds.2) (recorded_more (booted s x.now) cs r.done.events r.holds.0 first) in
     recorded_later s cs (boots s x.now) p (subst (λ (t : State). AllRecorded t cs p) (sym (boots_is s x.now)) here)
 
-pub runs_recorded : (start : State) (xs : List Seen) (zs : List Event) → Runs start xs zs → AllRecorded start (claimed xs) zs
+pub runs_recorded : (start : State) (xs : List Seen) (zs : List Event) → Behaves start xs zs → AllRecorded start (claimed xs) zs
 runs_recorded start [] zs none = tt
 runs_recorded start (Opening now end ∷ older) zs (ys, more, before, sits, is) =
     subst (AllRecorded start (claimed older)) (sym is) (recorded_more start (claimed older) ys more (runs_recorded start older ys before))
 runs_recorded start (Serving x ∷ older) zs (ys, more, before, (p, r, more_is), is) =
     subst (AllRecorded start (claimed older ++ flat_map claims_of x.calls)) (sym is)
     (both_recorded start (claimed older) ys (flat_map claims_of x.calls) more (runs_recorded start older ys before)
-    (subst (AllRecorded (after_all start ys) (flat_map claims_of x.calls)) (sym more_is) (service_recorded x (after_all start ys) p r)))
+    (subst (AllRecorded (after_all start ys) (flat_map claims_of x.calls)) (sym more_is) (uptime_recorded x (after_all start ys) p r)))
 
 -- a begin among events is among more
 begin_before : (run : ℕ) (es fs : List Event) → HasBegin run es → HasBegin run (es ++ fs)
@@ -265,7 +265,7 @@ begun_before (Opening now end ∷ older) es fs h = begun_before older es fs h
 begun_before (Serving x ∷ older) es fs h =
     (begun_before older es fs h.0, λ run clock asked le. begin_before run es fs (h.1 run clock asked le))
 
-pub runs_begun : (start : State) (xs : List Seen) (zs : List Event) → Runs start xs zs → AllBegun xs zs
+pub runs_begun : (start : State) (xs : List Seen) (zs : List Event) → Behaves start xs zs → AllBegun xs zs
 runs_begun start [] zs none = tt
 runs_begun start (Opening now end ∷ older) zs (ys, more, before, sits, is) =
     subst (AllBegun older) (sym is) (begun_before older ys more (runs_begun start older ys before))
@@ -277,7 +277,7 @@ runs_begun start (Serving x ∷ older) zs (ys, more, before, (p, r, more_is), is
     )
 
 -- the promise
-pub runs_kept : (start : State) (xs : List Seen) (zs : List Event) → IsLawfulState start → Runs start xs zs → IsKept start xs zs
+pub runs_kept : (start : State) (xs : List Seen) (zs : List Event) → IsLawfulState start → Behaves start xs zs → IsKept start xs zs
 runs_kept start xs zs lawful runs = record {
   recorded = runs_recorded start xs zs runs;
   begun = runs_begun start xs zs runs;

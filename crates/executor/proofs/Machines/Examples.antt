@@ -24,10 +24,10 @@ use Rattle.exec_turn.specs.Starts.{Started, refusal_notices, refusals, starts}
 use Rattle.exec_ledger.specs.Laws.{same_entries, same_events}
 use Rattle.exec_ledger.specs.Pieces.{Effects}
 use Rattle.exec_turn.specs.Turn.{IsTurn, Whole}
-use Rattle.executor.specs.Lives.{Took}
+use Rattle.executor.specs.Incarnations.{Took}
 use Rattle.executor.specs.Machine.{Label, Machine, MovesWhile}
 use Rattle.executor.specs.Promise.{Acknowledged, AllRecorded}
-use Rattle.executor.specs.Runs.{HasBegins, SeenService}
+use Rattle.executor.specs.Behaves.{HasBegins, SeenUptime}
 use Rattle.executor.specs.declared.session.InputOf.TheVariants as input
 use Rattle.executor.proofs.History.Examples.{asked, r1, registered}
 
@@ -117,7 +117,7 @@ memory_at_once : (answers : List Entry) (room : ℕ) (notices : List Notice) (n 
 memory_at_once answers room notices n did moves = let bad : false ≡ true = moves.1 refl in cc
 
 -- a crash after which the begin of an agent that was spawned is lost
-abbrev started : SeenService
+abbrev started : SeenUptime
 started = record {
   now = 0;
   ran = [];

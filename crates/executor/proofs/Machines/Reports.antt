@@ -11,10 +11,10 @@ use Rattle.ocf_types.specs.State.{Registry, State, after_all}
 use Rattle.ocf_types.specs.declared.operation.Running.{Running}
 use Rattle.ocf_types.specs.declared.reply.Notice.{Notice}
 use Rattle.executor.specs.Histories.{IsWithin, interruptions}
-use Rattle.executor.specs.Lives.{boots}
+use Rattle.executor.specs.Incarnations.{boots}
 use Rattle.executor.specs.Interruptions.{interrupted, interrupted_in, interruption}
-use Rattle.executor.specs.Runs.{Opening, Runs, Seen, Serving}
-use Rattle.executor.specs.SeenLives.{reports}
+use Rattle.executor.specs.Behaves.{Opening, Behaves, Seen, Serving}
+use Rattle.executor.specs.SeenIncarnations.{reports}
 use Rattle.executor.proofs.History.Runs.{both_false, rests}
 use Rattle.executor.proofs.History.TurnReport.{interruptions-append}
 
@@ -54,7 +54,7 @@ boots_report s now = by (any_busy s) refl
     by false idle =
         subst (λ (l : List Notice). IsWithin l []) (sym (none_interrupted (moment s now) s.resources idle)) tt
 
-pub reports_reported : (start : State) (xs : List Seen) (zs : List Event) → Runs start xs zs → IsWithin (reports xs) (interruptions start zs)
+pub reports_reported : (start : State) (xs : List Seen) (zs : List Event) → Behaves start xs zs → IsWithin (reports xs) (interruptions start zs)
 reports_reported start [] zs none = tt
 reports_reported start (Opening now end ∷ older) zs (ys, more, before, sits, is) =
     subst (λ (l : List Event). IsWithin (reports older) (interruptions start l)) (sym is)

@@ -32,9 +32,9 @@ use Rattle.exec_ledger.specs.Laws.{same_events, same_pending}
 use Rattle.exec_ledger.specs.Pieces.{Effects, followed_by, no_effects, batch_effects}
 use Rattle.exec_turn.specs.Turn.{EachPolled, IsFinish, IsTurn, PickedAt, TurnReport, TurnKind, Whole}
 use Rattle.executor.specs.Histories.{Follow, IsInOrder}
-use Rattle.executor.specs.Lives.{Abandoned, Cleared, Exchange, Finished, Batch, Tidied, Took, boots}
+use Rattle.executor.specs.Incarnations.{Abandoned, Cleared, Exchange, Finished, Batch, Tidied, Took, boots}
 use Rattle.executor.specs.Machine.{GoesOn, Label, Machine, MovesAll, MovesOpen, MovesTurn, MovesWhile, TakesAll, TidyEnds}
-use Rattle.executor.specs.Runs.{Opening, Runs, Seen, Serving, Sits, opened_on}
+use Rattle.executor.specs.Behaves.{Opening, Behaves, Seen, Serving, Sits, opened_on}
 use Rattle.exec_ledger.specs.Boots.{booted}
 use Rattle.exec_ledger.specs.Together.{Adds, Answered}
 use Rattle.executor.specs.declared.session.InputOf.TheVariants as input
@@ -43,7 +43,7 @@ use Rattle.executor.proofs.History.Events.{runs_ascend}
 use Rattle.executor.proofs.History.Order.{begin_in_order}
 use Rattle.executor.proofs.History.Runs.{ends_between, follow_first}
 use Rattle.executor.proofs.History.TurnReport.{apart_all, interrupted_once}
-use Rattle.executor.proofs.Lives.Whole.{boots_is}
+use Rattle.executor.proofs.Incarnations.Whole.{boots_is}
 use Rattle.executor.proofs.Machines.Follows.{AtMostOne, BegunSo, RunsHere, all_run, begins_follow, command_applies, drawn, ends_follow, entries_found, follow_both, ids_of}
 
 -- ids differ, and the next call number is not above the greatest
@@ -336,18 +336,18 @@ sits_follow (Serving x) s zs fine (p, r, is) =
     follow_first (booted s x.now) p r.holds.1 (subst (Follow (booted s x.now)) (sym r.holds.3) all) in
     subst (Follow s) (sym is) (follow_both s (boots s x.now) p boot (subst (λ (t : State). Follow t p) (sym open_state) first))
 
-pub runs_follow : (start : State) (xs : List Seen) (zs : List Event) → Fine start → Runs start xs zs → Follow start zs
+pub runs_follow : (start : State) (xs : List Seen) (zs : List Event) → Fine start → Behaves start xs zs → Follow start zs
 runs_follow start [] zs fine none = subst (Follow start) (sym none) tt
 runs_follow start (x ∷ older) zs fine (ys, more, before, sits, is) =
     let first = runs_follow start older ys fine before in
     subst (Follow start) (sym is)
     (follow_both start ys more first (sits_follow x (after_all start ys) more (fine_on start ys first fine) sits))
 
-pub runs_apply : (start : State) (xs : List Seen) (zs : List Event) → IsLawfulState start → Runs start xs zs → Follow start zs
+pub runs_apply : (start : State) (xs : List Seen) (zs : List Event) → IsLawfulState start → Behaves start xs zs → Follow start zs
 runs_apply start xs zs lawful runs = runs_follow start xs zs (record { apart = lawful.ids; low = lawful.next_call.1 }) runs
 
 -- and they are in order
-pub in_order : (start : State) (xs : List Seen) (zs : List Event) → IsLawfulState start → Runs start xs zs → IsInOrder start zs
+pub in_order : (start : State) (xs : List Seen) (zs : List Event) → IsLawfulState start → Behaves start xs zs → IsInOrder start zs
 in_order start xs zs lawful runs =
     let follow = runs_apply start xs zs lawful runs in record {
       runs = runs_ascend start zs follow;

@@ -20,10 +20,10 @@ use Rattle.exec_ledger.specs.Replies.{acknowledged}
 use Rattle.exec_ledger.specs.Scenes.{scene}
 use Rattle.exec_turn.specs.Picks.{begins as begins_at}
 use Rattle.exec_turn.specs.Turn.{TurnReport}
-use Rattle.executor.specs.Lives.{Took}
+use Rattle.executor.specs.Incarnations.{Took}
 use Rattle.executor.specs.Machine.{Label, Machine, MovesWhile, after_events}
 use Rattle.executor.specs.Interruptions.{interrupted}
-use Rattle.executor.specs.Runs.{HasBegins, Remains, Runs, SeenService, Serving, opened_on}
+use Rattle.executor.specs.Behaves.{HasBegins, Remains, Behaves, SeenUptime, Serving, opened_on}
 use Rattle.executor.specs.declared.session.InputOf.TheVariants as input
 use Rattle.executor.proofs.History.Examples.{asked as exec_event, begins, boot, r1, registered}
 
@@ -120,7 +120,7 @@ module _ (p : Position) (fits : IsTooLong p.tail (begins_at 10 (begun ∷ [])) �
   )
 
   -- the first incarnation
-  abbrev first : SeenService
+  abbrev first : SeenUptime
   first = record { now = 0; ran = []; queued = []; calls = asks ∷ []; begun = turns ∷ []; stop = 7; refuses = false }
 
   abbrev recorded : List Event
@@ -146,7 +146,7 @@ module _ (p : Position) (fits : IsTooLong p.tail (begins_at 10 (begun ∷ [])) �
   }
 
   -- the second, which is opened at 30
-  abbrev second : SeenService
+  abbrev second : SeenUptime
   second = record {
     now = 30;
     ran = interrupted (after_all start recorded) 30;
@@ -171,7 +171,7 @@ module _ (p : Position) (fits : IsTooLong p.tail (begins_at 10 (begun ∷ [])) �
     begins = λ run clock h le. absurd (omega (arith, h.2.1));
   }
 
-  story : Runs start (Serving second ∷ Serving first ∷ []) (exec_event 1 ∷ begins 1 1 ∷ boot ∷ [])
+  story : Behaves start (Serving second ∷ Serving first ∷ []) (exec_event 1 ∷ begins 1 1 ∷ boot ∷ [])
   story = (recorded, boot ∷ [], ([], recorded, refl, (recorded, first_remains, refl), refl), ([], second_remains, refl), refl)
 
   -- one interruption is reported, of run 1

@@ -3,7 +3,7 @@ use Rattle.std.proofs.Common.{List, [], ◌∷◌}
 use Rattle.ocf_types.specs.Kinds.{Reply}
 use Rattle.disk_model.specs.View.{View}
 use Rattle.executor.specs.Joins.{as_calls}
-use Rattle.executor.specs.Lives.{Calls}
+use Rattle.executor.specs.Incarnations.{Calls}
 use Rattle.exec_ledger.specs.Pieces.{Effects}
 use Rattle.executor.specs.Sessions.{Input, Session}
 use Rattle.executor.specs.ExecutorView.{ExecutorView}

@@ -1,9 +1,9 @@
 use Rattle.exec_ledger.specs.Laws.{JournalLemmas}
-use Rattle.executor.specs.SeenLives.{seen}
-use Rattle.executor.proofs.Lives.Lawful.{LawfulLaws, start_lawful}
-use Rattle.executor.proofs.Lives.Whole.{OneFinding}
+use Rattle.executor.specs.SeenIncarnations.{seen}
+use Rattle.executor.proofs.Incarnations.Lawful.{LawfulLaws, start_lawful}
+use Rattle.executor.proofs.Incarnations.Whole.{OneFinding}
 use Rattle.executor.proofs.Machines.Claims.{runs_kept}
-use Rattle.executor.proofs.Machines.Lives.{life_runs}
+use Rattle.executor.proofs.Machines.Incarnations.{incarnations_behave}
 use Rattle.executor.proofs.laws.promise.Goals as goal
 
 pub returns : goal.returns
@@ -13,7 +13,7 @@ returns g c =
     let once : OneFinding = record { state = c.found_once.ensures.state; either = c.found_once.ensures.either } in
     let laws : LawfulLaws =
     record { empty = c.lawful_states.ensures.empty; after = c.lawful_states.ensures.after; stays = c.layouts.ensures.stays; carried = c.layouts.ensures.lawful } in
-    λ start life is image left.
-    let b = life_runs g.D.Disk.view law once g.met.D.Disk.lawful start life is image left in
-    let lawful = start_lawful laws g.D.Disk.view law g.met.D.Disk.lawful start life is image left in
-    (b.0, b.3, b.1, b.2, runs_kept start (seen g.D.Disk.view start life is) b.0 lawful b.1)
+    λ start incarnations is image left.
+    let b = incarnations_behave g.D.Disk.view law once g.met.D.Disk.lawful start incarnations is image left in
+    let lawful = start_lawful laws g.D.Disk.view law g.met.D.Disk.lawful start incarnations is image left in
+    (b.0, b.3, b.1, b.2, runs_kept start (seen g.D.Disk.view start incarnations is) b.0 lawful b.1)

@@ -1,5 +1,5 @@
 use Rattle.exec_ledger.specs.Laws.{JournalLemmas}
-use Rattle.executor.proofs.Lives.Whole.{OneFinding, first_begins, fresh_begins, life_leaves, opened_after, opens_after, looked_sits, refused_sits}
+use Rattle.executor.proofs.Incarnations.Whole.{OneFinding, first_begins, fresh_begins, incarnations_leave, opened_after, opens_after, looked_sits, refused_sits}
 use Rattle.executor.proofs.laws.whole_life.Goals as goal
 
 pub returns : goal.returns
@@ -10,8 +10,8 @@ returns g c =
     record {
       fresh = fresh_begins law;
       first = first_begins law;
-      holds = λ start life is image left. (life_leaves g.D.Disk.view law once g.met.D.Disk.lawful start life is image left).0;
-      reserved = λ start life is image left. (life_leaves g.D.Disk.view law once g.met.D.Disk.lawful start life is image left).1;
+      holds = λ start incarnations is image left. (incarnations_leave g.D.Disk.view law once g.met.D.Disk.lawful start incarnations is image left).0;
+      reserved = λ start incarnations is image left. (incarnations_leave g.D.Disk.view law once g.met.D.Disk.lawful start incarnations is image left).1;
       opened = opened_after g.D.Disk.view law once g.met.D.Disk.lawful;
       not_refused = opens_after g.D.Disk.view law once g.met.D.Disk.lawful;
       refused = refused_sits g.D.Disk.view;

@@ -2,9 +2,9 @@
 use Rattle.std.proofs.Common.{◌≡◌, inl, inr, List, [], ◌∷◌, ◌++◌, refl, sym, subst}
 use Rattle.ocf_types.specs.Kinds.{Event}
 use Rattle.ocf_types.specs.State.{State}
-use Rattle.executor.specs.Lives.{InOpening, InService, Lived, Sitting}
+use Rattle.executor.specs.Incarnations.{InOpening, Up, SurvivingEvents, Incarnation}
 use Rattle.exec_client.specs.BackedBy.{BackedBy, nothing}
-use Rattle.exec_client.specs.Lives.{SentOver}
+use Rattle.exec_client.specs.Incarnations.{SentOver}
 use Rattle.exec_client.specs.SentItem.{SentItem}
 use Rattle.exec_client.proofs.Behinds.{after_after, after_more, both_after}
 
@@ -13,14 +13,14 @@ by_lists : (ss ts : List SentItem) (es fs : List Event) → ss ≡ ts → es ≡
 by_lists ss ts es fs same same2 b =
     subst (λ (ns : List SentItem). BackedBy ns es) (sym same) (subst (λ (gs : List Event). BackedBy ts gs) (sym same2) b)
 
-pub sent_lives : {D : Type 0} (start : State) (life : List (Sitting D)) (reported : List SentItem) (zs : List Event) → SentOver life reported
-    → Lived start life zs → BackedBy reported zs
+pub sent_lives : {D : Type 0} (start : State) (incarnations : List (Incarnation D)) (reported : List SentItem) (zs : List Event) → SentOver incarnations reported
+    → SurvivingEvents start incarnations zs → BackedBy reported zs
 sent_lives start [] reported zs none same = by_lists reported [] zs [] none same nothing
-sent_lives start (InOpening old new now end ∷ older) reported zs over (ys, lived, inl same) =
-    by_lists reported reported zs ys refl same (sent_lives start older reported ys over lived)
-sent_lives start (InOpening old new now end ∷ older) reported zs over (ys, lived, inr (may, is)) =
-    by_lists reported reported zs _ refl is (after_more reported ys _ (sent_lives start older reported ys over lived))
-sent_lives start (InService x ∷ older) reported zs (before, later, over, backed, same) (ys, p, lived, holds, is) =
+sent_lives start (InOpening old new now end ∷ older) reported zs over (ys, surviving, inl same) =
+    by_lists reported reported zs ys refl same (sent_lives start older reported ys over surviving)
+sent_lives start (InOpening old new now end ∷ older) reported zs over (ys, surviving, inr (may, is)) =
+    by_lists reported reported zs _ refl is (after_more reported ys _ (sent_lives start older reported ys over surviving))
+sent_lives start (Up x ∷ older) reported zs (before, later, over, backed, same) (ys, p, surviving, holds, is) =
     by_lists reported (before ++ later) zs _ same is
-    (both_after before ys later _ (sent_lives start older before ys over lived)
+    (both_after before ys later _ (sent_lives start older before ys over surviving)
     (after_after later _ p (by_lists later later p _ refl holds.acknowledged (after_more later x.done.events holds.later backed))))

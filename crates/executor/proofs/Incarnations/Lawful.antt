@@ -13,9 +13,9 @@ use Rattle.two_parts.specs.declared.choice.Choice.{Choice}
 use Rattle.two_parts.specs.declared.choice.Choice.TheVariants.{Broken, Current, Fresh}
 use Rattle.exec_journal.specs.Found.{FoundAs, LeadsTo}
 use Rattle.exec_journal.specs.PartPrefix.{AllApplyIn}
-use Rattle.executor.specs.Lives.{InOpening, InService, IsLife, LifeLeaves, Sitting}
+use Rattle.executor.specs.Incarnations.{InOpening, Up, AreIncarnations, IncarnationsLeave, Incarnation}
 use Rattle.exec_ledger.specs.Laws.{JournalLemmas}
-use Rattle.executor.proofs.Lives.Services.{whole_leads}
+use Rattle.executor.proofs.Incarnations.Uptimes.{whole_leads}
 
 -- the model's laws of lawful states
 pub record LawfulLaws : Type 0 where
@@ -53,12 +53,12 @@ module _ (laws : LawfulLaws) where
 
   module _ {D : Type 0} (view : D → View) (law : JournalLemmas) (lawful : (d : D) → (view d).honest → Lawful (view d)) (start : State) where
     -- so is the first state of a history that may leave something
-    pub start_lawful : (life : List (Sitting D)) → IsLife view start life → (c : Image) → LifeLeaves view start life c → IsLawfulState start
+    pub start_lawful : (incarnations : List (Incarnation D)) → AreIncarnations view start incarnations → (c : Image) → IncarnationsLeave view start incarnations c → IsLawfulState start
     start_lawful [] is c left = found_lawful start c left.0
     start_lawful (InOpening old new now end ∷ older) (is, from, ends, honest) c left =
         let reads = (view old).reads in
         start_lawful older is reads (from reads (lawful old (ends.did.crash.passed.honest honest)).reads_now)
-    start_lawful (InService x ∷ older) (is, from, serves, honest) c left =
+    start_lawful (Up x ∷ older) (is, from, serves, honest) c left =
         let whole = whole_leads view law lawful x serves in
         let was_honest = serves.opens.did.crash.passed.honest (whole.crash.crash.passed.honest honest) in
         let reads = (view x.disk).reads in

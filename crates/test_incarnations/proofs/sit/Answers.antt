@@ -1,10 +1,10 @@
 use Rattle.std.proofs.Common.{◌≡◌, ◌++◌, [], List, ap, subst, sym, ◌∙◌}
 use Rattle.ocf_types.specs.Kinds.{Reply}
 use Rattle.executor.specs.Joins.{as_calls}
-use Rattle.executor.specs.Lives.{Exchange}
-use Rattle.life_example.specs.History.{IsSitting}
-use Rattle.life_example.proofs.Steps.{not_opened, served, unanswered}
-use Rattle.life_example.proofs.sit.Goals as goal
+use Rattle.executor.specs.Incarnations.{Exchange}
+use Rattle.test_incarnations.specs.History.{IsIncarnation}
+use Rattle.test_incarnations.proofs.Steps.{not_opened, served, unanswered}
+use Rattle.test_incarnations.proofs.sit.Goals as goal
 
 pub returns-in-Ok-session-clause-sits : goal.returns-in-Ok-session-clause-sits
 returns-in-Ok-session-clause-sits g c =
@@ -14,7 +14,7 @@ returns-in-Ok-session-clause-sits g c =
     sits.1 ∙ ap (λ (l : List Reply). l ++ sits.0) c.new-replies.ensures.items in
     let d = sits.2.effects in
     let calls = c.session_is_calls.ensures c.in-Ok.executor c.session.new.self inputs sits.0 d sits.2.each in
-    subst (λ (l : List Reply). IsSitting g.D.Disk.view (as_calls inputs l) c.args.disk c.close-disk.result.0) (sym given)
+    subst (λ (l : List Reply). IsIncarnation g.D.Disk.view (as_calls inputs l) c.args.disk c.close-disk.result.0) (sym given)
     (served g.D.Disk.view c.args.disk c.close-disk.result.0 (g.C.Children.view c.args.machine.children) c.args.machine.now
     c.in-Ok.executor c.session.new.self c.in-Ok._report.interrupted.items c.in-Ok._report.dropped.items (as_calls inputs sits.0) d
     c.in-Ok.ensures.opened calls c.close-disk.ensures.disk)
@@ -25,7 +25,7 @@ returns-in-Err-clause-sits g c =
     let inputs = c.args.machine.inputs.items in
     let none : as_calls inputs c.new-replies.result.items ≡ [] =
     ap (λ (l : List Reply). as_calls inputs l) c.new-replies.ensures.items ∙ unanswered inputs in
-    subst (λ (l : List Exchange). IsSitting g.D.Disk.view l c.args.disk c.in-Err.fault.disk) (sym none)
+    subst (λ (l : List Exchange). IsIncarnation g.D.Disk.view l c.args.disk c.in-Err.fault.disk) (sym none)
     (not_opened g.D.Disk.view g.met.D.Disk.lawful c.args.disk c.in-Err.fault.disk (g.C.Children.view c.args.machine.children)
     (g.C.Children.view c.in-Err.fault.children) c.args.machine.now c.in-Err.fault.why refused
     (c.whole_life.ensures.refused c.args.disk c.in-Err.fault.disk (g.C.Children.view c.args.machine.children)

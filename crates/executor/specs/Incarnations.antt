@@ -57,7 +57,7 @@ Calls {D} view old (e ∷ es) new effects =
 -- An incarnation whose opening was done: the disk that its opening was handed, and when; the executor as it was opened, as the calls
 -- that returned left it, and as those under way would have left it; the effects of both; and the moment of the disk's clock at
 -- which it crashed or was closed.
-pub record Service (D : Type 0) : Type 0 where
+pub record Uptime (D : Type 0) : Type 0 where
   pub disk : D
   pub now : ℕ
   pub opened : ExecutorView D
@@ -68,7 +68,7 @@ pub record Service (D : Type 0) : Type 0 where
   pub stop : ℕ
 
 -- It was opened, calls returned, others were begun, and it crashed at some moment after the last return.
-pub record Serves {D : Type 0} (view : D → View) (x : Service D) : Type 0 where
+pub record Serves {D : Type 0} (view : D → View) (x : Uptime D) : Type 0 where
   pub children : ChildrenView
   pub was_running : List Notice
   pub was_queued : List Notice
@@ -81,9 +81,9 @@ pub record Serves {D : Type 0} (view : D → View) (x : Service D) : Type 0 wher
 
 -- an incarnation: an opening that was refused for a fault, or in which the crash came, from one disk to another; or one whose opening
 -- was done
-pub data Sitting (D : Type 0) : Type 0 where
-  InOpening : D → D → ℕ → Option OpenError → Sitting D
-  InService : Service D → Sitting D
+pub data Incarnation (D : Type 0) : Type 0 where
+  InOpening : D → D → ℕ → Option OpenError → Incarnation D
+  Up : Uptime D → Incarnation D
 
 -- an opening that ended so may have recorded its boot: it crashed, or the device failed
 abbrev pub MayBoot : Option OpenError → Type 0
@@ -97,42 +97,42 @@ pub record EndsOpening (old new : View) (now : ℕ) (end : Option OpenError) : T
   pub unbooted : (MayBoot end → ⊥) → CrashesTo old new (OpensLike old)
 
 -- the disk that its opening was handed, and the one that it worked on at its end
-abbrev pub first_disk : {D : Type 0} → Sitting D → D
+abbrev pub first_disk : {D : Type 0} → Incarnation D → D
 first_disk (InOpening old new now end) = old
-first_disk (InService x) = x.disk
+first_disk (Up x) = x.disk
 
-abbrev pub last_disk : {D : Type 0} → Sitting D → D
+abbrev pub last_disk : {D : Type 0} → Incarnation D → D
 last_disk (InOpening old new now end) = new
-last_disk (InService x) = x.last.disk
+last_disk (Up x) = x.last.disk
 
 -- the calls of an incarnation
-abbrev pub Sat : {D : Type 0} → (D → View) → Sitting D → Type 0
-Sat view (InOpening old new now end) = EndsOpening (view old) (view new) now end
-Sat view (InService x) = Serves view x
+abbrev pub Lasted : {D : Type 0} → (D → View) → Incarnation D → Type 0
+Lasted view (InOpening old new now end) = EndsOpening (view old) (view new) now end
+Lasted view (Up x) = Serves view x
 
 -- the images that its crash may have left
-abbrev pub StopLeaves : {D : Type 0} → (D → View) → Sitting D → Image → Type 0
-StopLeaves view (InOpening old new now end) c = (view new).since (view old).clock c
-StopLeaves view (InService x) c = (view x.last.disk).since x.stop c
+abbrev pub CrashLeaves : {D : Type 0} → (D → View) → Incarnation D → Image → Type 0
+CrashLeaves view (InOpening old new now end) c = (view new).since (view old).clock c
+CrashLeaves view (Up x) c = (view x.last.disk).since x.stop c
 
 -- a history may begin on this pair: it is found as this state, and has capacity for its boot
 abbrev pub BeginsAs : State → Image → Type 0
 BeginsAs start c = FoundAs start c × PairHasReserve c
 
 -- The images that a history may leave that begins with this state, the last incarnation first.
-abbrev pub LifeLeaves : {D : Type 0} → (D → View) → State → List (Sitting D) → Image → Type 0
-LifeLeaves view start [] c = BeginsAs start c
-LifeLeaves view start (x ∷ older) c = StopLeaves view x c
+abbrev pub IncarnationsLeave : {D : Type 0} → (D → View) → State → List (Incarnation D) → Image → Type 0
+IncarnationsLeave view start [] c = BeginsAs start c
+IncarnationsLeave view start (x ∷ older) c = CrashLeaves view x c
 
 -- each image of this disk is one that a history may leave
-abbrev pub GoesOnFrom : {D : Type 0} → (D → View) → State → List (Sitting D) → D → Type 0
-GoesOnFrom view start older disk = (c : Image) → (view disk).now c → LifeLeaves view start older c
+abbrev pub GoesOnFrom : {D : Type 0} → (D → View) → State → List (Incarnation D) → D → Type 0
+GoesOnFrom view start older disk = (c : Image) → (view disk).now c → IncarnationsLeave view start older c
 
 -- A history, the last incarnation first: each begins on a disk that the one before may have left, and its disk is honest throughout.
-abbrev pub IsLife : {D : Type 0} → (D → View) → State → List (Sitting D) → Type 0
-IsLife view start [] = ⊤
-IsLife view start (x ∷ older) =
-    IsLife view start older × GoesOnFrom view start older (first_disk x) × Sat view x × (view (last_disk x)).honest
+abbrev pub AreIncarnations : {D : Type 0} → (D → View) → State → List (Incarnation D) → Type 0
+AreIncarnations view start [] = ⊤
+AreIncarnations view start (x ∷ older) =
+    AreIncarnations view start older × GoesOnFrom view start older (first_disk x) × Lasted view x × (view (last_disk x)).honest
 
 -- the boot that an opening at this moment needs, if one is
 abbrev pub boots : State → ℕ → List Event
@@ -140,7 +140,7 @@ boots s now = option_to_list (boot_event s (moment s now))
 
 -- The events of an incarnation that remain after its crash: a prefix of them that has all events that the returned calls recorded,
 -- and the begin of each start that was asked before the crash.
-pub record Survives {D : Type 0} (x : Service D) (p : List Event) : Type 0 where
+pub record Survives {D : Type 0} (x : Uptime D) (p : List Event) : Type 0 where
   pub others : List Event
   pub prefix : p ++ others ≡ (followed_by x.done x.under_way).events ++ (followed_by x.done x.under_way).pending
   pub later : List Event
@@ -149,18 +149,18 @@ pub record Survives {D : Type 0} (x : Service D) (p : List Event) : Type 0 where
 
 -- The events of a history that remain, from the state with which it began: of each incarnation its boot, which remains once the
 -- opening was done and may remain where it crashed or its device failed, and that prefix of the events of its calls.
-abbrev pub Lived : {D : Type 0} → State → List (Sitting D) → List Event → Type 0
-Lived start [] zs = zs ≡ []
-Lived {D} start (InOpening old new now end ∷ older) zs =
-    (ys : List Event) × Lived start older ys × ((zs ≡ ys) ⊎ (MayBoot end × (zs ≡ ys ++ boots (after_all start ys) now)))
-Lived {D} start (InService x ∷ older) zs =
-    (ys : List Event) × (p : List Event) × Lived start older ys × Survives x p × (zs ≡ ys ++ (boots (after_all start ys) x.now ++ p))
+abbrev pub SurvivingEvents : {D : Type 0} → State → List (Incarnation D) → List Event → Type 0
+SurvivingEvents start [] zs = zs ≡ []
+SurvivingEvents {D} start (InOpening old new now end ∷ older) zs =
+    (ys : List Event) × SurvivingEvents start older ys × ((zs ≡ ys) ⊎ (MayBoot end × (zs ≡ ys ++ boots (after_all start ys) now)))
+SurvivingEvents {D} start (Up x ∷ older) zs =
+    (ys : List Event) × (p : List Event) × SurvivingEvents start older ys × Survives x p × (zs ≡ ys ++ (boots (after_all start ys) x.now ++ p))
 
 -- An opening after a history gives this state and this report: the state after the events that remain and the boot; the actions that
 -- ran there are reported as interrupted, those that were queued as dropped.
-pub record OpensAfter {D : Type 0} (start : State) (life : List (Sitting D)) (now : ℕ) (t : State) (was_running was_queued : List Notice) : Type 0 where
+pub record OpensAfter {D : Type 0} (start : State) (incarnations : List (Incarnation D)) (now : ℕ) (t : State) (was_running was_queued : List Notice) : Type 0 where
   pub holds : List Event
-  pub lived : Lived start life holds
+  pub surviving : SurvivingEvents start incarnations holds
   pub state : t ≡ booted (after_all start holds) now
   pub ran : was_running ≡ interrupted (after_all start holds) (moment (after_all start holds) now)
   pub queued : was_queued ≡ dropped (after_all start holds) (moment (after_all start holds) now)

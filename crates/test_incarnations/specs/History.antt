@@ -5,37 +5,37 @@ use Rattle.ocf_types.specs.State.{State, after_all, empty}
 use Rattle.disk_model.specs.Image.{Image}
 use Rattle.disk_model.specs.View.{View}
 use Rattle.exec_journal.specs.Found.{FoundAs}
-use Rattle.executor.specs.Lives.{Exchange, GoesOnFrom, InOpening, InService, IsLife, Sat, Sitting, StopLeaves, first_disk, last_disk}
+use Rattle.executor.specs.Incarnations.{Exchange, GoesOnFrom, InOpening, Up, AreIncarnations, Lasted, Incarnation, CrashLeaves, first_disk, last_disk}
 use Rattle.executor.specs.Promise.{IsKept}
-use Rattle.executor.specs.Runs.{Runs}
-use Rattle.executor.specs.SeenLives.{seen}
+use Rattle.executor.specs.Behaves.{Behaves}
+use Rattle.executor.specs.SeenIncarnations.{seen}
 
 -- the calls of an incarnation: none if the executor was not opened
-abbrev pub calls_of : {D : Type 0} → (view : D → View) → (x : Sitting D) → Sat view x → List Exchange
+abbrev pub calls_of : {D : Type 0} → (view : D → View) → (x : Incarnation D) → Lasted view x → List Exchange
 calls_of view (InOpening old new now end) sat = []
-calls_of view (InService x) sat = sat.calls ++ sat.begun
+calls_of view (Up x) sat = sat.calls ++ sat.begun
 
 -- the calls of each incarnation of a history, the last one first
-abbrev pub calls_in : {D : Type 0} → (view : D → View) → (start : State) → (life : List (Sitting D)) → IsLife view start life → List (List Exchange)
+abbrev pub calls_in : {D : Type 0} → (view : D → View) → (start : State) → (incarnations : List (Incarnation D)) → AreIncarnations view start incarnations → List (List Exchange)
 calls_in view start [] is = []
 calls_in view start (x ∷ older) is = calls_of view x is.2 ∷ calls_in view start older is.0
 
 -- an incarnation with these calls, from one disk to another, which crashed at its last moment
-pub record IsSitting {D : Type 0} (view : D → View) (calls : List Exchange) (old new : D) : Type 0 where
-  pub sitting : Sitting D
-  pub sat : Sat view sitting
-  pub made : calls_of view sitting sat ≡ calls
-  pub first : first_disk sitting ≡ old
-  pub last : last_disk sitting ≡ new
-  pub leaves : (view new).honest → (c : Image) → (view new).since (view new).clock c → StopLeaves view sitting c
+pub record IsIncarnation {D : Type 0} (view : D → View) (calls : List Exchange) (old new : D) : Type 0 where
+  pub incarnation : Incarnation D
+  pub sat : Lasted view incarnation
+  pub made : calls_of view incarnation sat ≡ calls
+  pub first : first_disk incarnation ≡ old
+  pub last : last_disk incarnation ≡ new
+  pub leaves : (view new).honest → (c : Image) → (view new).since (view new).clock c → CrashLeaves view incarnation c
 
 -- a history that begins without a journal, whose incarnations made these calls, the last one first; the disk holds only a crash
 -- image of it
 pub record IsHistory {D : Type 0} (view : D → View) (calls : List (List Exchange)) (disk : D) : Type 0 where
-  pub life : List (Sitting D)
-  pub is : IsLife view empty life
-  pub made : calls_in view empty life is ≡ calls
-  pub goes_on : GoesOnFrom view empty life disk
+  pub incarnations : List (Incarnation D)
+  pub is : AreIncarnations view empty incarnations
+  pub made : calls_in view empty incarnations is ≡ calls
+  pub goes_on : GoesOnFrom view empty incarnations disk
 
 -- the promise for such a history: the disk holds the state after a list of events; the exchanges and events that were seen are a
 -- behaviour of the state machine with these events, and keep the promise
@@ -43,5 +43,5 @@ pub record IsPromised {D : Type 0} (view : D → View) (calls : List (List Excha
   pub history : IsHistory view calls disk
   pub events : List Event
   pub found : FoundAs (after_all empty events) (view disk).reads
-  pub runs : Runs empty (seen view empty history.life history.is) events
-  pub kept : IsKept empty (seen view empty history.life history.is) events
+  pub runs : Behaves empty (seen view empty history.incarnations history.is) events
+  pub kept : IsKept empty (seen view empty history.incarnations history.is) events

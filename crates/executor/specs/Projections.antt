@@ -16,7 +16,7 @@ use Rattle.ocf_types.specs.declared.reply.ReplyOf.TheVariants as reply
 use Rattle.ocf_types.specs.declared.reply.TurnEnd.TheVariants.{Done}
 use Rattle.child_model.specs.declared.answer.Entry.{Entry}
 use Rattle.exec_ledger.specs.Actives.{active, runs_of}
-use Rattle.executor.specs.Lives.{Exchange, Finished, Batch, Took}
+use Rattle.executor.specs.Incarnations.{Exchange, Finished, Batch, Took}
 use Rattle.executor.specs.Isolated.{cut}
 use Rattle.executor.specs.declared.session.InputOf.TheVariants as input
 
@@ -57,11 +57,11 @@ unrolled (Batch now commands replies) = one_by_one now commands replies
 unrolled e = e ∷ []
 
 -- a resource's part of a call, and of calls: of a batch of commands those that concern it
-abbrev pub part_of : List ℕ → Exchange → List Exchange
-part_of id e = filter (concerns id) (unrolled e)
+abbrev pub projection_of : List ℕ → Exchange → List Exchange
+projection_of id e = filter (concerns id) (unrolled e)
 
 abbrev pub part : List ℕ → List Exchange → List Exchange
-part id es = flat_map (part_of id) es
+part id es = flat_map (projection_of id) es
 
 -- the events that name it
 abbrev pub events_of : List ℕ → List Event → List Event

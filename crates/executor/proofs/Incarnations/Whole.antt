@@ -15,7 +15,7 @@ use Rattle.two_parts.specs.declared.damage.Damage.{Damage}
 use Rattle.exec_journal.specs.Found.{FoundAs, HasDamage, IsFirstPart, IsFreshPair, IsToWrite, LeadsTo}
 use Rattle.exec_journal.specs.Opening.{Opens, OpensLike}
 use Rattle.exec_journal.specs.Reserve.{PairHasReserve}
-use Rattle.executor.specs.Lives.{BeginsAs, EndsOpening, GoesOnFrom, MayBoot, InOpening, InService, IsLife, LifeLeaves, Lived, OpensAfter, Sat, Sitting, boots}
+use Rattle.executor.specs.Incarnations.{BeginsAs, EndsOpening, GoesOnFrom, MayBoot, InOpening, Up, AreIncarnations, IncarnationsLeave, SurvivingEvents, OpensAfter, Lasted, Incarnation, boots}
 use Rattle.executor.specs.Openings.{NotOpened, Opened, StartsLike}
 use Rattle.exec_ledger.specs.Boots.{booted}
 use Rattle.executor.specs.Interruptions.{dropped, interrupted}
@@ -24,7 +24,7 @@ use Rattle.executor.specs.declared.opening.OpenError.{OpenError}
 use Rattle.executor.specs.declared.opening.OpenError.TheVariants as why
 use Rattle.executor.proofs.Openings.Ends.{read_only}
 use Rattle.exec_ledger.specs.Laws.{JournalLemmas}
-use Rattle.executor.proofs.Lives.Services.{uptime_reserved, service_holds, whole_leads}
+use Rattle.executor.proofs.Incarnations.Uptimes.{uptime_reserved, uptime_survives, whole_leads}
 
 -- one state is found on a pair of parts
 pub record OneFinding : Type 0 where
@@ -69,11 +69,11 @@ module _ {D : Type 0} (view : D → View) (law : JournalLemmas) (once : OneFindi
       ∙ ap (λ (t : State). booted t now) (sym same)
 
   -- the pair after a history
-  abbrev BackedBy : List (Sitting D) → Image → Type 0
-  BackedBy life c = (zs : List Event) × Lived start life zs × FoundAs (after_all start zs) c
+  abbrev BackedBy : List (Incarnation D) → Image → Type 0
+  BackedBy incarnations c = (zs : List Event) × SurvivingEvents start incarnations zs × FoundAs (after_all start zs) c
 
   -- after an opening that was refused or crashed: as before it
-  unbooted : (old new : D) (now : ℕ) (end : Option OpenError) (older : List (Sitting D)) → ((d : Image) → (view old).now d → BackedBy older d)
+  unbooted : (old new : D) (now : ℕ) (end : Option OpenError) (older : List (Incarnation D)) → ((d : Image) → (view old).now d → BackedBy older d)
       → (view old).honest → (c : Image) → OpensLike (view old) c → BackedBy (InOpening old new now end ∷ older) c
   unbooted old new now end older from honest c (inl was) =
       let b = from c was in (b.0, (b.0, b.1, inl refl), b.2)
@@ -83,7 +83,7 @@ module _ {D : Type 0} (view : D → View) (law : JournalLemmas) (once : OneFindi
       (b.0, (b.0, b.1, inl refl), subst (λ (t : State). FoundAs t c) same found)
 
   -- or with its boot
-  may_boot : (old new : D) (now : ℕ) (end : Option OpenError) (older : List (Sitting D)) → ((d : Image) → (view old).now d → BackedBy older d)
+  may_boot : (old new : D) (now : ℕ) (end : Option OpenError) (older : List (Incarnation D)) → ((d : Image) → (view old).now d → BackedBy older d)
       → (view old).honest → MayBoot end → (c : Image) → StartsLike (view old) now c → BackedBy (InOpening old new now end ∷ older) c
   may_boot old new now end older from honest may c (inl like) = unbooted old new now end older from honest c like
   may_boot old new now end older from honest may c (inr (s, reads, inl found)) =
@@ -97,7 +97,7 @@ module _ {D : Type 0} (view : D → View) (law : JournalLemmas) (once : OneFindi
       )
 
   -- by how it ended
-  in_opening : (old new : D) (now : ℕ) (end : Option OpenError) (older : List (Sitting D)) → ((d : Image) → (view old).now d → BackedBy older d)
+  in_opening : (old new : D) (now : ℕ) (end : Option OpenError) (older : List (Incarnation D)) → ((d : Image) → (view old).now d → BackedBy older d)
       → (view new).honest → (view old).honest → EndsOpening (view old) (view new) now end → (c : Image) → (view new).since (view old).clock c
       → BackedBy (InOpening old new now end ∷ older) c
   in_opening old new now None older from honest was ends c left =
@@ -114,23 +114,23 @@ module _ {D : Type 0} (view : D → View) (law : JournalLemmas) (once : OneFindi
       unbooted old new now (Some why.Full) older from was c ((ends.unbooted (λ none. none)).from_start honest c left)
 
   -- every pair that a history may leave is found so, and has capacity for its boot
-  pub life_leaves : (life : List (Sitting D)) → IsLife view start life → (c : Image) → LifeLeaves view start life c → BackedBy life c × PairHasReserve c
-  life_leaves [] is c left = (([], refl, left.0), left.1)
-  life_leaves (InOpening old new now end ∷ older) (is, from, ends, honest) c left =
+  pub incarnations_leave : (incarnations : List (Incarnation D)) → AreIncarnations view start incarnations → (c : Image) → IncarnationsLeave view start incarnations c → BackedBy incarnations c × PairHasReserve c
+  incarnations_leave [] is c left = (([], refl, left.0), left.1)
+  incarnations_leave (InOpening old new now end ∷ older) (is, from, ends, honest) c left =
       let did = ends.did in
       let was_honest = did.crash.passed.honest honest in (
-        in_opening old new now end older (λ d d_now. (life_leaves older is d (from d d_now)).0) honest was_honest ends c left,
-        (did.reserved (λ _ d d_now. (life_leaves older is d (from d d_now)).1)).from_start honest c left,
+        in_opening old new now end older (λ d d_now. (incarnations_leave older is d (from d d_now)).0) honest was_honest ends c left,
+        (did.reserved (λ _ d d_now. (incarnations_leave older is d (from d d_now)).1)).from_start honest c left,
       )
-  life_leaves (InService x ∷ older) (is, from, serves, honest) c left =
+  incarnations_leave (Up x ∷ older) (is, from, serves, honest) c left =
       let whole = whole_leads view law lawful x serves in
       let opened_honest = whole.crash.crash.passed.honest honest in
       let was_honest = serves.opens.did.crash.passed.honest opened_honest in
       let starts = serves.opens.starts opened_honest in
-      let before = (life_leaves older is (view x.disk).reads (from (view x.disk).reads (lawful x.disk was_honest).reads_now)).0 in
+      let before = (incarnations_leave older is (view x.disk).reads (from (view x.disk).reads (lawful x.disk was_honest).reads_now)).0 in
       let ys = before.0 in
       let same = one_state starts.state (after_all start ys) (view x.disk).reads starts.found before.2 in
-      let holds = service_holds view law lawful x serves honest c left in
+      let holds = uptime_survives view law lawful x serves honest c left in
       let b = boots (after_all start ys) x.now in
       let p = holds.0 in
       let opened : after_all start (ys ++ b) ≡ x.opened.state = after_boots ys starts.state x.now same ∙ sym starts.boot in
@@ -142,36 +142,36 @@ module _ {D : Type 0} (view : D → View) (law : JournalLemmas) (once : OneFindi
       )
 
   -- so an opening after a history gives the state after the events that remain, and reports the actions that ran
-  pub opened_after : (life : List (Sitting D)) (old : D) (from : ChildrenView) (now : ℕ) (x : ExecutorView D) (ran queued : List Notice)
-      → IsLife view start life → GoesOnFrom view start life old → Opened view (view old) from now x ran queued → (view x.disk).honest
-      → OpensAfter start life now x.state ran queued
-  opened_after life old from now x ran queued is goes_on opens honest =
+  pub opened_after : (incarnations : List (Incarnation D)) (old : D) (from : ChildrenView) (now : ℕ) (x : ExecutorView D) (ran queued : List Notice)
+      → AreIncarnations view start incarnations → GoesOnFrom view start incarnations old → Opened view (view old) from now x ran queued → (view x.disk).honest
+      → OpensAfter start incarnations now x.state ran queued
+  opened_after incarnations old from now x ran queued is goes_on opens honest =
       let starts = opens.starts honest in
       let reads = (view old).reads in
-      let before = (life_leaves life is reads (goes_on reads (lawful old (opens.did.crash.passed.honest honest)).reads_now)).0 in
+      let before = (incarnations_leave incarnations is reads (goes_on reads (lawful old (opens.did.crash.passed.honest honest)).reads_now)).0 in
       let same = one_state starts.state (after_all start before.0) reads starts.found before.2 in
       record {
         holds = before.0;
-        lived = before.1;
+        surviving = before.1;
         state = starts.boot ∙ ap (λ (s : State). booted s now) same;
         ran = starts.ran ∙ ap (λ (s : State). interrupted s (moment s now)) same;
         queued = starts.queued ∙ ap (λ (s : State). dropped s (moment s now)) same;
       }
 
   -- and it finds no damage, and capacity for its boot
-  pub opens_after : (life : List (Sitting D)) (old new : D) (from to : ChildrenView) (now : ℕ) (fault : OpenError) → IsLife view start life
-      → GoesOnFrom view start life old → NotOpened (view old) (view new) from to now fault → (view new).honest
+  pub opens_after : (incarnations : List (Incarnation D)) (old new : D) (from to : ChildrenView) (now : ℕ) (fault : OpenError) → AreIncarnations view start incarnations
+      → GoesOnFrom view start incarnations old → NotOpened (view old) (view new) from to now fault → (view new).honest
       → (fault ≡ why.Full → ⊥) × ((d : Damage) → fault ≡ why.Damaged d → ⊥)
-  opens_after life old new from to now fault is goes_on fails honest =
+  opens_after incarnations old new from to now fault is goes_on fails honest =
       let was_honest = fails.did.crash.passed.honest honest in
-      let reads = (life_leaves life is (view old).reads (goes_on (view old).reads (lawful old was_honest).reads_now)).0 in (
-        fails.never_full (λ _ c c_now. (life_leaves life is c (goes_on c c_now)).1) honest,
+      let reads = (incarnations_leave incarnations is (view old).reads (goes_on (view old).reads (lawful old was_honest).reads_now)).0 in (
+        fails.never_full (λ _ c c_now. (incarnations_leave incarnations is c (goes_on c c_now)).1) honest,
         λ d bad. once.either (view old).reads (after_all start reads.0) d reads.2 (fails.damaged honest d bad),
       )
 
 -- an opening that was refused is an incarnation
 pub refused_sits : {D : Type 0} (view : D → View) (old new : D) (from to : ChildrenView) (now : ℕ) (fault : OpenError)
-    → NotOpened (view old) (view new) from to now fault → Sat view (InOpening old new now (Some fault))
+    → NotOpened (view old) (view new) from to now fault → Lasted view (InOpening old new now (Some fault))
 refused_sits view old new from to now fault fails = record {
   did = fails.did;
   unbooted = λ never. fails.unbooted (λ is. never (subst (λ (f : OpenError). MayBoot (Some f)) (sym is) (tt {0})));
@@ -179,7 +179,7 @@ refused_sits view old new from to now fault fails = record {
 
 -- so is one of the journal alone
 pub looked_sits : {D : Type 0} (view : D → View) (old new : D) (now : ℕ) (end : Option OpenError) → Opens (view old) (view new)
-    → Sat view (InOpening old new now end)
+    → Lasted view (InOpening old new now end)
 looked_sits view old new now end opens = record {
   did = read_only (view old) (view new) now opens.crash opens.reserved opens.unwritten;
   unbooted = λ _. opens.crash;

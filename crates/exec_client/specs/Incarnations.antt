@@ -1,13 +1,13 @@
 -- What clients were sent over a history of incarnations.
 use Rattle.std.specs.Prelude.{◌≡◌, List, [], ◌∷◌, ◌++◌}
-use Rattle.executor.specs.Lives.{InOpening, InService, Sitting}
+use Rattle.executor.specs.Incarnations.{InOpening, Up, Incarnation}
 use Rattle.exec_client.specs.BackedBy.{BackedBy}
 use Rattle.exec_client.specs.SentItem.{SentItem}
 
 -- these messages were sent over these incarnations, the last one first: in each incarnation the messages are backed by what its calls had
 -- recorded when they returned
-abbrev pub SentOver : {D : Type 0} → List (Sitting D) → List SentItem → Type 0
+abbrev pub SentOver : {D : Type 0} → List (Incarnation D) → List SentItem → Type 0
 SentOver [] reported = reported ≡ []
 SentOver (InOpening old new now end ∷ older) reported = SentOver older reported
-SentOver (InService x ∷ older) reported =
+SentOver (Up x ∷ older) reported =
     (before : List SentItem) × (later : List SentItem) × SentOver older before × BackedBy later x.done.events × (reported ≡ before ++ later)

@@ -11,15 +11,15 @@ use Rattle.disk_model.specs.declared.memory.MemDisk.{MemDisk}
 use Rattle.child_model.specs.Children.{ChildrenView}
 use Rattle.exec_journal.specs.Found.{FoundAs, IsFreshPair}
 use Rattle.executor.specs.Joins.{as_calls}
-use Rattle.executor.specs.Lives.{BeginsAs, Calls, Exchange, InOpening, InService, IsLife, LifeLeaves, Lived, Sat, Sitting}
+use Rattle.executor.specs.Incarnations.{BeginsAs, Calls, Exchange, InOpening, Up, AreIncarnations, IncarnationsLeave, SurvivingEvents, Lasted, Incarnation}
 use Rattle.executor.specs.Openings.{NotOpened, Opened}
 use Rattle.executor.specs.Promise.{IsKept}
-use Rattle.executor.specs.Runs.{Runs}
-use Rattle.executor.specs.SeenLives.{seen}
+use Rattle.executor.specs.Behaves.{Behaves}
+use Rattle.executor.specs.SeenIncarnations.{seen}
 use Rattle.executor.specs.Sessions.{Effects, Input, no_effects}
 use Rattle.executor.specs.ExecutorView.{ExecutorView}
 use Rattle.executor.specs.declared.opening.OpenError.{OpenError}
-use Rattle.life_example.specs.History.{IsHistory, IsPromised, IsSitting}
+use Rattle.test_incarnations.specs.History.{IsHistory, IsPromised, IsIncarnation}
 
 -- without replies there are no calls
 pub unanswered : (is : List Input) → as_calls is [] ≡ []
@@ -30,9 +30,9 @@ module _ {D : Type 0} (view : D → View) where
   -- an incarnation of an executor that was opened and made calls
   pub served : (old new : D) (from : ChildrenView) (now : ℕ) (opened last : ExecutorView D) (ran queued : List Notice) (calls : List Exchange)
       (d : Effects) → Opened view (view old) from now opened ran queued → Calls view opened calls last d → new ≡ last.disk
-      → IsSitting view calls old new
+      → IsIncarnation view calls old new
   served old new from now opened last ran queued calls d opens made same = record {
-    sitting = InService (record {
+    incarnation = Up (record {
       disk = old;
       now = now;
       opened = opened;
@@ -61,9 +61,9 @@ module _ {D : Type 0} (view : D → View) where
 
   -- an incarnation in which no executor was opened
   pub not_opened : (law : (d : D) → (view d).honest → Lawful (view d)) (old new : D) (from to : ChildrenView) (now : ℕ) (why : OpenError)
-      → NotOpened (view old) (view new) from to now why → Sat view (InOpening old new now (Some why)) → IsSitting view [] old new
+      → NotOpened (view old) (view new) from to now why → Lasted view (InOpening old new now (Some why)) → IsIncarnation view [] old new
   not_opened law old new from to now why refused sat = record {
-    sitting = InOpening old new now (Some why);
+    incarnation = InOpening old new now (Some why);
     sat = sat;
     made = refl;
     first = refl;
@@ -76,7 +76,7 @@ module _ {M : Type 0} where
   pub begins : (d : MemDisk M) → ((c : Image) → IsFreshPair c → BeginsAs empty c) → IsFresh (record { a = []; b = [] }) d
       → IsHistory (λ (x : MemDisk M). view_of x) [] d
   begins d law fresh = record {
-    life = [];
+    incarnations = [];
     is = tt;
     made = refl;
     goes_on = λ c now. law c (subst IsFreshPair (sym (fresh.now c now)) refl);
@@ -84,7 +84,7 @@ module _ {M : Type 0} where
 
   -- a history goes on by an incarnation on its disk, and a crash image of it
   pub goes_on : (calls : List Exchange) (older : List (List Exchange)) (old planned new left : MemDisk M) (call : ℕ) → IsSame old planned
-      → IsSitting (λ (x : MemDisk M). view_of x) calls planned new → call ≡ (view_of new).clock + 1
+      → IsIncarnation (λ (x : MemDisk M). view_of x) calls planned new → call ≡ (view_of new).clock + 1
       → (view_of new).since (call - 1) (view_of left).reads → IsFresh (view_of left).reads left
       → IsHistory (λ (x : MemDisk M). view_of x) older old → IsHistory (λ (x : MemDisk M). view_of x) (calls ∷ older) left
   goes_on calls older old planned new left call same sat is since fresh h =
@@ -92,7 +92,7 @@ module _ {M : Type 0} where
       let holds : (view_of new).since (view_of new).clock (view_of left).reads =
       subst (λ (t : ℕ). (view_of new).since t (view_of left).reads) stopped since in
       record {
-        life = sat.sitting ∷ h.life;
+        incarnations = sat.incarnation ∷ h.incarnations;
         is = (
           h.is,
           λ c now. h.goes_on c (same.now c (subst (λ (d : MemDisk M). (view_of d).now c) sat.first now)),
@@ -105,12 +105,12 @@ module _ {M : Type 0} where
       }
 
   -- the promise holds for such a history
-  pub promised : ((start : State) (life : List (Sitting (MemDisk M))) (is : IsLife (λ (x : MemDisk M). view_of x) start life) (c : Image)
-      → LifeLeaves (λ (x : MemDisk M). view_of x) start life c
-      → (zs : List Event) × FoundAs (after_all start zs) c × Runs start (seen (λ (x : MemDisk M). view_of x) start life is) zs
-      × Lived start life zs × IsKept start (seen (λ (x : MemDisk M). view_of x) start life is) zs)
+  pub promised : ((start : State) (incarnations : List (Incarnation (MemDisk M))) (is : AreIncarnations (λ (x : MemDisk M). view_of x) start incarnations) (c : Image)
+      → IncarnationsLeave (λ (x : MemDisk M). view_of x) start incarnations c
+      → (zs : List Event) × FoundAs (after_all start zs) c × Behaves start (seen (λ (x : MemDisk M). view_of x) start incarnations is) zs
+      × SurvivingEvents start incarnations zs × IsKept start (seen (λ (x : MemDisk M). view_of x) start incarnations is) zs)
       → (calls : List (List Exchange)) (d : MemDisk M) → Lawful (view_of d)
       → IsHistory (λ (x : MemDisk M). view_of x) calls d → IsPromised (λ (x : MemDisk M). view_of x) calls d
   promised law calls d lawful h =
-      let (zs, found, runs, lived, kept) = law empty h.life h.is (view_of d).reads (h.goes_on (view_of d).reads lawful.reads_now) in
+      let (zs, found, runs, surviving, kept) = law empty h.incarnations h.is (view_of d).reads (h.goes_on (view_of d).reads lawful.reads_now) in
       record { history = h; events = zs; found = found; runs = runs; kept = kept }

@@ -8,7 +8,7 @@ use Rattle.disk_model.specs.View.{Lawful, View}
 use Rattle.exec_ledger.specs.Laws.{of_closed, of_open}
 use Rattle.exec_ledger.specs.Pieces.{Effects, Leaves, followed_by, no_effects, batch_effects}
 use Rattle.executor.specs.CallLaws.{followed_by_assoc, followed_by_none}
-use Rattle.executor.specs.Lives.{Abandoned, Calls, Cleared, Does, Exchange, Finished, Batch, Took, Tidied}
+use Rattle.executor.specs.Incarnations.{Abandoned, Calls, Cleared, Does, Exchange, Finished, Batch, Took, Tidied}
 use Rattle.executor.specs.FinishCalls.{FinishedWhile}
 use Rattle.executor.specs.Machine.{AnswersClosed}
 use Rattle.executor.specs.BatchCalls.{TakesBatch}

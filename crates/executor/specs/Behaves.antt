@@ -10,14 +10,14 @@ use Rattle.child_model.specs.Children.{Asked}
 use Rattle.child_model.specs.declared.answer.Entry.{Entry}
 use Rattle.exec_ledger.specs.Boots.{booted}
 use Rattle.exec_ledger.specs.Pieces.{Effects, HasBegin, followed_by}
-use Rattle.executor.specs.Lives.{MayBoot, boots}
+use Rattle.executor.specs.Incarnations.{MayBoot, boots}
 use Rattle.executor.specs.Machine.{Label, Machine, MovesAll}
 use Rattle.executor.specs.Interruptions.{dropped, interrupted}
 use Rattle.executor.specs.declared.opening.OpenError.{OpenError}
 
 -- the observations of an incarnation whose opening was done: its moment, the interruptions and drops that its opening reported, the calls
 -- that returned, those under way at the crash, how many device calls the disk had had then, and whether its allocator refuses growths
-pub record SeenService : Type 0 where
+pub record SeenUptime : Type 0 where
   pub now : ℕ
   pub ran : List Notice
   pub queued : List Notice
@@ -29,7 +29,7 @@ pub record SeenService : Type 0 where
 -- the observations of an incarnation: an opening at a moment that was refused, or in which the crash came; or one that was done
 pub data Seen : Type 0 where
   Opening : ℕ → Option OpenError → Seen
-  Serving : SeenService → Seen
+  Serving : SeenUptime → Seen
 
 -- the machine as it is opened on a state: after the boot, and all monitors are due
 abbrev pub opened_on : State → ℕ → Bool → Machine
@@ -42,15 +42,15 @@ SurvivesOf returned under_way p = (later : List Event) × (others : List Event) 
     × (p ++ others ≡ (followed_by returned under_way).events ++ (followed_by returned under_way).pending)
 
 -- the answers of agent processes in an incarnation
-abbrev pub answers_in : SeenService → List Entry
+abbrev pub answers_in : SeenUptime → List Entry
 answers_in x = flat_map (λ l. l.answers) (x.calls ++ x.begun)
 
 -- each agent whose start was asked before the crash has its begin among these events
-abbrev pub HasBegins : SeenService → List Event → Type 0
+abbrev pub HasBegins : SeenUptime → List Event → Type 0
 HasBegins x es = (run clock : ℕ) → Asked (answers_in x) run clock → clock ≤ x.stop → HasBegin run es
 
 -- The events of an incarnation that remain after its boot: a prefix of those of its calls, with the begin of each start.
-pub record Remains (x : SeenService) (s : State) (p : List Event) : Type 0 where
+pub record Remains (x : SeenUptime) (s : State) (p : List Event) : Type 0 where
   pub ran : x.ran ≡ interrupted s (moment s x.now)
   pub queued : x.queued ≡ dropped s (moment s x.now)
   pub returned : Machine
@@ -68,6 +68,6 @@ Sits (Opening now end) s zs = (zs ≡ []) ⊎ (MayBoot end × (zs ≡ boots s no
 Sits (Serving x) s zs = (p : List Event) × Remains x s p × (zs ≡ boots s x.now ++ p)
 
 -- a behaviour of the machine from a state on, the last incarnation first, and the events that remain of it
-abbrev pub Runs : State → List Seen → List Event → Type 0
-Runs start [] zs = zs ≡ []
-Runs start (x ∷ older) zs = (ys : List Event) × (more : List Event) × Runs start older ys × Sits x (after_all start ys) more × (zs ≡ ys ++ more)
+abbrev pub Behaves : State → List Seen → List Event → Type 0
+Behaves start [] zs = zs ≡ []
+Behaves start (x ∷ older) zs = (ys : List Event) × (more : List Event) × Behaves start older ys × Sits x (after_all start ys) more × (zs ≡ ys ++ more)

@@ -3,9 +3,9 @@ use Rattle.std.specs.Prelude.{Bool, true, List, [], ◌∷◌, ◌++◌}
 use Rattle.ocf_types.specs.State.{State}
 use Rattle.ocf_types.specs.declared.reply.Notice.{Notice}
 use Rattle.disk_model.specs.View.{View}
-use Rattle.executor.specs.Lives.{Calls, Exchange, Finished, InOpening, InService, IsLife, Sitting, Took}
+use Rattle.executor.specs.Incarnations.{Calls, Exchange, Finished, InOpening, Up, AreIncarnations, Incarnation, Took}
 use Rattle.executor.specs.Machine.{Label}
-use Rattle.executor.specs.Runs.{Opening, Seen, Serving}
+use Rattle.executor.specs.Behaves.{Opening, Seen, Serving}
 use Rattle.exec_ledger.specs.Pieces.{Effects}
 use Rattle.executor.specs.ExecutorView.{ExecutorView}
 use Rattle.executor.specs.declared.session.InputOf.TheVariants as input
@@ -34,10 +34,10 @@ labels view old [] new effects calls = []
 labels view old (e ∷ es) new effects (mid, first, later, does, rest, is) = label_in view old.is_open e old mid first ∷ labels view mid es new later rest
 
 -- of each incarnation its labels and its report, the last incarnation first
-abbrev pub seen : {D : Type 0} → (view : D → View) → (start : State) → (life : List (Sitting D)) → IsLife view start life → List Seen
+abbrev pub seen : {D : Type 0} → (view : D → View) → (start : State) → (incarnations : List (Incarnation D)) → AreIncarnations view start incarnations → List Seen
 seen view start [] is = []
 seen view start (InOpening old new now end ∷ older) is = Opening now end ∷ seen view start older is.0
-seen view start (InService x ∷ older) is = Serving (record {
+seen view start (Up x ∷ older) is = Serving (record {
   now = x.now;
   ran = is.2.was_running;
   queued = is.2.was_queued;

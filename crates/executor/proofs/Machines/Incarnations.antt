@@ -13,33 +13,33 @@ use Rattle.child_model.specs.Children.{Asked}
 use Rattle.child_model.specs.declared.answer.Entry.{Entry}
 use Rattle.exec_journal.specs.Found.{FoundAs}
 use Rattle.exec_journal.specs.Opening.{OpensLike}
-use Rattle.executor.specs.Lives.{EndsOpening, InOpening, InService, IsLife, LifeLeaves, Lived, MayBoot, Serves, Service, Sitting, Survives, boots}
+use Rattle.executor.specs.Incarnations.{EndsOpening, InOpening, Up, AreIncarnations, IncarnationsLeave, SurvivingEvents, MayBoot, Serves, Uptime, Incarnation, Survives, boots}
 use Rattle.executor.specs.Machine.{Label, Machine, MovesAll}
-use Rattle.executor.specs.Runs.{Opening, Remains, Runs, Seen, SeenService, answers_in, opened_on}
+use Rattle.executor.specs.Behaves.{Opening, Remains, Behaves, Seen, SeenUptime, answers_in, opened_on}
 use Rattle.executor.specs.Openings.{StartsLike}
 use Rattle.exec_ledger.specs.Boots.{booted}
 use Rattle.executor.specs.Interruptions.{dropped, interrupted}
-use Rattle.executor.specs.SeenLives.{labels, seen}
+use Rattle.executor.specs.SeenIncarnations.{labels, seen}
 use Rattle.exec_ledger.specs.Pieces.{followed_by}
 use Rattle.executor.specs.ExecutorView.{due_in}
 use Rattle.executor.specs.declared.opening.OpenError.{OpenError}
 use Rattle.executor.specs.declared.opening.OpenError.TheVariants as why
 use Rattle.exec_ledger.specs.Laws.{JournalLemmas}
-use Rattle.executor.proofs.Lives.Services.{service_holds, whole_leads}
-use Rattle.executor.proofs.Lives.Whole.{OneFinding, after_boots, one_state}
+use Rattle.executor.proofs.Incarnations.Uptimes.{uptime_survives, whole_leads}
+use Rattle.executor.proofs.Incarnations.Whole.{OneFinding, after_boots, one_state}
 use Rattle.executor.proofs.Machines.Calls.{labels_answers, machine_of, moves_all, same_machine}
 
 module _ {D : Type 0} (view : D → View) (law : JournalLemmas) (once : OneFinding) (lawful : (d : D) → (view d).honest → Lawful (view d))
     (start : State) where
   -- the pair after a behaviour
-  abbrev BackedBy : List (Sitting D) → List Seen → Image → Type 0
-  BackedBy life xs c = (zs : List Event) × Runs start xs zs × Lived start life zs × FoundAs (after_all start zs) c
+  abbrev BackedBy : List (Incarnation D) → List Seen → Image → Type 0
+  BackedBy incarnations xs c = (zs : List Event) × Behaves start xs zs × SurvivingEvents start incarnations zs × FoundAs (after_all start zs) c
 
   same_state : (s t : State) (c : Image) → FoundAs s c → FoundAs t c → s ≡ t
   same_state s t c here there = one_state view law once lawful start s t c here there
 
   -- after an opening that was refused or crashed: as before it
-  unbooted : (old new : D) (now : ℕ) (end : Option OpenError) (older : List (Sitting D)) (xs : List Seen)
+  unbooted : (old new : D) (now : ℕ) (end : Option OpenError) (older : List (Incarnation D)) (xs : List Seen)
       → ((d : Image) → (view old).now d → BackedBy older xs d) → (view old).honest
       → (c : Image) → OpensLike (view old) c → BackedBy (InOpening old new now end ∷ older) (Opening now end ∷ xs) c
   unbooted old new now end older xs from honest c (inl was) =
@@ -50,7 +50,7 @@ module _ {D : Type 0} (view : D → View) (law : JournalLemmas) (once : OneFindi
       (b.0, (b.0, [], b.1, inl refl, sym (append-nil b.0)), (b.0, b.2, inl refl), subst (λ (t : State). FoundAs t c) same found)
 
   -- or with its boot
-  may_boot : (old new : D) (now : ℕ) (end : Option OpenError) (older : List (Sitting D)) (xs : List Seen)
+  may_boot : (old new : D) (now : ℕ) (end : Option OpenError) (older : List (Incarnation D)) (xs : List Seen)
       → ((d : Image) → (view old).now d → BackedBy older xs d) → (view old).honest → MayBoot end
       → (c : Image) → StartsLike (view old) now c → BackedBy (InOpening old new now end ∷ older) (Opening now end ∷ xs) c
   may_boot old new now end older xs from honest may c (inl like) = unbooted old new now end older xs from honest c like
@@ -66,7 +66,7 @@ module _ {D : Type 0} (view : D → View) (law : JournalLemmas) (once : OneFindi
       )
 
   -- by how it ended
-  in_opening : (old new : D) (now : ℕ) (end : Option OpenError) (older : List (Sitting D)) (xs : List Seen)
+  in_opening : (old new : D) (now : ℕ) (end : Option OpenError) (older : List (Incarnation D)) (xs : List Seen)
       → ((d : Image) → (view old).now d → BackedBy older xs d) → (view new).honest → (view old).honest
       → EndsOpening (view old) (view new) now end → (c : Image) → (view new).since (view old).clock c
       → BackedBy (InOpening old new now end ∷ older) (Opening now end ∷ xs) c
@@ -84,14 +84,14 @@ module _ {D : Type 0} (view : D → View) (law : JournalLemmas) (once : OneFindi
       unbooted old new now (Some why.Full) older xs from was c ((ends.unbooted (λ none. none)).from_start honest c left)
 
   -- an executor as it was opened
-  opened_so : (x : Service D) (s : Serves view x) (t : State) → x.opened.state ≡ booted t x.now
+  opened_so : (x : Uptime D) (s : Serves view x) (t : State) → x.opened.state ≡ booted t x.now
       → due_in x.opened ≡ due_at x.opened.state (moment t x.now)
       → machine_of x.opened ≡ opened_on t x.now x.opened.refuses
   opened_so x s t state due = same_machine (machine_of x.opened) (opened_on t x.now x.opened.refuses) s.opens.over.is_open state
       (due ∙ ap (λ (u : State). due_at u (moment t x.now)) state) refl
 
   -- the observations of an incarnation
-  abbrev view_of : (x : Service D) → Serves view x → SeenService
+  abbrev view_of : (x : Uptime D) → Serves view x → SeenUptime
   view_of x s = record {
     now = x.now;
     ran = s.was_running;
@@ -103,14 +103,14 @@ module _ {D : Type 0} (view : D → View) (law : JournalLemmas) (once : OneFindi
   }
 
   -- the answers in it are those that its children gave
-  answers_are : (x : Service D) (s : Serves view x) → answers_in (view_of x s) ≡ (followed_by x.done x.under_way).entries
+  answers_are : (x : Uptime D) (s : Serves view x) → answers_in (view_of x s) ≡ (followed_by x.done x.under_way).entries
   answers_are x s =
       flat_map-append (λ (l : Label). l.answers) (view_of x s).calls (view_of x s).begun
       ∙ ap₂ (λ (a b : List Entry). a ++ b) (labels_answers view s.calls x.opened x.returned x.done s.returns)
       (labels_answers view s.begun x.returned x.last x.under_way s.goes_on)
 
   -- the events that remain of it
-  remains_so : (x : Service D) (s : Serves view x) (t : State) (p : List Event) → s.was_running ≡ interrupted t (moment t x.now)
+  remains_so : (x : Uptime D) (s : Serves view x) (t : State) (p : List Event) → s.was_running ≡ interrupted t (moment t x.now)
       → s.was_queued ≡ dropped t (moment t x.now) → machine_of x.opened ≡ opened_on t x.now x.opened.refuses → Survives x p → Remains (view_of x s) t p
   remains_so x s t p ran queued machine holds = record {
     ran = ran;
@@ -128,22 +128,22 @@ module _ {D : Type 0} (view : D → View) (law : JournalLemmas) (once : OneFindi
   }
 
   -- every pair that a history may leave is found after a behaviour of the machine
-  pub life_runs : (life : List (Sitting D)) (is : IsLife view start life) (c : Image) → LifeLeaves view start life c
-      → BackedBy life (seen view start life is) c
-  life_runs [] is c left = ([], refl, refl, left.0)
-  life_runs (InOpening old new now end ∷ older) (is, from, ends, honest) c left =
-      in_opening old new now end older (seen view start older is) (λ d d_now. life_runs older is d (from d d_now))
+  pub incarnations_behave : (incarnations : List (Incarnation D)) (is : AreIncarnations view start incarnations) (c : Image) → IncarnationsLeave view start incarnations c
+      → BackedBy incarnations (seen view start incarnations is) c
+  incarnations_behave [] is c left = ([], refl, refl, left.0)
+  incarnations_behave (InOpening old new now end ∷ older) (is, from, ends, honest) c left =
+      in_opening old new now end older (seen view start older is) (λ d d_now. incarnations_behave older is d (from d d_now))
       honest (ends.did.crash.passed.honest honest) ends c left
-  life_runs (InService x ∷ older) (is, from, serves, honest) c left =
+  incarnations_behave (Up x ∷ older) (is, from, serves, honest) c left =
       let whole = whole_leads view law lawful x serves in
       let opened_honest = whole.crash.crash.passed.honest honest in
       let was_honest = serves.opens.did.crash.passed.honest opened_honest in
       let starts = serves.opens.starts opened_honest in
-      let before = life_runs older is (view x.disk).reads (from (view x.disk).reads (lawful x.disk was_honest).reads_now) in
+      let before = incarnations_behave older is (view x.disk).reads (from (view x.disk).reads (lawful x.disk was_honest).reads_now) in
       let ys = before.0 in
       let s = after_all start ys in
       let same = same_state starts.state s (view x.disk).reads starts.found before.3 in
-      let holds = service_holds view law lawful x serves honest c left in
+      let holds = uptime_survives view law lawful x serves honest c left in
       let b = boots s x.now in
       let p = holds.0 in
       let opened : after_all start (ys ++ b) ≡ x.opened.state =

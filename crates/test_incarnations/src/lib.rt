@@ -6,8 +6,8 @@ ghost use Rattle.std.specs.Prelude.{◌∷◌, [], IfNone, IfSome, IsTrue, List}
 ghost use Rattle.disk_model.specs.MemDisk.{view_of};
 ghost use Rattle.child_model.specs.Children.{Admits};
 ghost use Rattle.executor.specs.Joins.{as_calls};
-ghost use Rattle.executor.specs.Lives.{Exchange};
-ghost use Rattle.life_example.specs.History.{IsHistory, IsPromised, IsSitting};
+ghost use Rattle.executor.specs.Incarnations.{Exchange};
+ghost use Rattle.test_incarnations.specs.History.{IsHistory, IsPromised, IsIncarnation};
 
 use child_model::Children;
 use disk_model::{Disk, Fill, MemDisk};
@@ -44,7 +44,7 @@ fn sit<D: Disk + Drop, C: Children + Drop, A: Grows>(
 ) -> Option<Stopped<D, A>>
     requires site { Admits (C.view machine.children).site machine.site }
     ensures sits { IfSome result
-        (λ r. IsSitting D.view (as_calls machine.inputs.items r.replies.items) disk r.disk) }
+        (λ r. IsIncarnation D.view (as_calls machine.inputs.items r.replies.items) disk r.disk) }
     ensures memory { IfNone result (IsTrue A.refuses) }
 {
     session_is_calls::<D>();
@@ -74,7 +74,7 @@ pub fn live<C: Children + Drop, A: Grows>(
     fill: Fill,
 ) -> Option<Stopped<MemDisk<A>, A>>
     requires site { Admits (C.view machine.children).site machine.site }
-    ensures lives { IfSome result (λ r. (older : List (List Exchange)) → IsHistory view_of older disk
+    ensures incarnations { IfSome result (λ r. (older : List (List Exchange)) → IsHistory view_of older disk
         → IsHistory view_of (as_calls machine.inputs.items r.replies.items ∷ older) r.disk) }
 {
     disk.plan_stop(machine.stop);

@@ -9,11 +9,11 @@ use Rattle.disk_model.specs.View.{Lawful, View}
 use Rattle.exec_journal.specs.Found.{FoundAs}
 use Rattle.exec_journal.specs.Reserve.{PairHasReserve}
 use Rattle.exec_journal.specs.Batches.{EitherSide}
-use Rattle.executor.specs.Lives.{Serves, Service, Survives}
+use Rattle.executor.specs.Incarnations.{Serves, Uptime, Survives}
 use Rattle.exec_ledger.specs.Pieces.{Effects, followed_by, no_effects}
 use Rattle.exec_ledger.specs.Laws.{JournalLemmas}
-use Rattle.executor.proofs.Lives.Calls.{calls_closed, calls_more}
-use Rattle.executor.proofs.Lives.Prefixes.{EachBegun, PrefixOf, GoesOn, all_begun, begin_among}
+use Rattle.executor.proofs.Incarnations.Calls.{calls_closed, calls_more}
+use Rattle.executor.proofs.Incarnations.Prefixes.{EachBegun, PrefixOf, GoesOn, all_begun, begin_among}
 use Rattle.executor.proofs.Sessions.Growing.{Onward, leads_start, leads_still, onward}
 
 -- the events of some effects, those that are pending after them
@@ -21,7 +21,7 @@ abbrev all_of : Effects → List Event
 all_of d = d.events ++ d.pending
 
 module _ {D : Type 0} (view : D → View) (law : JournalLemmas) (lawful : (d : D) → (view d).honest → Lawful (view d)) where
-  module _ (x : Service D) (serves : Serves view x) where
+  module _ (x : Uptime D) (serves : Serves view x) where
     opened_leads : Onward view x.opened x.opened no_effects
     opened_leads =
         onward view x.opened x.opened no_effects
@@ -133,8 +133,8 @@ module _ {D : Type 0} (view : D → View) (law : JournalLemmas) (lawful : (d : D
           )
 
       -- the events that remain of it
-      pub service_holds : (p : List Event) × Survives x p × FoundAs (after_all x.opened.state p) c
-      service_holds =
+      pub uptime_survives : (p : List Event) × Survives x p × FoundAs (after_all x.opened.state p) c
+      uptime_survives =
           let base = base_of x.returned.is_open refl in
           let all = all_begun x.opened.state (all_of (followed_by x.done x.under_way)) c x.stop (followed_by x.done x.under_way).entries each_begun
           base.0 base.1 in (
