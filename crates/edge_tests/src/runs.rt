@@ -6,7 +6,7 @@ use exec_client::JsonClient;
 use exec_commands::{NoticeForm, Service};
 use exec_faults::Fault;
 use exec_lines::{Input, Output};
-use exec_session::{LineRoom, Pace, RunContext, Way, run_lines};
+use exec_session::{LineRoom, Pace, SessionContext, Way, run_lines};
 use exec_trace::Edge;
 use executor::Executor;
 use std::alloc::Global;
@@ -77,7 +77,7 @@ fn ended_in_way<R: Input + Drop, W: Output>(
     writer: &mut W,
 ) -> Option<(Result<(), Fault>, MemDisk)> {
     let children = children(alloc, polls)?;
-    let context = RunContext {
+    let context = SessionContext {
         alloc,
         metadata: &NoMetadata,
         way,

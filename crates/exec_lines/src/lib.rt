@@ -8,7 +8,7 @@ mod moment;
 mod patient;
 mod poll;
 mod reply;
-mod run_clock;
+mod session_clock;
 
 pub use buffer::LineBuffer;
 pub use ends::{Input, Output};
@@ -16,4 +16,4 @@ pub use line::{Next, gather_line, next_line};
 pub use moment::{moment_now, moment_of};
 pub use patient::Patient;
 pub use reply::{write_bytes, write_flushed};
-pub use run_clock::RunClock;
+pub use session_clock::SessionClock;

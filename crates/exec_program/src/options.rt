@@ -8,7 +8,7 @@ use crate::limits::MOST_TURNS;
 use exec_commands::{Left, NoticeForm, Service};
 use exec_events::Events;
 use exec_options::{JournalLocation, Options, Subcommand, VERSION};
-use exec_session::{Pace, RunContext, Way};
+use exec_session::{Pace, SessionContext, Way};
 use std::alloc::Global;
 
 // The mode of the session that this subcommand asks for.
@@ -56,11 +56,11 @@ pub fn context_of<'a, M>(
     options: Options<'a>,
     metadata: &'a M,
     left: &'a [Left],
-) -> RunContext<'a, M>
+) -> SessionContext<'a, M>
     ensures held { IsHeldTo options.entry left.now (rules_of result) }
     ensures metadata { result.metadata.now ≡ metadata.now }
 {
-    RunContext {
+    SessionContext {
         alloc,
         metadata,
         way: way_of(options.subcommand),

@@ -18,7 +18,7 @@ use disk_model::Disk;
 use exec_client::JsonClient;
 use exec_events::Eventful;
 use exec_faults::Fault;
-use exec_lines::{RunClock, moment_now};
+use exec_lines::{SessionClock, moment_now};
 use exec_options::{JournalLocation, Options};
 use exec_session::{LineRoom, run_lines};
 use exec_trace::Edge;
@@ -62,7 +62,7 @@ fn leave_own_word<H: Host>(host: &H, options: Options, clock: &impl Clock)
 
 /// Opens the executor on this disk and answers the lines of standard input.
 #[tactic(auto, using(crate::proofs::StartLemmas::run_ends, crate::proofs::StartLemmas::same_ends, crate::proofs::StartLemmas::unheard_ends))]
-pub fn run_agents<H: Host, D: Disk + ReportsError + Drop>(
+pub fn serve_agents<H: Host, D: Disk + ReportsError + Drop>(
     host: &H,
     options: Options,
     log: H::Log,
@@ -89,7 +89,7 @@ pub fn run_agents<H: Host, D: Disk + ReportsError + Drop>(
     match Executor::open(alloc, disk, agents, own, host.moment()) {
         Ok((executor, report)) => {
             let ticker = host.ticker();
-            let clock = RunClock::new(&ticker, executor.clock());
+            let clock = SessionClock::new(&ticker, executor.clock());
             leave_own_word(host, options, &clock);
             let source = host.source(site);
             let context = context_of(alloc, options, &source, left.as_slice());

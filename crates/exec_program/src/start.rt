@@ -5,7 +5,7 @@ ghost use Rattle.exec_program.specs.Requests.{Allows, IsAskedFor, IsFoundIn, IsO
 ghost use Rattle.exec_program.specs.Starts.{IsEndOf, IsWrittenAs, StartEndsFor, with_status};
 
 use crate::host::Host;
-use crate::run::run_agents;
+use crate::run::serve_agents;
 use exec_faults::Fault;
 use exec_options::{JournalLocation, Options, Subcommand, Wanted, WordsFault, read_words};
 use file_disk::RamDisk;
@@ -124,9 +124,9 @@ fn start_agents<H: Host>(host: &H, options: Options) -> Result<(), Fault>
     };
     match options.journal {
         JournalLocation::Folder(folder) => match host.files(options, folder) {
-            Ok(disk) => run_agents(host, options, log, disk),
+            Ok(disk) => serve_agents(host, options, log, disk),
             Err(fault) => Err(fault),
         },
-        JournalLocation::Memory => run_agents(host, options, log, RamDisk::new(host.alloc())),
+        JournalLocation::Memory => serve_agents(host, options, log, RamDisk::new(host.alloc())),
     }
 }

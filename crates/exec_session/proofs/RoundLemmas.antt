@@ -59,13 +59,13 @@ any_round : (way : Way) → IsRound way 0
 any_round Run = tt
 any_round Serve = refl
 
-pub run_round : (way : Way) → way ≡ Run → (most : ℕ) → IsRound way most
-run_round Run is most = tt
-run_round Serve is most = absurd cc
+pub session_round : (way : Way) → way ≡ Run → (most : ℕ) → IsRound way most
+session_round Run is most = tt
+session_round Serve is most = absurd cc
 
 -- a round may begin
-pub run_begins : {D : Type 0} (way : Way) (s : Midway D) → way ≡ Run → MayWait way s → WaitsForThere s → MayBegin way s
-run_begins way s run waits there = record { stays = record { waits = waits; there = there }; serves = λ serve. absurd cc }
+pub session_begins : {D : Type 0} (way : Way) (s : Midway D) → way ≡ Run → MayWait way s → WaitsForThere s → MayBegin way s
+session_begins way s run waits there = record { stays = record { waits = waits; there = there }; serves = λ serve. absurd cc }
 
 pub serve_begins : {D : Type 0} (way : Way) (s : Midway D) → way ≡ Serve → s.place.at.executor.is_open ≡ true → s.commands ≡ []
     → MayBegin way s
@@ -341,7 +341,7 @@ module _ {D : Type 0} (view : D → View) (source : Source) (rules : Rules) (p :
       → IsSince own quiet end (held_lines s.held) s.place.at → Comes view source rules p own most s r
       → GoesRound view source rules p quiet end s r
   round_read way quiet end most s (Ok taken.More) since come =
-      record { most = most; own = own; round = run_round rules.way way most; since = since; come = come }
+      record { most = most; own = own; round = session_round rules.way way most; since = since; come = come }
   round_read way quiet end most s (Ok taken.End) since come = come
   round_read way quiet end most s (Ok taken.Closed) since come = come
   round_read way quiet end most s (Ok taken.Leaves) since come = come

@@ -46,9 +46,9 @@ may_serve Run most is le = absurd cc
 may_serve Serve most is le = λ n few. omega (arith, le, few)
 
 -- in `run` a session goes on in any case and makes no turns, and any session goes on while its executor is open
-pub go_run : {D : Type 0} (way : Way) (x : ExecutorView D) → way ≡ Run → MayGoOn way x
-go_run Run x is = tt
-go_run Serve x is = absurd cc
+pub go_session : {D : Type 0} (way : Way) (x : ExecutorView D) → way ≡ Run → MayGoOn way x
+go_session Run x is = tt
+go_session Serve x is = absurd cc
 
 pub go_open : {D : Type 0} (way : Way) (x : ExecutorView D) → x.is_open ≡ true → MayGoOn way x
 go_open Run x is_open = tt

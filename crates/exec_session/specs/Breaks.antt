@@ -78,11 +78,11 @@ EndsOrBreaks view source rules p q (Ok done) = Finishes view source rules p q
 EndsOrBreaks view source rules p q (Err fault) = BreaksOff view source rules p q.at
 
 -- A session broke off while it sent the report, or that it is ready, or after that.
-pub data RunBreaks {D N : Type 0} (view : D → View) (source : Source) (rules : Rules) (report : Report N)
+pub data SessionBreaks {D N : Type 0} (view : D → View) (source : Source) (rules : Rules) (report : Report N)
     (p : Position D) (q : Spot D) : Type 0 where
-  in_report : ReportBreaks rules.form report p.at q → RunBreaks view source rules report p q
+  in_report : ReportBreaks rules.form report p.at q → SessionBreaks view source rules report p q
   in_ready : (opening_report : Spot D) → SendsReport rules.form report p.at opening_report
-      → ReadyBreaks rules.way rules.form opening_report q → RunBreaks view source rules report p q
+      → ReadyBreaks rules.way rules.form opening_report q → SessionBreaks view source rules report p q
   after_ready : (opening_report begun : Spot D) → SendsReport rules.form report p.at opening_report
       → SendsReady rules.way rules.form opening_report begun
-      → BreaksOff view source rules (record p { at = begun }) q → RunBreaks view source rules report p q
+      → BreaksOff view source rules (record p { at = begun }) q → SessionBreaks view source rules report p q

@@ -10,7 +10,7 @@ use Rattle.exec_trace.specs.Edges.{EdgeView}
 use Rattle.exec_faults.specs.declared.fault.Fault.{Fault}
 use Rattle.exec_faults.specs.declared.fault.Fault.TheVariants.{Disk, InputOrOutput, ReplyMemory}
 use Rattle.exec_session.specs.Answers.{Source}
-use Rattle.exec_session.specs.Breaks.{RunBreaks}
+use Rattle.exec_session.specs.Breaks.{SessionBreaks}
 use Rattle.exec_session.specs.Reports.{SendsReady, SendsReport}
 use Rattle.exec_session.specs.Rules.{Rules}
 use Rattle.exec_session.specs.Runs.{Finishes}
@@ -32,8 +32,8 @@ abbrev pub EndsAs : {D N T : Type 0} → (D → View) → Source → Rules → R
 EndsAs view source rules report p q (Ok done) = Runs view source rules report p q × (q.at.executor.is_open ≡ true)
 EndsAs view source rules report p q (Err Disk) =
     Runs view source rules report p q × (q.at.executor.is_open ≡ false)
-EndsAs view source rules report p q (Err InputOrOutput) = RunBreaks view source rules report p q.at
-EndsAs view source rules report p q (Err ReplyMemory) = RunBreaks view source rules report p q.at
+EndsAs view source rules report p q (Err InputOrOutput) = SessionBreaks view source rules report p q.at
+EndsAs view source rules report p q (Err ReplyMemory) = SessionBreaks view source rules report p q.at
 EndsAs view source rules report p q (Err _) = ⊥
 
 -- A session that begins at this position ended, and its edge shows this. At its end all agent processes are given up, and the agents and

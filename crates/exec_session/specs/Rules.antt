@@ -10,7 +10,7 @@ use Rattle.exec_state.specs.Store.{all_pairs}
 use Rattle.executor.specs.ExecutorView.{ExecutorView}
 use Rattle.executor.specs.TidyCalls.{Tidies}
 use Rattle.exec_commands.specs.declared.notice.NoticeForm.{NoticeForm}
-use Rattle.exec_session.specs.declared.context.RunContext.{RunContext}
+use Rattle.exec_session.specs.declared.context.SessionContext.{SessionContext}
 use Rattle.exec_session.specs.declared.context.Way.{Way}
 
 -- The mode of a session, the form of its notices, the most turns of a drain, and the first mark, an offset of its journal's tail past
@@ -22,7 +22,7 @@ pub record Rules : Type 0 where
   pub tidy_at : ℕ
 
 -- the rules in a context
-abbrev pub rules_of : {M : Type 0} → RunContext M → Rules
+abbrev pub rules_of : {M : Type 0} → SessionContext M → Rules
 rules_of context =
     record { way = context.way; form = context.form; most_turns = context.most_turns; tidy_at = context.tidy_at }
 

@@ -22,7 +22,7 @@ ghost use Rattle.exec_session.specs.Steps.{Sends, Steps};
 ghost use Rattle.exec_session.specs.Together.{AnswersAll};
 ghost use Rattle.exec_session.specs.Waiting.{TakesFound};
 
-use crate::context::{RunContext, Way};
+use crate::context::{SessionContext, Way};
 use crate::gathered::Gathered;
 use crate::held::Held;
 use crate::lines::Found;
@@ -49,7 +49,7 @@ fn refused(refusal: Refusal) -> LineReply
 
 // Waits for the metadata, as a session in `run` does.
 fn meta_reply<M: Metadata>(
-    context: &RunContext<M>,
+    context: &SessionContext<M>,
     provider: &Provider,
     agent: &AgentType,
     limit: Option<u32>,
@@ -76,7 +76,7 @@ fn closed_tidy() -> LineReply
 }
 
 // The reply to a line once a disk fault has closed the executor.
-fn closed_reply<M: Metadata>(context: &RunContext<M>, line: &Result<Line, Refusal>) -> LineReply
+fn closed_reply<M: Metadata>(context: &SessionContext<M>, line: &Result<Line, Refusal>) -> LineReply
     requires at_once { MayAnswerAtOnce context.now.way line.now }
     ensures { IsClosedReply (M.gives context.now.metadata.now) line.now result }
 {
@@ -161,7 +161,7 @@ impl<'a, R: Input, D: Disk + Drop, C: Children + Drop, T: Client<D, C>, K: Clock
     K,
 > {
     // Tidies the journal.
-    fn tidy<M>(&mut self, context: &RunContext<M>) -> TidyEnd
+    fn tidy<M>(&mut self, context: &SessionContext<M>) -> TidyEnd
         requires open { self.old.at.executor.is_open ≡ true }
         ensures keeps { Keeps self.old self.new }
         ensures tidies { TidiesNow D.view self.old.at self.new.at (answer.Tidy result) }
@@ -172,7 +172,7 @@ impl<'a, R: Input, D: Disk + Drop, C: Children + Drop, T: Client<D, C>, K: Clock
     // Reads the clock, tidies if that is due, does what a request asks, and sends the reply.
     fn answer_request<M: Metadata>(
         &mut self,
-        context: &RunContext<M>,
+        context: &SessionContext<M>,
         request: Request,
     ) -> Result<(), Failed>
         requires open { self.old.at.executor.is_open ≡ true }
@@ -191,14 +191,14 @@ impl<'a, R: Input, D: Disk + Drop, C: Children + Drop, T: Client<D, C>, K: Clock
     }
 
     // Refuses a line.
-    fn refuse<M>(&mut self, context: &RunContext<M>, refusal: Refusal) -> Result<(), Failed>
+    fn refuse<M>(&mut self, context: &SessionContext<M>, refusal: Refusal) -> Result<(), Failed>
         ensures sends { Sends context.now.form (Answered (refused refusal) ∷ []) self.old self.new result }
     {
         self.send_reply(context, &refused(refusal))
     }
 
     // Tidies the journal, and sends how that ended.
-    fn answer_tidy<M: Metadata>(&mut self, context: &RunContext<M>) -> Result<(), Failed>
+    fn answer_tidy<M: Metadata>(&mut self, context: &SessionContext<M>) -> Result<(), Failed>
         requires open { self.old.at.executor.is_open ≡ true }
         ensures answers { AnswersLine D.view (M.gives context.now.metadata.now) (rules_of context.now)
             (Ok line.Tidy) self.old self.new result }
@@ -210,7 +210,7 @@ impl<'a, R: Input, D: Disk + Drop, C: Children + Drop, T: Client<D, C>, K: Clock
     // Waits for an agent's metadata, as a session in `run` does, and sends them.
     fn answer_meta<M: Metadata>(
         &mut self,
-        context: &RunContext<M>,
+        context: &SessionContext<M>,
         provider: &Provider,
         agent: &AgentType,
         limit: Option<u32>,
@@ -224,21 +224,21 @@ impl<'a, R: Input, D: Disk + Drop, C: Children + Drop, T: Client<D, C>, K: Clock
     }
 
     // Sends the reply to a line that needs no executor.
-    fn answer_direct<M>(&mut self, context: &RunContext<M>, direct: Direct) -> Result<(), Failed>
+    fn answer_direct<M>(&mut self, context: &SessionContext<M>, direct: Direct) -> Result<(), Failed>
         ensures sends { Sends context.now.form (Answered (answer.Direct direct) ∷ []) self.old self.new result }
     {
         self.send_reply(context, &LineReply::Direct(direct))
     }
 
     // Sends the version of the program.
-    fn answer_version<M>(&mut self, context: &RunContext<M>) -> Result<(), Failed>
+    fn answer_version<M>(&mut self, context: &SessionContext<M>) -> Result<(), Failed>
         ensures sends { Sends context.now.form (Answered answer.Version ∷ []) self.old self.new result }
     {
         self.send_reply(context, &LineReply::Version)
     }
 
     // Sends the status of each resource, or that there is no memory for it.
-    fn answer_status<M: Metadata>(&mut self, context: &RunContext<M>) -> Result<(), Failed>
+    fn answer_status<M: Metadata>(&mut self, context: &SessionContext<M>) -> Result<(), Failed>
         requires open { self.old.at.executor.is_open ≡ true }
         ensures answers { AnswersLine D.view (M.gives context.now.metadata.now) (rules_of context.now)
             (Ok line.Status) self.old self.new result }
@@ -251,7 +251,7 @@ impl<'a, R: Input, D: Disk + Drop, C: Children + Drop, T: Client<D, C>, K: Clock
     // that it can make, 824 bytes each, whenever it is called, and most lines are requests.
     fn answer_open<M: Metadata>(
         &mut self,
-        context: &RunContext<M>,
+        context: &SessionContext<M>,
         line: Result<Line, Refusal>,
     ) -> Result<(), Failed>
         requires open { self.old.at.executor.is_open ≡ true }
@@ -282,7 +282,7 @@ impl<'a, R: Input, D: Disk + Drop, C: Children + Drop, T: Client<D, C>, K: Clock
     // Answers a line once a disk fault has closed the executor.
     fn answer_closed<M: Metadata>(
         &mut self,
-        context: &RunContext<M>,
+        context: &SessionContext<M>,
         line: &Result<Line, Refusal>,
     ) -> Result<(), Failed>
         requires closed { self.old.at.executor.is_open ≡ false }
@@ -296,7 +296,7 @@ impl<'a, R: Input, D: Disk + Drop, C: Children + Drop, T: Client<D, C>, K: Clock
     // Answers a line: sends the notices of a drain, and then the reply.
     fn answer_line<M: Metadata>(
         &mut self,
-        context: &RunContext<M>,
+        context: &SessionContext<M>,
         line: Result<Line, Refusal>,
     ) -> Result<(), Failed>
         requires at_once { MayAnswerAtOnce context.now.way line }
@@ -313,7 +313,7 @@ impl<'a, R: Input, D: Disk + Drop, C: Children + Drop, T: Client<D, C>, K: Clock
     /// Answers the line, if this is one. Whether it is the end of the input.
     pub fn answer_found<M: Metadata>(
         &mut self,
-        context: &RunContext<'_, M>,
+        context: &SessionContext<'_, M>,
         found: Found,
     ) -> Result<bool, Failed>
         requires at_once { MayTakeAtOnce context.now.way found }
@@ -334,7 +334,7 @@ impl<'a, R: Input, D: Disk + Drop, C: Children + Drop, T: Client<D, C>, K: Clock
     /// Answers a line that is held for an agent's metadata, if the agent has answered by now. Whether it has.
     pub fn answer_held<M: Metadata>(
         &mut self,
-        context: &RunContext<'_, M>,
+        context: &SessionContext<'_, M>,
         line: &Held,
     ) -> Result<bool, Failed>
         requires open { self.old.at.executor.is_open ≡ true }
@@ -364,7 +364,7 @@ impl<'a, R: Input, D: Disk + Drop, C: Children + Drop, T: Client<D, C>, K: Clock
     /// Answers the commands that wait, as one group commit: all are recorded before a reply is sent, and the replies are sent together.
     pub fn answer_gathered<M>(
         &mut self,
-        context: &RunContext<M>,
+        context: &SessionContext<M>,
         gathered: &mut Gathered,
     ) -> Result<(), Failed>
         requires open { waiting gathered.old ≢ [] → self.old.at.executor.is_open ≡ true }

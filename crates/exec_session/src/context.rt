@@ -14,7 +14,7 @@ pub enum Way {
 
 /// What a session needs besides its executor, its input, its output and its clock.
 #[derive(Drop)]
-pub struct RunContext<'a, M> {
+pub struct SessionContext<'a, M> {
     pub alloc: Global,
     pub metadata: &'a M,
     pub way: Way,

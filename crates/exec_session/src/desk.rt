@@ -11,7 +11,7 @@ ghost use Rattle.exec_session.specs.Waiting.{Comes, HasCome, HasFound, IsBetween
 ghost use Rattle.exec_session.specs.declared.lines.Found.TheVariants as found;
 ghost use Rattle.exec_session.specs.declared.lines.Taken.TheVariants.{More};
 
-use crate::context::{RunContext, Way};
+use crate::context::{SessionContext, Way};
 use crate::held::held_in;
 use crate::lines::{Found, Taken, found_in};
 use crate::metadata::Metadata;
@@ -42,7 +42,7 @@ impl<'a, R: Input, D: Disk + Drop, C: Children + Drop, T: Client<D, C>, K: Clock
     K,
 > {
     /// How the session goes on, given whether the input has ended.
-    pub fn next_step<M>(&self, context: &RunContext<'_, M>, has_ended: bool) -> Taken
+    pub fn next_step<M>(&self, context: &SessionContext<'_, M>, has_ended: bool) -> Taken
         ensures { IsTaken context.now.way self.now.worker.at.executor has_ended result }
     {
         if context.way == Way::Serve && !self.worker.is_open() {
@@ -56,7 +56,7 @@ impl<'a, R: Input, D: Disk + Drop, C: Children + Drop, T: Client<D, C>, K: Clock
 
     /// Answers the commands that wait, since the line after them is not there yet. Keeps the part of a line that was read, and a line
     /// that is held.
-    pub fn answer_rest<M: Metadata>(&mut self, context: &RunContext<'_, M>) -> Result<Taken, Failed>
+    pub fn answer_rest<M: Metadata>(&mut self, context: &SessionContext<'_, M>) -> Result<Taken, Failed>
         requires open { waiting self.old.pending.gathered ≢ []
             → self.old.worker.at.executor.is_open ≡ true }
         ensures none { waiting self.new.pending.gathered ≡ [] }
@@ -80,7 +80,7 @@ impl<'a, R: Input, D: Disk + Drop, C: Children + Drop, T: Client<D, C>, K: Clock
     // Queues a command after the others, and answers all of them unless the next line is already there.
     fn take_command<M: Metadata>(
         &mut self,
-        context: &RunContext<'_, M>,
+        context: &SessionContext<'_, M>,
         command: Command,
         has_next: bool,
     ) -> Result<Taken, Failed>
@@ -109,7 +109,7 @@ impl<'a, R: Input, D: Disk + Drop, C: Children + Drop, T: Client<D, C>, K: Clock
     // Answers the commands that wait, and then this line, unless the session ends before that.
     fn take_other<M: Metadata>(
         &mut self,
-        context: &RunContext<'_, M>,
+        context: &SessionContext<'_, M>,
         found: Found,
     ) -> Result<Taken, Failed>
         requires at_once { MayTakeAtOnce context.now.way found }
@@ -132,7 +132,7 @@ impl<'a, R: Input, D: Disk + Drop, C: Children + Drop, T: Client<D, C>, K: Clock
     // other line is answered after them.
     fn take_found<M: Metadata>(
         &mut self,
-        context: &RunContext<'_, M>,
+        context: &SessionContext<'_, M>,
         found: Found,
         has_next: bool,
     ) -> Result<Taken, Failed>
@@ -153,7 +153,7 @@ impl<'a, R: Input, D: Disk + Drop, C: Children + Drop, T: Client<D, C>, K: Clock
 
     /// Continues the line in the buffer by one read; a complete line is taken, or held. Commands do not wait for the rest of an
     /// incomplete one.
-    pub fn take_read<M: Metadata>(&mut self, context: &RunContext<'_, M>) -> Result<Taken, Failed>
+    pub fn take_read<M: Metadata>(&mut self, context: &SessionContext<'_, M>) -> Result<Taken, Failed>
         requires free { self.old.pending.held ≡ None }
         requires waits { MayWait context.now.way (midway self.old.worker self.old.pending) }
         requires there { WaitsForThere (midway self.old.worker self.old.pending) }

@@ -9,7 +9,7 @@ ghost use Rattle.exec_session.specs.Spots.{SendsAll, SendsPart};
 ghost use Rattle.exec_session.specs.Steps.{Steps, StepsTo};
 ghost use Rattle.exec_trace.specs.Events.{last_shown};
 
-use crate::context::RunContext;
+use crate::context::SessionContext;
 use crate::pause::Pause;
 use crate::worker::Worker;
 use child_model::Children;
@@ -65,7 +65,7 @@ impl<'a, R: Input, D: Disk + Drop, C: Children + Drop, T: Client<D, C>, K: Clock
     // breaks off where nobody reads the output any more.
     fn drain<M>(
         &mut self,
-        context: &RunContext<M>,
+        context: &SessionContext<M>,
         terms: Terms,
         start: u64,
     ) -> Result<DrainEnd, Failed>
@@ -93,7 +93,7 @@ impl<'a, R: Input, D: Disk + Drop, C: Children + Drop, T: Client<D, C>, K: Clock
     // Drains from now on, for at most this many milliseconds.
     fn drain_reply<M>(
         &mut self,
-        context: &RunContext<M>,
+        context: &SessionContext<M>,
         ends_idle: bool,
         limit: u32,
     ) -> Result<LineReply, Failed>
@@ -116,7 +116,7 @@ impl<'a, R: Input, D: Disk + Drop, C: Children + Drop, T: Client<D, C>, K: Clock
     /// Drains from now on, for at most this many milliseconds, and sends how that ended.
     pub fn answer_drain<M>(
         &mut self,
-        context: &RunContext<M>,
+        context: &SessionContext<M>,
         ends_idle: bool,
         limit: u32,
     ) -> Result<(), Failed>
@@ -131,7 +131,7 @@ impl<'a, R: Input, D: Disk + Drop, C: Children + Drop, T: Client<D, C>, K: Clock
     }
 
     // Makes a turn now that begins nothing, and sends its notices.
-    fn finish_turn<M>(&mut self, context: &RunContext<M>, pause: &mut Pause) -> Result<(), Failed>
+    fn finish_turn<M>(&mut self, context: &SessionContext<M>, pause: &mut Pause) -> Result<(), Failed>
         requires open { self.old.at.executor.is_open ≡ true }
         ensures made { Steps (FinishReceived (SendsAll context.now.form) D.view self.old.at)
             (FinishReceived (SendsPart context.now.form) D.view self.old.at) self.old self.new result }
@@ -147,7 +147,7 @@ impl<'a, R: Input, D: Disk + Drop, C: Children + Drop, T: Client<D, C>, K: Clock
 
     /// Makes turns that begin nothing as long as anything runs, and sends their notices, and then the last line of the session. If a disk
     /// fault closes the executor, it sends the line of that fault instead. It breaks off where nobody reads the output any more.
-    pub fn leave<M>(&mut self, context: &RunContext<M>) -> Result<(), Failed>
+    pub fn leave<M>(&mut self, context: &SessionContext<M>) -> Result<(), Failed>
         requires open { self.old.at.executor.is_open ≡ true }
         ensures leaves { Steps (LeavesFrom D.view (rules_of context.now) self.old.at)
             (LeaveBreaks D.view (rules_of context.now) self.old.at) self.old self.new result }

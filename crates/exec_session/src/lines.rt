@@ -6,7 +6,7 @@ ghost use Rattle.exec_session.specs.Answers.{IsReadAs};
 ghost use Rattle.exec_session.specs.Progress.{HasTagOf, ReadsInput};
 ghost use Rattle.exec_session.specs.declared.lines.Found.TheVariants as found;
 
-use crate::context::{RunContext, Way};
+use crate::context::{SessionContext, Way};
 use exec_commands::{Line, Tag, read_command, read_strictly};
 use exec_lines::{LineBuffer, Next};
 use growth::Grows;
@@ -65,7 +65,7 @@ fn read_line(way: Way, alloc: Global, bytes: &[u8]) -> (Result<Line, Refusal>, O
 
 /// The next line of the input, which is in the buffer, and its tag, if it has one.
 pub fn found_in<M>(
-    context: &RunContext<'_, M>,
+    context: &SessionContext<'_, M>,
     buffer: &LineBuffer,
     next: Next,
 ) -> (Found, Option<Tag>)

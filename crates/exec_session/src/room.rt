@@ -5,7 +5,7 @@ ghost use Rattle.executor.specs.TidyCalls.{TidiesWhile};
 ghost use Rattle.exec_client.specs.MaySend.{IsBacked};
 ghost use Rattle.exec_session.specs.Rules.{MakesRoom, is_at_leisure, is_monitor_due, is_tidy_due, rules_of};
 
-use crate::context::RunContext;
+use crate::context::SessionContext;
 use child_model::Children;
 use disk_model::Disk;
 use executor::Executor;
@@ -59,7 +59,7 @@ fn is_at_leisure<D: Disk + Drop, C: Children + Drop>(
 // Whether the tail is past the first mark and a tidy is worthwhile, and either nothing would wait for it or the tail is past the second
 // mark.
 fn is_tidy_due<D: Disk + Drop, C: Children + Drop, M>(
-    context: &RunContext<M>,
+    context: &SessionContext<M>,
     executor: &Executor<D, C>,
     now: u64,
     pace: u64,
@@ -87,7 +87,7 @@ fn millis_since(clock: &impl Clock, then: Option<Instant>) -> u64 {
 
 /// Tidies the journal, and records how long a piece of that took.
 pub fn tidy_timed<D: Disk + Drop, C: Children + Drop, K: Clock, M>(
-    context: &RunContext<M>,
+    context: &SessionContext<M>,
     clock: &K,
     executor: &mut Executor<D, C>,
 ) -> TidyEnd
@@ -102,7 +102,7 @@ pub fn tidy_timed<D: Disk + Drop, C: Children + Drop, K: Clock, M>(
 
 /// Tidies the journal if that is due at this time. Whether the executor is open then: a disk fault closes it.
 pub fn make_room<D: Disk + Drop, C: Children + Drop, K: Clock, M>(
-    context: &RunContext<M>,
+    context: &SessionContext<M>,
     clock: &K,
     executor: &mut Executor<D, C>,
     now: u64,

@@ -6,7 +6,7 @@ ghost use Rattle.exec_client.specs.SentItem.{Answered, sent_in};
 ghost use Rattle.exec_session.specs.Reports.{IsReportOf, ReadyBreaks, ReportBreaks, SendsReady, SendsReport, counts_of, ended};
 ghost use Rattle.exec_session.specs.Steps.{Sends, Steps};
 
-use crate::context::{RunContext, Way};
+use crate::context::{SessionContext, Way};
 use crate::worker::Worker;
 use child_model::Children;
 use disk_model::Disk;
@@ -39,7 +39,7 @@ impl<'a, R: Input, D: Disk + Drop, C: Children + Drop, T: Client<D, C>, K: Clock
     /// Sends a reply that acknowledges no command. A status in it is that of the executor's state.
     pub fn send_reply<M>(
         &mut self,
-        context: &RunContext<M>,
+        context: &SessionContext<M>,
         reply: &LineReply,
     ) -> Result<(), Failed>
         requires plain { claims (Answered reply.now) ≡ false }
@@ -50,7 +50,7 @@ impl<'a, R: Input, D: Disk + Drop, C: Children + Drop, T: Client<D, C>, K: Clock
     }
 
     // Sends a line that replies to none and acknowledges no command. A count in it is that of the executor's state.
-    fn send_aside<M>(&mut self, context: &RunContext<M>, news: &LineReply) -> Result<(), Failed>
+    fn send_aside<M>(&mut self, context: &SessionContext<M>, news: &LineReply) -> Result<(), Failed>
         requires plain { claims (Answered news.now) ≡ false }
         requires says { MayReply self.old.at.executor news.now }
         ensures sends { Sends context.now.form (Answered news.now ∷ []) self.old self.new result }
@@ -59,14 +59,14 @@ impl<'a, R: Input, D: Disk + Drop, C: Children + Drop, T: Client<D, C>, K: Clock
     }
 
     /// Sends the line that says how a turn ended.
-    pub fn send_end<M>(&mut self, context: &RunContext<M>, end: TurnEnd) -> Result<(), Failed>
+    pub fn send_end<M>(&mut self, context: &SessionContext<M>, end: TurnEnd) -> Result<(), Failed>
         ensures sends { Sends context.now.form (ended end ∷ []) self.old self.new result }
     {
         self.send_aside(context, &LineReply::Drain(DrainEnd::Turn(end)))
     }
 
     /// Sends the report of an opening: the interrupted actions, and then the dropped ones.
-    pub fn send_report<M>(&mut self, context: &RunContext<M>, report: &Report) -> Result<(), Failed>
+    pub fn send_report<M>(&mut self, context: &SessionContext<M>, report: &Report) -> Result<(), Failed>
         requires opening_report { IsReportOf self.old.at.executor report.now }
         ensures reported { Steps (SendsReport context.now.form report.now self.old.at)
             (ReportBreaks context.now.form report.now self.old.at) self.old self.new result }
@@ -90,7 +90,7 @@ impl<'a, R: Input, D: Disk + Drop, C: Children + Drop, T: Client<D, C>, K: Clock
     }
 
     /// Sends the line that a session in `serve` is ready; `run` has no such line.
-    pub fn send_ready<M>(&mut self, context: &RunContext<M>, report: &Report) -> Result<(), Failed>
+    pub fn send_ready<M>(&mut self, context: &SessionContext<M>, report: &Report) -> Result<(), Failed>
         requires opening_report { IsReportOf self.old.at.executor report.now }
         ensures reported { Steps (SendsReady context.now.way context.now.form self.old.at)
             (ReadyBreaks context.now.way context.now.form self.old.at) self.old self.new result }

@@ -2,7 +2,7 @@
 ghost use Rattle.std.specs.Prelude.{◌≡◌, [], true, IfErr, OnErr, OnOk};
 ghost use Rattle.ocf_types.specs.declared.reply.TurnEnd.TheVariants.{Done};
 ghost use Rattle.exec_faults.specs.Faults.{HasCause};
-ghost use Rattle.exec_session.specs.Breaks.{EndsOrBreaks, RunBreaks};
+ghost use Rattle.exec_session.specs.Breaks.{EndsOrBreaks, SessionBreaks};
 ghost use Rattle.exec_session.specs.Ends.{ClosesByCalls, Ended, EndsAs, Runs};
 ghost use Rattle.exec_session.specs.Pending.{IsClear};
 ghost use Rattle.exec_session.specs.Reports.{IsReportOf};
@@ -11,7 +11,7 @@ ghost use Rattle.exec_session.specs.Runs.{IsNew};
 ghost use Rattle.exec_session.specs.Spots.{Lasts, at_of};
 ghost use Rattle.exec_session.specs.Waiting.{MayBegin, Rounds, midway, stage};
 
-use crate::context::{RunContext, Way};
+use crate::context::{SessionContext, Way};
 use crate::desk::Desk;
 use crate::lines::Taken;
 use crate::metadata::Metadata;
@@ -58,7 +58,7 @@ impl<'a, R: Input, D: Disk + Drop, C: Children + Drop, T: Client<D, C>, K: Clock
     K,
 > {
     // Answers the lines that are there, at most 64, and makes a turn; if nothing happened in it, waits for the next line.
-    fn serve_round<M: Metadata>(&mut self, context: &RunContext<'_, M>) -> Result<Taken, Failed>
+    fn serve_round<M: Metadata>(&mut self, context: &SessionContext<'_, M>) -> Result<Taken, Failed>
         requires way { context.now.way ≡ Way.Serve }
         requires begins { MayBegin context.now.way (midway self.old.desk.worker self.old.desk.pending) }
         ensures rounds { Rounds D.view (M.gives context.now.metadata.now) (rules_of context.now)
@@ -90,7 +90,7 @@ impl<'a, R: Input, D: Disk + Drop, C: Children + Drop, T: Client<D, C>, K: Clock
     }
 
     // One round. In `run` it is one read, and the answer to the line that is complete then.
-    fn round<M: Metadata>(&mut self, context: &RunContext<'_, M>) -> Result<Taken, Failed>
+    fn round<M: Metadata>(&mut self, context: &SessionContext<'_, M>) -> Result<Taken, Failed>
         requires begins { MayBegin context.now.way (midway self.old.desk.worker self.old.desk.pending) }
         ensures rounds { Rounds D.view (M.gives context.now.metadata.now) (rules_of context.now)
             (stage (midway self.old.desk.worker self.old.desk.pending) self.old.pause.since self.old.own)
@@ -128,7 +128,7 @@ impl<'a, R: Input, D: Disk + Drop, C: Children + Drop, T: Client<D, C>, K: Clock
 
     // Answers the lines of the input up to its end, round by round. In `serve` a disk fault that closes the executor ends the session,
     // with the line of that fault; and once a line asks for it the session makes an orderly end.
-    fn answer_all<M: Metadata>(&mut self, context: &RunContext<'_, M>) -> Result<(), Failed>
+    fn answer_all<M: Metadata>(&mut self, context: &SessionContext<'_, M>) -> Result<(), Failed>
         requires clear { IsClear self.old.desk.pending }
         requires none { self.old.own ≡ Done }
         requires open { self.old.desk.worker.at.executor.is_open ≡ true }
@@ -150,7 +150,7 @@ impl<'a, R: Input, D: Disk + Drop, C: Children + Drop, T: Client<D, C>, K: Clock
     // Sends the report, and in `serve` that the session is ready; then answers all lines.
     fn report_and_answer<M: Metadata>(
         &mut self,
-        context: &RunContext<'_, M>,
+        context: &SessionContext<'_, M>,
         report: &Report,
     ) -> Result<(), Failed>
         requires clear { IsClear self.old.desk.pending }
@@ -160,7 +160,7 @@ impl<'a, R: Input, D: Disk + Drop, C: Children + Drop, T: Client<D, C>, K: Clock
         ensures lasts { Lasts self.old.desk.worker.at self.new.desk.worker.at }
         ensures runs { OnOk result (Runs D.view (M.gives context.now.metadata.now) (rules_of context.now)
             report.now self.old.desk.worker self.new.desk.worker) }
-        ensures breaks { OnErr result (RunBreaks D.view (M.gives context.now.metadata.now)
+        ensures breaks { OnErr result (SessionBreaks D.view (M.gives context.now.metadata.now)
             (rules_of context.now) report.now self.old.desk.worker self.new.desk.worker.at) }
     {
         self.desk.worker.send_report(context, report)?;
@@ -172,7 +172,7 @@ impl<'a, R: Input, D: Disk + Drop, C: Children + Drop, T: Client<D, C>, K: Clock
     // Sends the report, and then answers all lines. Gives how the program ends after that.
     fn answer_lines<M: Metadata>(
         &mut self,
-        context: &RunContext<'_, M>,
+        context: &SessionContext<'_, M>,
         report: &Report,
     ) -> Result<(), Fault>
         requires clear { IsClear self.old.desk.pending }
@@ -210,7 +210,7 @@ pub fn run_lines<
     K: Clock,
     M: Metadata,
 >(
-    context: &RunContext<'_, M>,
+    context: &SessionContext<'_, M>,
     edge: Edge<'a, R, D, C, T, K>,
     opened: (Executor<D, C>, Report),
     room: LineRoom,

@@ -9,7 +9,7 @@ ghost use Rattle.exec_session.specs.Spots.{SendsAll, SendsPart};
 ghost use Rattle.exec_session.specs.Steps.{Steps, StepsTo};
 ghost use Rattle.exec_trace.specs.Events.{last_shown};
 
-use crate::context::RunContext;
+use crate::context::SessionContext;
 use crate::pause::Pause;
 use crate::room::make_room;
 use crate::worker::Worker;
@@ -39,7 +39,7 @@ impl<'a, R: Input, D: Disk + Drop, C: Children + Drop, T: Client<D, C>, K: Clock
 > {
     /// Tidies if that is due, then makes a turn at this time, the last clock reading, and sends its notices. If the disk fails in the
     /// tidy, there is no turn.
-    pub fn make_turn<M>(&mut self, context: &RunContext<M>, now: u64) -> Result<TurnEnd, Failed>
+    pub fn make_turn<M>(&mut self, context: &SessionContext<M>, now: u64) -> Result<TurnEnd, Failed>
         requires open { self.old.at.executor.is_open ≡ true }
         requires shown { last_shown self.old.at.events ≡ Some now }
         ensures made { StepsTo (λ end q. MakesTurn D.view (rules_of context.now) now self.old.at q end)
@@ -59,7 +59,7 @@ impl<'a, R: Input, D: Disk + Drop, C: Children + Drop, T: Client<D, C>, K: Clock
     // Sends how an own turn ended, if that is news.
     fn send_news<M>(
         &mut self,
-        context: &RunContext<M>,
+        context: &SessionContext<M>,
         before: TurnEnd,
         end: TurnEnd,
     ) -> Result<(), Failed>
@@ -76,7 +76,7 @@ impl<'a, R: Input, D: Disk + Drop, C: Children + Drop, T: Client<D, C>, K: Clock
     /// Makes a turn now, after an own one that ended like this, and sends how it ended if that is news.
     pub fn make_own_turn<M>(
         &mut self,
-        context: &RunContext<M>,
+        context: &SessionContext<M>,
         pause: &mut Pause,
         before: TurnEnd,
     ) -> Result<TurnEnd, Failed>

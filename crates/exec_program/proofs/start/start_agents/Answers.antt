@@ -13,13 +13,13 @@ log-requires g c =
 pub files-requires : goal.files-requires
 files-requires g c = c.requires.may (OpenFiles c.args.options c.in-Folder.folder.now) (inl (refl, ap folder_of c.in-Folder.is))
 
-pub run_agents-requires-clause-may : goal.run_agents-requires-clause-may
-run_agents-requires-clause-may g c =
+pub serve_agents-requires-clause-may : goal.serve_agents-requires-clause-may
+serve_agents-requires-clause-may g c =
     allows_on_files (g.H.Host.asked c.args.host.now) g.H.Files.Disk.view (g.H.Host.may c.args.host.now) c.args.options
     c.in-Folder.folder c.in-Ok-files.disk c.in-Folder.is c.in-Ok-files.ensures.files c.requires.may
 
-pub run_agents-requires-in-Memory-clause-may : goal.run_agents-requires-in-Memory-clause-may
-run_agents-requires-in-Memory-clause-may g c =
+pub serve_agents-requires-in-Memory-clause-may : goal.serve_agents-requires-in-Memory-clause-may
+serve_agents-requires-in-Memory-clause-may g c =
     allows_in_memory (g.H.Host.asked c.args.host.now) g.H.Files.Disk.view view_of (g.H.Host.may c.args.host.now) c.args.options
     c.new.result c.in-Memory.is c.requires.may
 
@@ -29,5 +29,5 @@ returns-in-Memory-clause-runs g c = inr (inr (
   subst (g.H.Host.asked c.args.host.now).ignored c.if-children_ignored.false c.children_ignored.ensures,
   c.in-Ok.ensures.log,
   runs_in_memory _ (g.H.Host.asked c.args.host.now) g.H.Agents.Children.view g.H.Source.Metadata.gives g.H.Reader.Read.remaining
-      g.H.Writer.Write.contents g.H.Files.Disk.view c.args.options c.in-Ok.log c.args.options.journal c.new.result c.run_agents-in-Memory.result c.in-Memory.is c.new.ensures.fresh c.run_agents-in-Memory.ensures.runs c.run_agents-in-Memory.ensures.memory,
+      g.H.Writer.Write.contents g.H.Files.Disk.view c.args.options c.in-Ok.log c.args.options.journal c.new.result c.serve_agents-in-Memory.result c.in-Memory.is c.new.ensures.fresh c.serve_agents-in-Memory.ensures.runs c.serve_agents-in-Memory.ensures.memory,
 ))

@@ -4,7 +4,7 @@ use Rattle.exec_session.specs.Held.{held_lines}
 use Rattle.exec_session.specs.Rules.{rules_of}
 use Rattle.exec_session.specs.Waiting.{midway}
 use Rattle.exec_session.proofs.LastLemmas.{read_longer}
-use Rattle.exec_session.proofs.RoundLemmas.{round_read, run_begins, since_later}
+use Rattle.exec_session.proofs.RoundLemmas.{round_read, session_begins, since_later}
 use Rattle.exec_session.proofs.WaitLemmas.{if_ok, may_run, ok_always}
 use Rattle.exec_session.proofs.session.Session.round.Goals as goal
 
@@ -26,7 +26,7 @@ returns-in-Run g c = record {
         begins =
             let new = c.take_read.new.self in
             if_ok _ _ c.take_read.result
-            (λ taken there more. run_begins c.args.context.now.way (midway new.worker new.pending) c.in-Run.is c.take_read.ensures.waits (there more))
+            (λ taken there more. session_begins c.args.context.now.way (midway new.worker new.pending) c.in-Run.is c.take_read.ensures.waits (there more))
             c.take_read.ensures.there;
         goes =
             λ p come.

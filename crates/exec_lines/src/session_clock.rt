@@ -20,7 +20,7 @@ const OFFERS: u32 = 1_000;
 /// a journal that is ahead of the wall clock goes on from its last moment. A sleep of at most 100 microseconds is exact: it
 /// yields the processor until the time has passed.
 #[derive(Drop)]
-pub struct RunClock<'a, K> {
+pub struct SessionClock<'a, K> {
     clock: &'a K,
     // The reading as the session begins, since 1970.
     begun: Duration,
@@ -37,11 +37,11 @@ fn shown(begun: Duration, from: Duration, now: Duration) -> Duration
     begun.saturating_add(now.saturating_sub(from))
 }
 
-impl<'a, K: Clock> RunClock<'a, K> {
+impl<'a, K: Clock> SessionClock<'a, K> {
     /// The clock of a session that begins now, over a journal whose last event has this moment.
-    pub fn new(clock: &'a K, journal: Moment) -> RunClock<'a, K> {
+    pub fn new(clock: &'a K, journal: Moment) -> SessionClock<'a, K> {
         let wall = clock.since_1970().unwrap_or(Duration::ZERO);
-        RunClock {
+        SessionClock {
             clock,
             begun: wall.max(Duration::from_millis(journal.get())),
             from: clock.monotonic().ok(),
@@ -65,7 +65,7 @@ fn offers(clock: &impl Clock, duration: Duration) -> bool {
     false
 }
 
-impl<K: Clock> Clock for RunClock<'_, K> {
+impl<K: Clock> Clock for SessionClock<'_, K> {
     fn monotonic(&self) -> io::Result<Duration> {
         self.clock.monotonic()
     }

@@ -7,7 +7,7 @@ use Rattle.exec_program.specs.Limits.{book_room}
 use Rattle.exec_program.specs.Requests.{AskSite, LeaveWord, MakeAgents, OpenReader, OpenWriter, WatchPaths}
 use Rattle.exec_program.specs.Runs.{EndsBy, IsHeldTo}
 use Rattle.exec_program.proofs.RunLemmas.{edge_begins, ended_from}
-use Rattle.exec_program.proofs.run.run_agents.Goals as goal
+use Rattle.exec_program.proofs.run.serve_agents.Goals as goal
 
 pub reader-requires : goal.reader-requires
 reader-requires g c = c.requires.may OpenReader (inr (inr tt))
