@@ -6,14 +6,14 @@ ghost use Rattle.child_keeper.specs.Commands.{given};
 ghost use Rattle.child_keeper.specs.MetaChildren.{AskedView, GoesOn, IsWholeAnswer};
 
 /// An environment that is sorted by name gives each of its variables its value, and no other variable any.
-pub fn just_its_variables()
+pub fn lemma_just_its_variables()
     ensures { (pairs : List Pair) (name value : List ℕ) → IsTrue (are_ascending pairs)
         → (given pairs name ≡ Some (Some value)) ↔ Contains pairs (name, value) }
 {}
 
 /// Metadata that are whole as seen from a poll are whole as seen from each earlier poll: what was kept then, followed by all that
 /// the agent had still to write.
-pub fn metadata_are_whole()
+pub fn lemma_metadata_are_whole()
     ensures { (old now : AskedView) (metadata : List ℕ) → GoesOn old now
         → IsWholeAnswer now metadata → IsWholeAnswer old metadata }
 {}

@@ -11,7 +11,7 @@ ghost use Rattle.child_model.specs.declared.answer.Poll.TheVariants.{Running};
 
 /// A call appends one entry to the book and to the log, with its run and the answer that it returned. The log of all answers
 /// does not change when the book is cleared or all agent processes are given up.
-pub fn one_entry()
+pub fn lemma_one_entry()
     ensures start { (v : ChildrenView) (run at : ℕ) (answer : Result Unit StartFault)
         → Adds v (after_start v run at answer)
         (record { run = run; at = at; answer = start_answer answer }) }
@@ -33,7 +33,7 @@ pub fn answers_are_reported()
 
 /// A book asked for the starts of both its halves, and one without entries of starts for none. The entry of a start asks for its
 /// run at its count of device calls and for nothing else; the entries of polls and kills ask for nothing.
-pub fn starts_asked()
+pub fn lemma_starts_asked()
     ensures joined { (b c : List Entry) (run at : ℕ) → Asked (b ++ c) run at
         ↔ (Asked b run at ⊎ Asked c run at) }
     ensures none { (entries : List Entry) (run at : ℕ) → AsksNothing entries → Asked entries run at
@@ -50,7 +50,7 @@ pub fn starts_asked()
 
 /// After a call each run lives exactly when it lived before, except the run of the call: it lives after a start that succeeded,
 /// and does not live after a kill or a poll that reports anything but that it still runs.
-pub fn who_lives()
+pub fn lemma_live_processes()
     ensures start { (v : ChildrenView) (run at r : ℕ) (answer : Result Unit StartFault)
         → Contains (after_start v run at answer).live r
         ↔ (Contains v.live r ⊎ (IsOk answer × (r ≡ run))) }
@@ -63,7 +63,7 @@ pub fn who_lives()
 
 /// A start that succeeds adds one live run, a refused one none. A poll adds none, and removes at least one if the run lived and
 /// the answer is not that it still runs. A kill removes at least one if the run lived.
-pub fn how_many_live()
+pub fn lemma_live_count()
     ensures start { (v : ChildrenView) (run at : ℕ) (answer : Result Unit StartFault)
         → length (after_start v run at answer).live ≡ length v.live + cond (is_ok answer) 1 0 }
     ensures poll { (v : ChildrenView) (run : ℕ) (answer : Poll)

@@ -7,11 +7,11 @@ use crate::wild::WildDisk;
 use std::alloc::Allocator;
 
 /// A disk in memory is honest.
-pub fn memory_is_honest<A: Allocator + Copy>(disk: &MemDisk<A>)
+pub fn lemma_memory_is_honest<A: Allocator + Copy>(disk: &MemDisk<A>)
     ensures honest { (view_of disk.now).honest }
 {}
 
 /// The wild disk is never honest.
-pub fn wild_is_not_honest(disk: &WildDisk)
+pub fn lemma_wild_is_not_honest(disk: &WildDisk)
     ensures never { (wild_view disk.now).honest → ⊥ }
 {}

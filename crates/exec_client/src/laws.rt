@@ -22,7 +22,7 @@ use executor::laws::promise;
 /// The promise, with what clients were sent. Each history of incarnations has one list of events for which all of
 /// `executor::laws::promise` holds. In this list each acknowledgement and each notice that a client was sent in any incarnation has an
 /// event of its own, in the order in which they were sent.
-pub fn sent_holds<D: Disk>()
+pub fn lemma_sent_holds<D: Disk>()
     ensures holds { (start : State) (incarnations : List (Incarnation D)) (is : AreIncarnations D.view start incarnations)
         (reported : List SentItem) → SentOver incarnations reported
         → (c : Image) → IncarnationsLeave D.view start incarnations c
@@ -34,7 +34,7 @@ pub fn sent_holds<D: Disk>()
 }
 
 /// A notice names a signal exactly when a poll of its run reported that a signal ended it, and it names that signal.
-pub fn signals_are_polled()
+pub fn lemma_signals_are_polled()
     ensures polled { (book : List Entry) (run signal : ℕ) → signal_of book run ≡ Some signal
         → (at : ℕ) × Contains book
         (record { run = run; at = at; answer = poll_answer (Signaled signal) }) }

@@ -24,11 +24,11 @@ use Rattle.exec_session.specs.Broken.{BatchBreaks}
 module _ {D : Type 0} where
   -- a fact about a worker's view, by its fields
   pub parts : (P : Position D → Type 0) (x : ExecutorView D) (e : EdgeView D) (p : Position D) → at_of x e ≡ p → P p → P (at_of x e)
-  parts P x e p is known = subst P (sym is) known
+  parts P x e p is lemma_known = subst P (sym is) lemma_known
 
   -- the other way
   pub whole : (P : Position D → Type 0) (x : ExecutorView D) (e : EdgeView D) (p : Position D) → at_of x e ≡ p → P (at_of x e) → P p
-  whole P x e p is known = subst P is known
+  whole P x e p is lemma_known = subst P is lemma_known
 
   -- the executor is still open after one more event
   pub open_noted : (x : ExecutorView D) (e : EdgeView D) (p m : Position D) (event : IoEvent) → at_of x e ≡ m → m ≡ noted p event

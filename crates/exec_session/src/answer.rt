@@ -122,7 +122,7 @@ fn status_reply<D: Disk + Drop, C: Children + Drop>(
 ) -> LineReply
     ensures status { IsStatusReply executor.now result }
 {
-    executor.known();
+    executor.lemma_known();
     match statuses_of(alloc, executor.state()) {
         Ok(statuses) => LineReply::Status(statuses),
         Err(_) => refused(Refusal::Memory),

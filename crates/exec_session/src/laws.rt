@@ -14,20 +14,20 @@ use disk_model::Disk;
 /// Whatever lines a session answers and whatever turns it makes between them, its executor goes on by calls alone, and every reply and
 /// notice is backed by what these recorded. So the law of histories of incarnations holds of each session, with a crash after any of its
 /// replies.
-pub fn lines_are_calls<D: Disk, M: Metadata>(metadata: &M)
+pub fn lemma_lines_are_calls<D: Disk, M: Metadata>(metadata: &M)
     ensures { (rules : Rules) (own : OwnTurn) (n : ℕ) (lines : Lines) (p q : Position D)
         → Reaches D.view (M.gives metadata.now) rules p own n lines q
         → GoesByCalls D.view p.at q.at }
 {}
 
 /// The same of each drain and watch, turn by turn: so that law holds with a crash after any of its turns.
-pub fn turns_are_calls<D: Disk>()
+pub fn lemma_turns_are_calls<D: Disk>()
     ensures { (rules : Rules) (terms : Terms) (start turns now : ℕ) (p q : Spot D)
         → p.executor.is_open ≡ true → GoesOn D.view rules terms start p turns now q
         → GoesByCalls D.view p q }
 {}
 
 /// The same of an orderly end, whose turns begin nothing.
-pub fn last_turns_are_calls<D: Disk>()
+pub fn lemma_last_turns_are_calls<D: Disk>()
     ensures { (rules : Rules) (p q : Spot D) → WindsDown D.view rules p q → GoesByCalls D.view p q }
 {}

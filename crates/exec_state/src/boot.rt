@@ -33,7 +33,7 @@ impl<A: Grows> State<A> {
         ensures allocator { self.new.refuses ≡ self.old.refuses }
     {
         self.registry.restart(at);
-        self.registry.known();
+        self.registry.lemma_known();
     }
 
     /// Whether some resource has an action queued or running.

@@ -10,7 +10,7 @@ ghost use Rattle.exec_state.specs.Lawful.{IsLawfulStore};
 
 /// The due moments are a finite map from resource id and call. Each event changes it as the definition says, and an opening
 /// makes all monitors due at one moment.
-pub fn due_moments()
+pub fn lemma_due_moments()
     ensures after { (s : Store) (e : Event) (id : List ℕ) (call : ℕ) → IsLawfulStore s
         → Applies s.state e
         → due_of (monitors_after s.state e s.monitors) id call

@@ -112,7 +112,7 @@ impl<A: Grows> Registry<A> {
     }
 
     /// Lemma: the monitors are those of the resources.
-    pub(crate) fn known(&self)
+    pub(crate) fn lemma_known(&self)
         ensures { recurs_by_id self.now.monitors ≡ recurring_by_id self.now.resources }
     {
         let _ = self.resources.len();

@@ -129,9 +129,9 @@ lookup_holds P id r (e ∷ es) all at = by (bytes_eq id e.0) refl (lookup_holds 
     by false other rest = rest (rw other at at)
 
 -- they hold in a lawful state
-known : (s : State) (a : Active) → IsLawfulState s → RunsUnder s a.id a.running.call a.running.run
+lemma_known : (s : State) (a : Active) → IsLawfulState s → RunsUnder s a.id a.running.call a.running.run
     → IsNamed a × (a.running.run < s.next_run)
-known s a lawful runs =
+lemma_known s a lawful runs =
     let there = runs_there (resource_at s a.id) runs.running runs.is in
     let id : IsId a.id = lookup_holds (λ e. IsId e.0) a.id there.0 s.resources lawful.named there.1 in
     let resource = lookup_holds
@@ -143,7 +143,7 @@ known s a lawful runs =
 -- the runs of running actions are below the next run number
 pub runs_below : (s : State) (all : List Active) → IsLawfulState s → AllRun s all → AllByRecursion (λ n. n < s.next_run) (runs_of all)
 runs_below s [] lawful run = tt
-runs_below s (a ∷ rest) lawful run = ((known s a lawful run.0).1, runs_below s rest lawful run.1)
+runs_below s (a ∷ rest) lawful run = ((lemma_known s a lawful run.0).1, runs_below s rest lawful run.1)
 
 -- no key is the id
 abbrev IsAbsent : List ℕ → Registry → Type 0
@@ -285,7 +285,7 @@ run_on s at a end (b ∷ rest) runs apart all =
       run_on s at a end rest runs apart.1 all.1,
     )
 
--- the greatest length of a result: the law `lengths` of ocf_types
+-- the greatest length of a result: the law `lemma_lengths` of ocf_types
 abbrev pub ResultsFit : Type 0
 ResultsFit =
     (at run : ℕ) (id : List ℕ) (end : RunEnd) → IsId id
@@ -374,7 +374,7 @@ module _ {X : Type 0} (who : X → Active) (ends : X → List RunEnd) (one : (x 
   can_end : (s : State) (xs : List X) → IsLawfulState s → AllRun s (map who xs) → AllByRecursion (λ x. AllByRecursion IsRunEnd (ends x)) xs
       → AllByRecursion CanEnd xs
   can_end s [] lawful run are = tt
-  can_end s (x ∷ xs) lawful run are = (((known s (who x) lawful run.0).0, are.0), can_end s xs lawful run.1 are.1)
+  can_end s (x ∷ xs) lawful run are = (((lemma_known s (who x) lawful run.0).0, are.0), can_end s xs lawful run.1 are.1)
 
   -- so the batch of them may be recorded, wherever the tail is
   pub ended_may_record : ResultsFit → (s : State) (tail at : ℕ) (xs : List X) → IsLawfulState s → s.clock ≤ at → IsMoment at

@@ -54,7 +54,7 @@ pub fn finish_turn<D: Disk + Drop, C: Children, A: Grows>(
     ensures matched { result ≢ TurnEnd.Disk → ChildrenMatch ledger.new.state (C.view children.new) }
 {
     lemma_journal_holds();
-    ledger.known();
+    ledger.lemma_known();
     let state = ledger.state();
     if children.room() / 2 < state.len() {
         batches.notices.clear();

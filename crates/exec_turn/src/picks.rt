@@ -15,7 +15,7 @@ use exec_journal::Journal;
 use exec_state::State;
 use growth::Grows;
 use ocf_env::{Instance, Invocation, LaunchOf, Site, launch};
-use ocf_types::laws::lengths;
+use ocf_types::laws::lemma_lengths;
 use ocf_types::{Change, Event, EventOf, Moment, RunId, Running, StateView, Step, TurnEnd};
 use std::alloc::{AllocError, Allocator, Global};
 
@@ -36,7 +36,7 @@ fn begin_at<A: Grows>(state: &State<A>, place: usize, running: &Running, at: Mom
         ≡ begin_of at (record { id = id_at state.now.state place; running = running.now }) }
     ensures short { length (encoded_event result) ≤ longest_begin }
 {
-    lengths();
+    lemma_lengths();
     let id = state.id_at(place).copied();
     let step = Step::Begin {
         call: running.call,
@@ -63,7 +63,7 @@ fn start_of<A: Grows, S: Allocator>(
         ≡ record { id = id_at state.now.state place; running = running }) }
     ensures memory { OnErr result (IsTrue A.refuses) }
 {
-    state.known();
+    state.lemma_known();
     let instance = Instance {
         id: state.id_at(place),
         provider: state.provider_at(place),
@@ -100,7 +100,7 @@ pub(crate) fn pick_all<D: Disk + Drop, A: Grows, S: Allocator>(
 {
     batch.clear();
     starts.clear();
-    state.known();
+    state.lemma_known();
     if state.rests(at) {
         return TurnEnd::Done;
     }

@@ -60,7 +60,7 @@ module _ {D : Type 0} (view : D → View) where
   call_lasts Abandoned x y d does =
       record { opening_report = ap (λ (z : ExecutorView D). z.opening_report) does.0; refuses = ap (λ (z : ExecutorView D). z.refuses) does.0 }
 
-  pub report_stays : (x y : ExecutorView D) (es : List Exchange) (d : Effects) → Calls view x es y d → y.opening_report ≡ x.opening_report
-  report_stays x y [] d calls = (same_lasts x y calls.0).opening_report
-  report_stays x y (e ∷ es) d (mid, first, later, does, calls, is) =
-      report_stays mid y es later calls ∙ (call_lasts e x mid first does).opening_report
+  pub lemma_report_stays : (x y : ExecutorView D) (es : List Exchange) (d : Effects) → Calls view x es y d → y.opening_report ≡ x.opening_report
+  lemma_report_stays x y [] d calls = (same_lasts x y calls.0).opening_report
+  lemma_report_stays x y (e ∷ es) d (mid, first, later, does, calls, is) =
+      lemma_report_stays mid y es later calls ∙ (call_lasts e x mid first does).opening_report

@@ -31,8 +31,8 @@ ghost use Rattle.executor.specs.declared.opening.OpenError.{OpenError};
 ghost use Rattle.executor.specs.declared.opening.OpenError.TheVariants as why;
 
 use disk_model::Disk;
-use exec_journal::laws::{found_once, lemma_journal_holds};
-use ocf_types::laws::{lawful_states, layouts};
+use exec_journal::laws::{lemma_found_once, lemma_journal_holds};
+use ocf_types::laws::{lemma_lawful_states, layouts};
 
 /// Each resource's part of any calls is a behaviour of the machine that has this resource alone, whatever the children answered
 /// and however the actions of others ran in between. Its part is: the commands and questions that are about it, each turn, the
@@ -40,7 +40,7 @@ use ocf_types::laws::{lawful_states, layouts};
 /// are nothing to it. The machine begins with the resource's own history, monitors and due moments; call and run numbers are
 /// handed in. The law holds while none of its replies reports a shortage that resources share, each turn ends done, and moments
 /// do not go back; the replies to others do not matter.
-pub fn each_alone<D: Disk>()
+pub fn lemma_each_alone<D: Disk>()
     ensures alone { (x z : ExecutorView D) (calls : List Exchange) (d : Effects) (id : List ℕ)
         → DistinctKeys x.state → Calls D.view x calls z d
         → AllByRecursion IsAnswered (part id calls) → AreRising x.state.clock calls
@@ -81,28 +81,28 @@ pub fn lemma_projections_join()
 {}
 
 /// A session is the calls of its inputs.
-pub fn session_is_calls<D: Disk>()
+pub fn lemma_session_is_calls<D: Disk>()
     ensures { (x z : ExecutorView D) (inputs : List Input) (replies : List Reply) (d : Effects)
         → Session D.view x inputs replies z d
         → Calls D.view x (as_calls inputs replies) z d }
 {}
 
 /// Commands that were taken together are calls, one after the other: each a command by itself, or a batch.
-pub fn commands_are_calls<D: Disk>()
+pub fn lemma_commands_are_calls<D: Disk>()
     ensures { (now : ℕ) (commands : List Command) (given : List Reply) (x y : ExecutorView D)
         → TakesCommands D.view now commands x y given
         → CallsCommands D.view now commands x y given }
 {}
 
 /// An executor remembers the report of its opening, whatever is called.
-pub fn report_stays<D: Disk>()
+pub fn lemma_report_stays<D: Disk>()
     ensures { (x y : ExecutorView D) (calls : List Exchange) (d : Effects) → Calls D.view x calls y d
         → y.opening_report ≡ x.opening_report }
 {}
 
 /// Want of memory is reported only where the executor's allocator refuses memory: with an allocator that never refuses, no call
 /// reports it.
-pub fn memory_is_there<D: Disk>()
+pub fn lemma_memory_is_there<D: Disk>()
     ensures reported { (x y : ExecutorView D) (call : Exchange) (d : Effects) → Does D.view call x y d
         → LacksMemory call → IsTrue x.refuses }
     ensures none { (x y : ExecutorView D) (calls : List Exchange) (d : Effects) → Calls D.view x calls y d
@@ -111,7 +111,7 @@ pub fn memory_is_there<D: Disk>()
 
 /// In a lawful state whose running actions each have an agent process of their own, as in each state of an open executor, ids
 /// differ and runs differ.
-pub fn distinct_keys()
+pub fn lemma_distinct_keys()
     ensures apart { (s : State) (live : List ℕ) → IsLawfulState s → AgentsLive s live
         → DistinctKeys s }
 {}
@@ -128,9 +128,9 @@ pub fn promise<D: Disk>()
         × Behaves start (seen D.view start incarnations is) zs × SurvivingEvents start incarnations zs
         × IsKept start (seen D.view start incarnations is) zs }
 {
-    found_once();
+    lemma_found_once();
     lemma_journal_holds();
-    lawful_states();
+    lemma_lawful_states();
     layouts();
 }
 
@@ -146,7 +146,7 @@ pub fn promise<D: Disk>()
 ///
 /// A history begins on any pair that is found as a state and has capacity for its boot: a fresh pair is such a pair, with the
 /// empty state, and so is a journal of the first layout, with the state that it leads to.
-pub fn whole_life<D: Disk>()
+pub fn lemma_whole_history<D: Disk>()
     ensures fresh { (c : Image) → IsFreshPair c → BeginsAs empty c }
     ensures first { (start : State) (c : Image) → FoundAs start c → IsFirstPart c
         → BeginsAs start c }
@@ -174,6 +174,6 @@ pub fn whole_life<D: Disk>()
         → Opens (D.view old) (D.view new)
         → Lasted D.view (InOpening old new now end) }
 {
-    found_once();
+    lemma_found_once();
     lemma_journal_holds();
 }

@@ -56,7 +56,7 @@ impl<D: Disk + Drop, C: Children + Drop, A: Grows> Executor<D, C, A> {
         ensures memory { OnErr result (IsTrue A.refuses) }
     {
         lemma_journal_holds();
-        self.known();
+        self.lemma_known();
         let Ok(()) = A::reserve_for(replies, inputs.as_slice()) else {
             return Err(inputs);
         };

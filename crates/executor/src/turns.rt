@@ -22,7 +22,7 @@ impl<D: Disk + Drop, C: Children + Drop, A: Grows> Executor<D, C, A> {
         if !self.ledger.is_open() {
             return TurnEnd::Closed;
         }
-        self.ledger.known();
+        self.ledger.lemma_known();
         let end = take_turn(
             &self.site,
             &mut self.ledger,
@@ -30,7 +30,7 @@ impl<D: Disk + Drop, C: Children + Drop, A: Grows> Executor<D, C, A> {
             &mut self.batches,
             now,
         );
-        self.ledger.known();
+        self.ledger.lemma_known();
         end
     }
 
@@ -44,9 +44,9 @@ impl<D: Disk + Drop, C: Children + Drop, A: Grows> Executor<D, C, A> {
         if !self.ledger.is_open() {
             return TurnEnd::Closed;
         }
-        self.ledger.known();
+        self.ledger.lemma_known();
         let end = finish_turn(&mut self.ledger, &mut self.children, &mut self.batches, now);
-        self.ledger.known();
+        self.ledger.lemma_known();
         end
     }
 

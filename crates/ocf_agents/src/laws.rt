@@ -10,7 +10,7 @@ use ocf_types::Action;
 
 /// The result of a monitor after another action: a resource that did not run is running and unpromoted after a start, it is not
 /// running after a stop, and a running one has the new role after a promotion or a demotion.
-pub fn monitor_follows(agent: Agent, held: Held)
+pub fn lemma_monitor_follows(agent: Agent, held: Held)
     ensures start { code_for agent Action.Monitor (held_by agent Action.Start Held.Absent)
         ≡ Code.Success }
     ensures stop { code_for agent Action.Monitor (held_by agent Action.Stop held)
@@ -24,7 +24,7 @@ pub fn monitor_follows(agent: Agent, held: Held)
 {}
 
 /// A start and a stop are idempotent: both succeed, and a second one changes nothing.
-pub fn may_come_again(agent: Agent, held: Held)
+pub fn lemma_may_come_again(agent: Agent, held: Held)
     ensures started { code_for agent Action.Start held ≡ Code.Success }
     ensures stopped { code_for agent Action.Stop held ≡ Code.Success }
     ensures start { held_by agent Action.Start (held_by agent Action.Start held)
@@ -34,7 +34,7 @@ pub fn may_come_again(agent: Agent, held: Held)
 {}
 
 /// A monitor, a validation and a reload change nothing, and nor does an action that the agent lacks.
-pub fn changes_nothing(agent: Agent, action: Action, held: Held)
+pub fn lemma_changes_nothing(agent: Agent, action: Action, held: Held)
     ensures monitor { held_by agent Action.Monitor held ≡ held }
     ensures validate_all { held_by agent Action.ValidateAll held ≡ held }
     ensures reload_agent { held_by agent Action.ReloadAgent held ≡ held }
@@ -43,7 +43,7 @@ pub fn changes_nothing(agent: Agent, action: Action, held: Held)
 {}
 
 /// Code and deed do not depend on the content of a file that exists, except for a monitor of `Stateful`.
-pub fn role_is_moot(agent: Agent, action: Action, role: Role)
+pub fn lemma_role_is_moot(agent: Agent, action: Action, role: Role)
     ensures { ¬ ((agent ≡ Agent.Stateful) × (action ≡ Action.Monitor))
         → (code_for agent action (Held.Named role) ≡ code_for agent action Held.Other)
         × (deed_for agent action (Held.Named role) ≡ deed_for agent action Held.Other) }

@@ -10,20 +10,20 @@ ghost use Rattle.ocf_codes.specs.ExitCodes.{Row, exit_codes, code_read, name_rea
 ghost use Rattle.ocf_codes.specs.OutcomeCodes.{outcome_code};
 
 /// Reading the number of a row gives this row: no number has two rows.
-pub fn rows_are_read()
+pub fn lemma_rows_are_read()
     ensures code { (row : Row) → Contains exit_codes row → code_read row.0 ≡ row.1 }
     ensures name { (row : Row) → Contains exit_codes row → name_read row.0 ≡ row.2 }
 {}
 
 /// The code of an expectation is expected of a monitor with it, and no code belongs to two expectations.
-pub fn one_expectation()
+pub fn lemma_one_expectation()
     ensures own { (x : Expect) → is_expected Monitor x (expect_code x) ≡ true }
     ensures one { (x y : Expect) (code : ℕ) → is_expected Monitor x code ≡ true
         → is_expected Monitor y code ≡ true → x ≡ y }
 {}
 
 /// A run has failed exactly when the exit code of its end is not expected, also if the agent did not exit by itself.
-pub fn failures_by_code()
+pub fn lemma_failures_by_code()
     ensures { (action : Action) (x : Expect) (end : RunEnd)
         → has_failed action x (Run end) ≡ not (is_expected action x (outcome_code (Run end))) }
 {}

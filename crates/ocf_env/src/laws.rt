@@ -10,7 +10,7 @@ ghost use Rattle.ocf_env.specs.Variables.{IsVariable, reskey};
 
 /// A parameter shadows no other variable: a name that begins with OCF_RESKEY_ is a parameter's, and no name has two values.
 /// OCF Resource Agent API 1.1, OCF_RESKEY_.
-pub fn no_shadow()
+pub fn lemma_no_shadow()
     ensures parameters { (site : SiteView) (r : Registration) (task : Task) (name value : List ℕ)
         → IsVariable site r task (reskey name) value → Contains r.params (name, value) }
     ensures one_value { (site : SiteView) (r : Registration) (task : Task) (name v w : List ℕ)
@@ -20,7 +20,7 @@ pub fn no_shadow()
 
 /// Without Pacemaker's variables an action gets exactly its own. With them no name has two values, and a parameter with one
 /// of their names keeps its value.
-pub fn meta_beside()
+pub fn lemma_metadata_variables()
     ensures without { (site : SiteView) (r : Registration) (running : Running) (name value : List ℕ)
         → site.meta ≡ false
         → IsGiven site r running name value ↔ IsVariable site r running.task name value }

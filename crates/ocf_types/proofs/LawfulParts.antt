@@ -52,7 +52,7 @@ module _ (n k clock n' k' clock' : ℕ) (calls : n ≤ n') (runs : k ≤ k') (mo
         since = omega (arith, p.since);
         at = omega (arith, p.at);
         outcome = p.outcome;
-        known = p.known;
+        lemma_known = p.lemma_known;
       })
       xs h
 
@@ -85,7 +85,7 @@ module _ (layout : Layout) (n k clock n' k' clock' : ℕ) (calls : n ≤ n') (ru
     ended_len = h.ended_len;
     ended = ended_weaken n k clock n' k' clock' calls runs moments layout r.history.ended h.ended;
     failed = failed_weaken n k clock n' k' clock' calls runs moments r.history.failed h.failed;
-    known = h.known;
+    lemma_known = h.lemma_known;
   }
 
   -- resources stay lawful later
@@ -124,7 +124,7 @@ lawful_registered layout n k at r w short = record {
   ended_len = omega arith;
   ended = tt;
   failed = tt;
-  known = none_known layout;
+  lemma_known = none_known layout;
 }
 
 -- the kept results are no more than a layout keeps
@@ -143,8 +143,8 @@ ended_push layout n k clock xs ys h g =
 pub ended_running : (layout : Layout) (n k at : ℕ) (outcome : Outcome) (o : Option Running) → IsOutcome outcome → (NeverBegan outcome → ⊥)
     → CanEnd layout outcome → IsLawfulRunningIn layout n k at o
     → AllByRecursion (IsLawfulEndedIn layout n k at) (map (ended_of outcome at) (option_to_list o))
-ended_running layout n k at outcome None is other known h = tt
-ended_running layout n k at outcome (Some x) is other known h = (
+ended_running layout n k at outcome None is other lemma_known h = tt
+ended_running layout n k at outcome (Some x) is other lemma_known h = (
   record {
     drawn = h.0;
     call = h.1;
@@ -154,7 +154,7 @@ ended_running layout n k at outcome (Some x) is other known h = (
     since = h.6;
     at = omega arith;
     outcome = is;
-    known = known;
+    lemma_known = lemma_known;
   },
   tt,
 )
@@ -188,7 +188,7 @@ ended_dropped layout n k at (o ∷ os) one h = (
     since = omega arith;
     at = omega arith;
     outcome = tt;
-    known = tt;
+    lemma_known = tt;
   },
   ended_dropped layout n k at os one h.1,
 )
@@ -215,7 +215,7 @@ ended_cancelled layout n k at call (o ∷ os) one knows h = by (o.call == call) 
         since = omega arith;
         at = omega arith;
         outcome = tt;
-        known = knows;
+        lemma_known = knows;
       },
       tt,
     )

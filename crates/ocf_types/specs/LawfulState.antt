@@ -63,7 +63,7 @@ pub record IsLawfulEndedIn (layout : Layout) (next_call next_run clock : ℕ) (e
   pub since : e.since ≤ clock
   pub at : e.at ≤ clock
   pub outcome : IsOutcome e.outcome
-  pub known : CanEnd layout e.outcome
+  pub lemma_known : CanEnd layout e.outcome
 
 abbrev pub IsLawfulEnded : ℕ → ℕ → ℕ → Ended → Type 0
 IsLawfulEnded next_call next_run clock e = IsLawfulEndedIn current next_call next_run clock e
@@ -95,7 +95,7 @@ pub record IsLawfulResourceIn (layout : Layout) (next_call next_run clock : ℕ)
   pub ended_len : length r.history.ended ≤ kept_in layout
   pub ended : AllByRecursion (IsLawfulEndedIn layout next_call next_run clock) r.history.ended
   pub failed : IsLawfulFailed next_call next_run clock r.history.failed
-  pub known : failed_in layout r.history.failed ≡ r.history.failed
+  pub lemma_known : failed_in layout r.history.failed ≡ r.history.failed
 
 abbrev pub IsLawfulResource : ℕ → ℕ → ℕ → Resource → Type 0
 IsLawfulResource next_call next_run clock r = IsLawfulResourceIn current next_call next_run clock r

@@ -23,13 +23,13 @@ ghost use Rattle.ocf_types.specs.declared.operation.Running.{Running};
 ghost use Rattle.ocf_types.specs.declared.outcome.Outcome.TheVariants.{Interrupted, Run};
 
 /// A second boot changes nothing.
-pub fn boot_is_once()
+pub fn lemma_boot_is_once()
     ensures { (s : State) (m n : ℕ) → boot (boot s m) n ≡ boot s m }
 {}
 
 /// After a boot, the action that ran is the last result of its resource: interrupted at the boot's moment, with its call, its
 /// run and the moment at which it began.
-pub fn what_ran_is_interrupted()
+pub fn lemma_running_is_interrupted()
     ensures { (s : State) (at : ℕ) (id : List ℕ) (r : Resource) (x : Running)
         → resource_at s id ≡ Some r → r.history.running ≡ Some x
         → IsSomeAnd (resource_at (after s (boot_at at)) id)
@@ -38,7 +38,7 @@ pub fn what_ran_is_interrupted()
 
 /// After a failed notice the state keeps its result as the last failure of its resource; any other notice leaves the last
 /// failure as it was. A boot reports no failure, and leaves the last failure as it was.
-pub fn failures_are_kept()
+pub fn lemma_failures_are_kept()
     ensures result { (s : State) (at : ℕ) (id : List ℕ) (end : RunEnd) (r : Resource) (x : Running)
         → resource_at s id ≡ Some r → r.history.running ≡ Some x
         → IsSomeAnd
@@ -54,14 +54,14 @@ pub fn failures_are_kept()
 
 /// The empty state is lawful, and an event that applies in a lawful state leads to a lawful one. So every state that events
 /// lead to keeps the limits and conditions of an encoded state.
-pub fn lawful_states()
+pub fn lemma_lawful_states()
     ensures empty { IsLawfulState empty }
     ensures after { (s : State) (e : Event) → IsLawfulState s → Applies s e
         → IsLawfulState (after s e) }
 {}
 
 /// An event that names one resource changes no other one, and keeps the order of the others.
-pub fn others_stay()
+pub fn lemma_others_stay()
     ensures resource { (s : State) (e : Event) (id other : List ℕ) → named e.change ≡ Some id
         → id ≢ other
         → resource_at (after s e) other ≡ resource_at s other }
@@ -71,7 +71,7 @@ pub fn others_stay()
 
 /// In a lawful state the event of a lawful command applies, and so does a boot that is needed. Only a command to register
 /// leads to a registration.
-pub fn what_applies()
+pub fn lemma_events_apply()
     ensures command { (s : State) (now : ℕ) (c : Command) (e : Event) → IsLawfulState s
         → IsLawfulCommand c
         → event_of s now c ≡ Ok e → Applies s e }
@@ -83,7 +83,7 @@ pub fn what_applies()
 
 /// The greatest lengths of encodings, in bytes. So a begin and the results of all running actions fit the reserve, and a
 /// snapshot of any lawful state fits a part.
-pub fn lengths()
+pub fn lemma_lengths()
     ensures result { (at run : ℕ) (id : List ℕ) (end : RunEnd) → IsId id
         → length (encoded_event (record { at = at; change = change.Step id (step.Result run end) }))
         ≤ longest_result }

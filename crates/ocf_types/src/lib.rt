@@ -8,7 +8,7 @@ mod event;
 mod expect;
 mod items;
 mod key;
-mod known;
+mod lemma_known;
 pub mod laws;
 mod layout;
 mod limits;

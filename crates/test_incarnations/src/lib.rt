@@ -11,7 +11,7 @@ ghost use Rattle.test_incarnations.specs.History.{IsHistory, IsPromised, IsIncar
 
 use child_model::Children;
 use disk_model::{Disk, Fill, MemDisk};
-use executor::laws::{promise, session_is_calls, whole_life};
+use executor::laws::{promise, lemma_session_is_calls, lemma_whole_history};
 use executor::{Executor, Input};
 use growth::Grows;
 use ocf_env::Site;
@@ -47,8 +47,8 @@ fn sit<D: Disk + Drop, C: Children + Drop, A: Grows>(
         (λ r. IsIncarnation D.view (as_calls machine.inputs.items r.replies.items) disk r.disk) }
     ensures memory { IfNone result (IsTrue A.refuses) }
 {
-    session_is_calls::<D>();
-    whole_life::<D>();
+    lemma_session_is_calls::<D>();
+    lemma_whole_history::<D>();
     let mut replies = Vec::new(alloc);
     match Executor::open(alloc, disk, machine.children, machine.site, machine.now) {
         Ok((mut executor, _report)) => {
@@ -101,7 +101,7 @@ pub fn live_twice<C: Children + Drop, A: Grows>(
     ensures promised { IfSome result (λ r. IsPromised view_of
         (as_calls second.inputs.items r.1.replies.items ∷ as_calls first.inputs.items r.0.items ∷ []) r.1.disk) }
 {
-    whole_life::<MemDisk<A>>();
+    lemma_whole_history::<MemDisk<A>>();
     promise::<MemDisk<A>>();
     let stopped = live(alloc, MemDisk::new(alloc), first, fill)?;
     let last = live(alloc, stopped.disk, second, fill)?;

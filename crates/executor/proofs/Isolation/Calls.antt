@@ -36,7 +36,7 @@ use Rattle.executor.proofs.Isolation.Runs.{is_mine, own_stays, runs_own}
 use Rattle.executor.proofs.Isolation.Turns.{AllBeginOwn, AreApart, BeginsOwn, fresh-append, ids_stay, turn_done, turn_isolated}
 use Rattle.executor.proofs.Isolation.Went.{Went, call_went, closed_plain, first_fresh, here, own_append}
 use Rattle.executor.proofs.Incarnations.Calls.{calls_closed}
-use Rattle.executor.proofs.Sessions.Calls.{session_is_calls}
+use Rattle.executor.proofs.Sessions.Calls.{lemma_session_is_calls}
 
 module _ {D : Type 0} (view : D → View) (mine : ℕ → Bool) (id : List ℕ) where
   own_entries : List Entry → List Entry
@@ -212,11 +212,11 @@ module _ {D : Type 0} (view : D → View) (mine : ℕ → Bool) (id : List ℕ) 
 
 module _ {D : Type 0} (view : D → View) (x z : ExecutorView D) where
   -- the law
-  pub each_alone : (es : List Exchange) (d : Effects) (id : List ℕ) → DistinctKeys x.state → Calls view x es z d
+  pub lemma_each_alone : (es : List Exchange) (d : Effects) (id : List ℕ) → DistinctKeys x.state → Calls view x es z d
       → AllByRecursion IsAnswered (part id es) → AreRising x.state.clock es
       → Alone id (isolated_of x id) (part id es) (entries_of_runs (own_runs id x.state d.events) d.entries) (events_of id d.events)
   unfolding own_entries
-  each_alone es d id apart calls plain rises =
+  lemma_each_alone es d id apart calls plain rises =
       let mine : ℕ → Bool = is_mine id x.state d.events in
       let clock = le_refl x.state.clock in
       let own = runs_own id x.state d.events apart (calls_fresh view mine id x.state.clock es x z d clock rises plain calls) in
@@ -237,7 +237,7 @@ module _ {D : Type 0} (view : D → View) (x z : ExecutorView D) where
       → Alone id (isolated_of x id) (part id (as_calls inputs replies)) (entries_of_runs (own_runs id x.state d.events) d.entries)
       (events_of id d.events)
   session_alone inputs replies d id apart session plain rises =
-      each_alone (as_calls inputs replies) d id apart (session_is_calls view x z inputs replies d session) plain rises
+      lemma_each_alone (as_calls inputs replies) d id apart (lemma_session_is_calls view x z inputs replies d session) plain rises
 
 -- the law of a batch
 pub commands_alone : {D : Type 0} (now : ℕ) (x : ExecutorView D) (commands : List Command) (replies : List Reply) (es : List Event) (id : List ℕ)

@@ -37,10 +37,10 @@ AreOwn mine id all = AllByRecursion (λ a. mine a.running.run ≡ bytes_eq id a.
 
 module _ {A : Type 0} where
   -- where ids differ, an id has one entry, if it has any
-  one_entry : (id : List ℕ) (rs : List (List ℕ × A)) → IsDistinct bytes_eq (keys_of rs)
+  lemma_one_entry : (id : List ℕ) (rs : List (List ℕ × A)) → IsDistinct bytes_eq (keys_of rs)
       → filter (λ e. bytes_eq id e.0) rs ≡ map (λ r. (id, r)) (option_to_list (lookup (bytes_eq id) rs))
-  one_entry id [] distinct = refl
-  one_entry id (e ∷ es) distinct = by (bytes_eq id e.0) refl (one_entry id es (IsDistinct-tail bytes_eq e.0 (keys_of es) distinct))
+  lemma_one_entry id [] distinct = refl
+  lemma_one_entry id (e ∷ es) distinct = by (bytes_eq id e.0) refl (lemma_one_entry id es (IsDistinct-tail bytes_eq e.0 (keys_of es) distinct))
     where
       rest : List (List ℕ × A)
       rest = filter (λ x. bytes_eq id x.0) es
@@ -62,7 +62,7 @@ pub own_active : (s : State) (id : List ℕ) → IsDistinct bytes_eq (keys_of s.
 own_active s id distinct =
     filter-flat_map (λ a. bytes_eq id a.id) (λ e. bytes_eq id e.0) active_in s.resources
     (each_of_all (λ e. filter (λ a. bytes_eq id a.id) (active_in e) ≡ cond (bytes_eq id e.0) (active_in e) []) each s.resources)
-    ∙ ap (flat_map active_in) (one_entry id s.resources distinct) ∙ by (resource_at s id)
+    ∙ ap (flat_map active_in) (lemma_one_entry id s.resources distinct) ∙ by (resource_at s id)
   where
     each : (e : List ℕ × Resource) → filter (λ a. bytes_eq id a.id) (active_in e) ≡ cond (bytes_eq id e.0) (active_in e) []
     each e = filter_alike (λ a. bytes_eq id a.id) (bytes_eq id e.0) (active_in e)

@@ -195,8 +195,8 @@ running_below : (next_call next_run clock : ℕ) (id : List ℕ) (o : Option Run
 running_below next_call next_run clock id None h = tt
 running_below next_call next_run clock id (Some x) h = (h.3, tt)
 
-pub distinct_keys : (s : State) (live : List ℕ) → IsLawfulState s → AgentsLive s live → DistinctKeys s
-distinct_keys s live lawful agents_live = record {
+pub lemma_distinct_keys : (s : State) (live : List ℕ) → IsLawfulState s → AgentsLive s live → DistinctKeys s
+lemma_distinct_keys s live lawful agents_live = record {
   ids = lawful.ids;
   runs = agents_live.distinct;
   below = each_map (λ run. run < s.next_run) (λ a. a.running.run) (active s)

@@ -8,10 +8,10 @@ use Rattle.exec_ledger.specs.Pieces.{Effects}
 use Rattle.executor.specs.Sessions.{Input, Session}
 use Rattle.executor.specs.ExecutorView.{ExecutorView}
 
-pub session_is_calls : {D : Type 0} (view : D → View) (x z : ExecutorView D) (is : List Input) (rs : List Reply) (d : Effects)
+pub lemma_session_is_calls : {D : Type 0} (view : D → View) (x z : ExecutorView D) (is : List Input) (rs : List Reply) (d : Effects)
     → Session view x is rs z d → Calls view x (as_calls is rs) z d
-session_is_calls view x z [] [] d session = session
-session_is_calls view x z [] (r ∷ rs) d session = absurd session
-session_is_calls view x z (i ∷ is) [] d session = absurd session
-session_is_calls view x z (i ∷ is) (r ∷ rs) d (mid, first, later, takes, rest, all) =
-    (mid, first, later, takes, session_is_calls view mid z is rs later rest, all)
+lemma_session_is_calls view x z [] [] d session = session
+lemma_session_is_calls view x z [] (r ∷ rs) d session = absurd session
+lemma_session_is_calls view x z (i ∷ is) [] d session = absurd session
+lemma_session_is_calls view x z (i ∷ is) (r ∷ rs) d (mid, first, later, takes, rest, all) =
+    (mid, first, later, takes, lemma_session_is_calls view mid z is rs later rest, all)

@@ -13,7 +13,7 @@ returns-in-Ok-session-clause-sits g c =
     let given : c.session.new.replies.items ≡ sits.0 =
     sits.1 ∙ ap (λ (l : List Reply). l ++ sits.0) c.new-replies.ensures.items in
     let d = sits.2.effects in
-    let calls = c.session_is_calls.ensures c.in-Ok.executor c.session.new.self inputs sits.0 d sits.2.each in
+    let calls = c.lemma_session_is_calls.ensures c.in-Ok.executor c.session.new.self inputs sits.0 d sits.2.each in
     subst (λ (l : List Reply). IsIncarnation g.D.Disk.view (as_calls inputs l) c.args.disk c.close-disk.result.0) (sym given)
     (served g.D.Disk.view c.args.disk c.close-disk.result.0 (g.C.Children.view c.args.machine.children) c.args.machine.now
     c.in-Ok.executor c.session.new.self c.in-Ok._report.interrupted.items c.in-Ok._report.dropped.items (as_calls inputs sits.0) d
@@ -28,5 +28,5 @@ returns-in-Err-clause-sits g c =
     subst (λ (l : List Exchange). IsIncarnation g.D.Disk.view l c.args.disk c.in-Err.fault.disk) (sym none)
     (not_opened g.D.Disk.view g.met.D.Disk.lawful c.args.disk c.in-Err.fault.disk (g.C.Children.view c.args.machine.children)
     (g.C.Children.view c.in-Err.fault.children) c.args.machine.now c.in-Err.fault.why refused
-    (c.whole_life.ensures.refused c.args.disk c.in-Err.fault.disk (g.C.Children.view c.args.machine.children)
+    (c.lemma_whole_history.ensures.refused c.args.disk c.in-Err.fault.disk (g.C.Children.view c.args.machine.children)
     (g.C.Children.view c.in-Err.fault.children) c.args.machine.now c.in-Err.fault.why refused))

@@ -15,7 +15,7 @@ pub returns-then-room-len-clause-finishes : goal.returns-then-room-len-clause-fi
 returns-then-room-len-clause-finishes g c =
     let h = c.args.ledger.now in
     let v = g.D.Disk.view h.disk in
-    let kept = c.known.ensures.kept c.requires.open in
+    let kept = c.lemma_known.ensures.kept c.requires.open in
     let found = settled_found c.lemma_journal_holds.ensures.found h.position h.state v kept.journal in
     let lawful = g.met.D.Disk.lawful h.disk in
     let from = g.C.Children.view c.args.children.now in

@@ -15,7 +15,7 @@ use Rattle.exec_turn.proofs.picks.pick_all.Goals as goal
 pub returns-then-rests-clause-picked : goal.returns-then-rests-clause-picked
 returns-then-rests-clause-picked g c =
     let none : c.clear-2.new.self.items ≡ [] = search rules in
-    rests_picked c.args.state.now c.args.journal.now.tail.at c.args.at c.clear-2.new.self.items c.known.ensures.lawful
+    rests_picked c.args.state.now c.args.journal.now.tail.at c.args.at c.clear-2.new.self.items c.lemma_known.ensures.lawful
     (c.if-rests.ensures refl) none
 
 pub loop-place-preserved-in_default : goal.loop-place-preserved-in_default

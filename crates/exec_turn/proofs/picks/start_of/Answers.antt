@@ -9,7 +9,7 @@ returns-clause-start g c =
     let launch = c.in_ok-launch.launch in record {
       resource = at_place s c.args.place;
       is =
-          found_by s c.args.place launch.id c.id_at.result.now c.known.ensures.lawful c.requires.place c.in_ok-launch.ensures.id
+          found_by s c.args.place launch.id c.id_at.result.now c.lemma_known.ensures.lawful c.requires.place c.in_ok-launch.ensures.id
           c.id_at.ensures;
       of_one = (c.in_ok-launch.ensures.call, c.in_ok-launch.ensures.run);
       invocation = invoked c.args.site.now launch.id (at_place s c.args.place) c.args.running launch.invocation

@@ -10,9 +10,9 @@ pub returns : goal.returns
 returns g c =
     let law : JournalLemmas =
     record { found = c.lemma_journal_holds.ensures.found; once = c.lemma_journal_holds.ensures.once; fresh = c.lemma_journal_holds.ensures.fresh; stays = c.lemma_journal_holds.ensures.stays } in
-    let once : OneFinding = record { state = c.found_once.ensures.state; either = c.found_once.ensures.either } in
+    let once : OneFinding = record { state = c.lemma_found_once.ensures.state; either = c.lemma_found_once.ensures.either } in
     let laws : LawfulLaws =
-    record { empty = c.lawful_states.ensures.empty; after = c.lawful_states.ensures.after; stays = c.layouts.ensures.stays; carried = c.layouts.ensures.lawful } in
+    record { empty = c.lemma_lawful_states.ensures.empty; after = c.lemma_lawful_states.ensures.after; stays = c.layouts.ensures.stays; carried = c.layouts.ensures.lawful } in
     λ start incarnations is image left.
     let b = incarnations_behave g.D.Disk.view law once g.met.D.Disk.lawful start incarnations is image left in
     let lawful = start_lawful laws g.D.Disk.view law g.met.D.Disk.lawful start incarnations is image left in

@@ -10,4 +10,4 @@ invariant_of-result g c =
     let s : Store = store_of g.A.Grows.refuses c.self.inside.next_call c.self.inside.next_run c.self.inside.clock c.self.inside.registry in
     let t : Store = store_of g.A.Grows.refuses c.self.inside.next_call c.self.inside.next_run c.self.inside.clock c.in_first.new.self in
     lawful_first s.state t c.self.invariant.lawful (ap (λ (rs : Registry). record s.state { resources = rs }) c.in_first.ensures.resources)
-    c.known.ensures
+    c.lemma_known.ensures

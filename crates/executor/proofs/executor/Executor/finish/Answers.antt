@@ -33,7 +33,7 @@ returns g c =
     let takes : FinishesTurn g.D.Disk.view c.args.now x y c.finish_turn-end.result = record {
       turns = turn.finishes;
       site = refl;
-      allocator = ◌∙◌ {b = g.A.Grows.refuses} c.known-2.ensures.allocator (sym c.known.ensures.allocator);
+      allocator = ◌∙◌ {b = g.A.Grows.refuses} c.lemma_known-2.ensures.allocator (sym c.lemma_known.ensures.allocator);
       opening_report = refl;
       full = turn.full;
       unchanged = λ is.

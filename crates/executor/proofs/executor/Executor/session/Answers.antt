@@ -23,7 +23,7 @@ loop-input-init g c =
         [],
         c.reserve_for.ensures.items
             ∙ sym (append-nil c.args.replies.now.items),
-        sits_start g.D.Disk.view law x (g.met.D.Disk.lawful x.disk) c.known.ensures.sound,
+        sits_start g.D.Disk.view law x (g.met.D.Disk.lawful x.disk) c.lemma_known.ensures.sound,
       );
     }
 

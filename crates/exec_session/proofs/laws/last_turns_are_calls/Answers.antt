@@ -1,5 +1,0 @@
-use Rattle.exec_session.proofs.CallLemmas.{winds_go}
-use Rattle.exec_session.proofs.laws.last_turns_are_calls.Goals as goal
-
-pub returns : goal.returns
-returns g c = λ rules p q winds. winds_go g.D.Disk.view rules p q winds

@@ -1,5 +1,0 @@
-use Rattle.executor.specs.BatchLaws.{commands_called}
-use Rattle.executor.proofs.laws.commands_are_calls.Goals as goal
-
-pub returns : goal.returns
-returns g c now = commands_called g.D.Disk.view now

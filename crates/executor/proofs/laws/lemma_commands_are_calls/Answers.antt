@@ -1,0 +1,5 @@
+use Rattle.executor.specs.BatchLaws.{commands_called}
+use Rattle.executor.proofs.laws.lemma_commands_are_calls.Goals as goal
+
+pub returns : goal.returns
+returns g c now = commands_called g.D.Disk.view now
