@@ -129,7 +129,7 @@ impl<P: OpenProcess + Drop, A: Allocator> Agents<P, A> {
     }
 
     /// Reaps and removes each agent process that has ended.
-    pub fn sweep(&mut self)
+    pub fn reap(&mut self)
         ensures fewer { vec_len self.new.agents ≤ vec_len self.old.agents }
     {
         self.agents.retain_mut(|agent| still_runs(&mut agent.child));

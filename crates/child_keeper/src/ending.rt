@@ -11,14 +11,14 @@ use std::process::{OpenProcess, Processes};
 use std::rt::Clock;
 
 // Removes each agent and each other process that has ended, and returns whether any is left.
-fn sweep<R: ProcFiles, P: OpenProcess + Drop, A: Allocator, B: Allocator>(
+fn reap<R: ProcFiles, P: OpenProcess + Drop, A: Allocator, B: Allocator>(
     rt: &R,
     agents: &mut Agents<P, A>,
     processes: &mut Vec<Process, B>,
 ) -> bool
     ensures fewer { vec_len agents.new.agents ≤ vec_len agents.old.agents }
 {
-    agents.sweep();
+    agents.reap();
     processes.retain(|process| still_lives(rt, process));
     !agents.agents.is_empty() || !processes.is_empty()
 }
@@ -32,7 +32,7 @@ fn await_ends<R: Clock + ProcFiles, P: OpenProcess + Drop, A: Allocator, B: Allo
     ensures fewer { vec_len agents.new.agents ≤ vec_len agents.old.agents }
 {
     let mut pauses = Pauses::after_kill();
-    while sweep(rt, agents, processes) {
+    while reap(rt, agents, processes) {
         if !pauses.pause(rt) {
             return;
         }

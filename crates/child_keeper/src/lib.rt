@@ -5,7 +5,7 @@ mod agents;
 mod book;
 mod command;
 mod descent;
-mod dying;
+mod zombies;
 mod ending;
 mod ends;
 pub mod laws;

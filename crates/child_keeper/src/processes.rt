@@ -6,7 +6,7 @@ ghost use Rattle.child_model.specs.Children.{without_run};
 use crate::agents::{Agent, Agents};
 use crate::book::Book;
 use crate::command::{command_of, write_to};
-use crate::dying::Dying;
+use crate::zombies::Zombies;
 use crate::ending::end_agents;
 use crate::ends::poll_of;
 use crate::live::LIVE_LIMIT;
@@ -47,7 +47,7 @@ pub struct Processes<R: process::Processes + Drop, A: Allocator + Copy = Global>
     book: Book<A>,
     live: Agents<R::Started, A>,
     killed: Agents<R::Started, A>,
-    dying: Dying<R::Started, A>,
+    zombies: Zombies<R::Started, A>,
     last_run: u64,
 }
 
@@ -69,7 +69,7 @@ impl<R: process::Processes + Clock + Eprint + ProcFiles + Drop, A: Grows> Proces
             book: Book::new(alloc, book)?,
             live: Agents::new(alloc)?,
             killed: Agents::new(alloc)?,
-            dying: Dying::new(alloc)?,
+            zombies: Zombies::new(alloc)?,
             last_run: 0,
         })
     }
@@ -79,7 +79,7 @@ impl<R: process::Processes + Clock + Eprint + ProcFiles + Drop, A: Grows> Proces
         ensures same { processes_of self.new ≡ processes_of self.old }
         ensures none { runs_of self.new.killed.agents.items ≡ [] }
     {
-        end_all(&self.rt, self.alloc, &mut self.killed, &mut self.dying);
+        end_all(&self.rt, self.alloc, &mut self.killed, &mut self.zombies);
     }
 
     // Spawns an agent, unless a killed one of its resource lives on. A refusal by the system is written to the log.
@@ -87,8 +87,8 @@ impl<R: process::Processes + Clock + Eprint + ProcFiles + Drop, A: Grows> Proces
         ensures same { processes_of self.new ≡ processes_of self.old }
         ensures live { self.new.live ≡ self.old.live }
     {
-        self.dying.sweep();
-        if self.dying.has(&launch.id) && !is_stop(launch) {
+        self.zombies.reap();
+        if self.zombies.has(&launch.id) && !is_stop(launch) {
             return Err(StartFault::Other);
         }
         match spawn(&self.rt, self.alloc, &self.log, launch) {
@@ -172,7 +172,7 @@ fn end_all<
     R: process::Processes + Clock + Eprint + ProcFiles,
     P: OpenProcess + Drop,
     A: Allocator + Copy,
->(rt: &R, alloc: A, killed: &mut Agents<P, A>, dying: &mut Dying<P, A>)
+>(rt: &R, alloc: A, killed: &mut Agents<P, A>, zombies: &mut Zombies<P, A>)
     ensures none { runs_of killed.new.agents.items ≡ [] }
 {
     if !killed.agents.is_empty() {
@@ -180,7 +180,7 @@ fn end_all<
     }
     while let Some(agent) = killed.pop() {
         report_killed(rt, &agent);
-        dying.add(agent);
+        zombies.add(agent);
     }
 }
 
@@ -320,11 +320,11 @@ impl<R: process::Processes + Clock + Eprint + ProcFiles + Drop, A: Allocator + C
         log_killed(&self.rt, &self.log, self.live.agents.as_slice());
         mem::swap(&mut self.live, &mut self.killed);
         self.end_given_up();
-        self.dying.sweep();
+        self.zombies.reap();
     }
 
     fn clear_book(&mut self) {
-        self.dying.sweep();
+        self.zombies.reap();
         self.book.clear();
     }
 

@@ -6,7 +6,7 @@ use exec_client::JsonClient;
 use exec_commands::{NoticeForm, Service};
 use exec_faults::Fault;
 use exec_lines::{Input, Output};
-use exec_session::{LineRoom, Pace, SessionContext, Way, run_lines};
+use exec_session::{LineRoom, Pace, SessionContext, Mode, run_lines};
 use exec_trace::Edge;
 use executor::Executor;
 use std::alloc::Global;
@@ -44,10 +44,10 @@ fn children(alloc: Global, polls: &[Poll]) -> Option<Scripted> {
 }
 
 // The form of notices, and the ready line of a serving session.
-fn form_of(way: Way) -> NoticeForm<'static> {
-    match way {
-        Way::Run => NoticeForm::Short,
-        Way::Serve => NoticeForm::Timed(Service {
+fn form_of(mode: Mode) -> NoticeForm<'static> {
+    match mode {
+        Mode::Run => NoticeForm::Short,
+        Mode::Serve => NoticeForm::Timed(Service {
             version: "9.8.7",
             journal: None,
             left: &[],
@@ -63,14 +63,14 @@ pub fn ended<R: Input + Drop, W: Output>(
     reader: R,
     writer: &mut W,
 ) -> Option<Result<(), Fault>> {
-    let (ended, _disk) = ended_in_way(alloc, Way::Run, disk, polls, reader, writer)?;
+    let (ended, _disk) = ended_in_way(alloc, Mode::Run, disk, polls, reader, writer)?;
     Some(ended)
 }
 
 // The end of a session in this mode, and its disk.
 fn ended_in_way<R: Input + Drop, W: Output>(
     alloc: Global,
-    way: Way,
+    mode: Mode,
     disk: MemDisk,
     polls: &[Poll],
     reader: R,
@@ -80,8 +80,8 @@ fn ended_in_way<R: Input + Drop, W: Output>(
     let context = SessionContext {
         alloc,
         metadata: &NoMetadata,
-        way,
-        form: form_of(way),
+        mode,
+        form: form_of(mode),
         most_turns: 3,
         tidy_at: 0,
         pace: Pace::new(),
@@ -117,13 +117,13 @@ impl Answered {
 
 fn run_in_way(
     alloc: Global,
-    way: Way,
+    mode: Mode,
     disk: MemDisk,
     polls: &[Poll],
     lines: &[u8],
 ) -> Option<Answered> {
     let mut written = Vec::new(alloc);
-    let (ended, disk) = ended_in_way(alloc, way, disk, polls, lines, &mut written)?;
+    let (ended, disk) = ended_in_way(alloc, mode, disk, polls, lines, &mut written)?;
     Some(Answered {
         ended,
         written,
@@ -133,7 +133,7 @@ fn run_in_way(
 
 /// A session over these lines.
 pub fn run_over(alloc: Global, disk: MemDisk, polls: &[Poll], lines: &[u8]) -> Option<Answered> {
-    run_in_way(alloc, Way::Run, disk, polls, lines)
+    run_in_way(alloc, Mode::Run, disk, polls, lines)
 }
 
 /// The end of a session over these lines whose output accepts only as many bytes as this buffer has.
@@ -175,7 +175,7 @@ fn a_drain_makes_as_many_turns_as_it_may(rt: HostRuntime) {
 
 // A serving session over these lines, all of which are available at once.
 fn served(alloc: Global, polls: &[Poll], lines: &[u8]) -> Option<Answered> {
-    run_in_way(alloc, Way::Serve, MemDisk::new(alloc), polls, lines)
+    run_in_way(alloc, Mode::Serve, MemDisk::new(alloc), polls, lines)
 }
 
 const SERVED_ON: &str =
@@ -245,7 +245,7 @@ fn a_run_that_serves_states_after_the_report_how_many_lines_that_had(rt: HostRun
     let alloc = rt.alloc();
     let before = run_over(alloc, MemDisk::new(alloc), &[], TWO_STARTS).expect(&rt, "no run");
     assert_eq!(rt; before.ended, Ok(()), "the end of the run before");
-    let run = run_in_way(alloc, Way::Serve, before.disk, &[], b"").expect(&rt, "no run");
+    let run = run_in_way(alloc, Mode::Serve, before.disk, &[], b"").expect(&rt, "no run");
     assert_eq!(rt; run.text(), READY_AFTER_THE_REPORT);
     assert_eq!(rt; run.ended, Ok(()));
 }

@@ -21,7 +21,7 @@ use Rattle.exec_turn.specs.Starts.{Started, refusal_notices, refusals, refused_e
 use Rattle.exec_turn.specs.Turn.{IsFinish, IsTurn, Whole}
 use Rattle.exec_ledger.specs.Laws.{same_events}
 use Rattle.exec_ledger.specs.Pieces.{Effects}
-use Rattle.exec_ledger.specs.Scenes.{Scene}
+use Rattle.exec_ledger.specs.BatchStarts.{BatchStart}
 use Rattle.exec_ledger.specs.Replies.{IsReplyTo, KeepsRunning, recorded}
 use Rattle.exec_ledger.specs.Together.{Adds, Answered as BatchAnswered, disk_each, failed}
 use Rattle.exec_ledger.proofs.Keeping.{command_keeps}
@@ -144,7 +144,7 @@ module _ (book : List Entry) where
   moved reported sent2 es es2 same same2 b =
       subst (λ (ns : List Notice). BackedBy (map (noticed_by book) ns) es) (sym same) (subst (λ (fs : List Event). BackedBy (map (noticed_by book) sent2) fs) (sym same2) b)
 
-  whole_after : (end : TurnEnd) (x : Scene) (did : Effects) (reported : List Notice) → Whole end x did reported
+  whole_after : (end : TurnEnd) (x : BatchStart) (did : Effects) (reported : List Notice) → Whole end x did reported
       → BackedBy (map (noticed_by book) reported) did.events
   whole_after end x did reported (t, is, ns) =
       moved reported _ did.events _ ns (same_events is)
@@ -153,7 +153,7 @@ module _ (book : List Entry) where
       (both_after _ _ _ _ (begun_after x.at t.polled t.begun) (refusals_after x.at t.started)))
 
   -- a turn
-  pub turn_after : (end : TurnEnd) (x : Scene) (did : Effects) (reported : List Notice) → IsTurn end x did reported
+  pub turn_after : (end : TurnEnd) (x : BatchStart) (did : Effects) (reported : List Notice) → IsTurn end x did reported
       → BackedBy (map (noticed_by book) reported) did.events
   turn_after turn_end.Closed x did reported none = absurd none
   turn_after turn_end.BookFull x did reported (is, ns) = moved reported [] did.events [] ns (same_events is) nothing
@@ -168,7 +168,7 @@ module _ (book : List Entry) where
       moved reported _ did.events _ ns (same_events is) (begun_after x.at t.polled t.begun)
 
   -- a turn that begins nothing
-  pub finish_after : (end : TurnEnd) (x : Scene) (did : Effects) (reported : List Notice) → IsFinish end x did reported
+  pub finish_after : (end : TurnEnd) (x : BatchStart) (did : Effects) (reported : List Notice) → IsFinish end x did reported
       → BackedBy (map (noticed_by book) reported) did.events
   finish_after turn_end.Done x did reported (ps, _, is, ns) = moved reported _ did.events _ ns (same_events is) (results_after x.at ps)
   finish_after turn_end.BookFull x did reported (is, ns) = moved reported [] did.events [] ns (same_events is) nothing

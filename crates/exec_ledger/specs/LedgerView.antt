@@ -6,10 +6,10 @@ use Rattle.disk_model.specs.View.{View}
 use Rattle.exec_journal.specs.Journal.{journal_disk, journal_position}
 use Rattle.exec_journal.specs.Position.{Position}
 use Rattle.exec_journal.specs.Reserve.{HasReserve}
-use Rattle.exec_journal.specs.Settled.{IsSettled}
+use Rattle.exec_journal.specs.InSync.{IsInSync}
 use Rattle.exec_journal.specs.declared.journal.Journal.{Journal}
 use Rattle.exec_state.specs.Store.{Monitors, Store, due_of}
-use Rattle.exec_ledger.specs.declared.books.Books.{Books}
+use Rattle.exec_ledger.specs.declared.recorder.Recorder.{Recorder}
 
 -- one statement while something is open, and another once it is closed
 abbrev pub While : Bool → Type 0 → Type 0 → Type 0
@@ -37,7 +37,7 @@ ledger_view is_open journal state = record {
   refuses = state.refuses;
 }
 
-abbrev pub ledger_view_of : {D M : Type 0} → Books D M → LedgerView D
+abbrev pub ledger_view_of : {D M : Type 0} → Recorder D M → LedgerView D
 ledger_view_of b = ledger_view b.open b.journal b.state
 
 -- the due moments of its recurring monitors
@@ -46,7 +46,7 @@ due_in h = due_of h.monitors
 
 -- its journal is settled at its state, if its disk is honest
 abbrev pub IsOnJournal : {D : Type 0} → (D → View) → LedgerView D → Type 0
-IsOnJournal view h = (view h.disk).honest → IsSettled h.position h.state (view h.disk)
+IsOnJournal view h = (view h.disk).honest → IsInSync h.position h.state (view h.disk)
 
 -- Its journal is settled at its state, and its reserve holds the results of what runs and a boot.
 pub record LedgerKeeps {D : Type 0} (view : D → View) (h : LedgerView D) : Type 0 where

@@ -10,7 +10,7 @@ use Rattle.exec_faults.specs.declared.fault.Fault.{Fault}
 use Rattle.exec_session.specs.Answers.{Source}
 use Rattle.exec_session.specs.Ends.{Ended}
 use Rattle.exec_session.specs.Rules.{Rules}
-use Rattle.exec_session.specs.Spots.{at_of}
+use Rattle.exec_session.specs.SessionViews.{at_of}
 use Rattle.exec_trace.specs.Edges.{EdgeView}
 
 -- an edge of which nothing was asked yet, and a client's view, by their fields

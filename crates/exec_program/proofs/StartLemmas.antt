@@ -19,14 +19,14 @@ use Rattle.exec_faults.specs.declared.fault.Fault.TheVariants as fault
 use Rattle.exec_trace.specs.Edges.{EdgeView}
 use Rattle.exec_session.specs.Answers.{Source}
 use Rattle.exec_session.specs.Rules.{Rules}
-use Rattle.exec_session.specs.Spots.{Position, position, spot}
+use Rattle.exec_session.specs.SessionViews.{SessionPosition, session_position, session_view}
 use Rattle.exec_session.specs.Ends.{Ended, EndsAs}
 use Rattle.journal_folder.specs.Ends.{IsFolderEnd}
 use Rattle.exec_program.specs.Starts.{EndsFor, IsEndOf, IsWrittenAs, StartEndsFor, opening_fault, with_status}
 
 -- a session does not end because of its arguments
 ends : {D N T : Type 0} (view : D → View) (source : Source) (rules : Rules) (report : Report N)
-    (p q : Position D) (r : Result T Fault)
+    (p q : SessionPosition D) (r : Result T Fault)
     → EndsAs view source rules report p q r → IsRunEnd r
 ends view source rules report p q (Ok done) how = tt
 ends view source rules report p q (Err fault.Usage) how = absurd how
@@ -49,10 +49,10 @@ ends view source rules report p q (Err fault.ReplyMemory) how = tt
 ends view source rules report p q (Err fault.ChildrenIgnored) how = absurd how
 
 pub run_ends : {D C N : Type 0} (view : D → View) (tend : C → ChildrenView) (source : Source) (rules : Rules) (report : Report N)
-    (p : Position D) (edge : EdgeView D) (ended : Result Unit Fault) (disk : D) (children : C)
+    (p : SessionPosition D) (edge : EdgeView D) (ended : Result Unit Fault) (disk : D) (children : C)
     → Ended view tend source rules report p edge ended disk children → IsRunEnd ended
 run_ends view tend source rules report p edge ended disk children ends_so =
-    ends view source rules report p (position (spot ends_so.last edge.client_view edge.events) edge.left) ended ends_so.ends
+    ends view source rules report p (session_position (session_view ends_so.last edge.client_view edge.events) edge.left) ended ends_so.ends
 
 -- a session whose report nobody reads does not end because of its arguments, and neither does one that ended as sessions do
 pub unheard_ends : (T : Type 0) (f : Fault) → f ≡ fault.InputOrOutput → IsRunEnd {T = T} (Err f)

@@ -21,9 +21,9 @@ use Rattle.exec_faults.specs.declared.fault.Fault.TheVariants as fault
 use Rattle.exec_session.specs.Answers.{Source}
 use Rattle.exec_session.specs.Ends.{Ended}
 use Rattle.exec_session.specs.Rules.{Rules}
-use Rattle.exec_session.specs.Spots.{at_of}
-use Rattle.exec_session.specs.declared.context.Way.{Way}
-use Rattle.exec_session.specs.declared.context.Way.TheVariants as way
+use Rattle.exec_session.specs.SessionViews.{at_of}
+use Rattle.exec_session.specs.declared.context.Mode.{Mode}
+use Rattle.exec_session.specs.declared.context.Mode.TheVariants as mode
 use Rattle.exec_trace.specs.Edges.{EdgeView}
 use Rattle.exec_program.specs.Asked.{Asked, fresh_agents}
 use Rattle.exec_program.specs.Limits.{book_room, most_turns}
@@ -31,9 +31,9 @@ use Rattle.exec_program.specs.Starts.{opening_fault, site_of}
 use Rattle.exec_program.specs.Waits.{IsUnheard, WaitsFor}
 
 -- the mode of the session that a subcommand asks for
-abbrev pub way_of : Subcommand → Way
-way_of subcommand.Serve = way.Serve
-way_of _ = way.Run
+abbrev pub way_of : Subcommand → Mode
+way_of subcommand.Serve = mode.Serve
+way_of _ = mode.Run
 
 -- the directory whose journal is served; long times may pass without a call of its device
 abbrev pub served_at : Subcommand → JournalLocation → Option (List ℕ)
@@ -58,13 +58,13 @@ service_in (Timed s) =
     Some (record { version = s.version.now; journal = option_map (λ folder. folder.now) s.journal; left = s.left.now })
 
 -- A client of `serve` is sent the program's version, the directory as the options name it, and the processes that live on.
-abbrev pub service_of : Options → List Left → Way → Option ServiceView
-service_of o left way.Run = None
-service_of o left way.Serve = Some (record { version = VERSION.now; journal = served_folder o; left = left })
+abbrev pub service_of : Options → List Left → Mode → Option ServiceView
+service_of o left mode.Run = None
+service_of o left mode.Serve = Some (record { version = VERSION.now; journal = served_folder o; left = left })
 
 -- a session keeps to these options, where these processes live on
 pub record IsHeldTo (o : Options) (left : List Left) (rules : Rules) : Type 0 where
-  pub way : rules.way ≡ way_of o.subcommand
+  pub mode : rules.mode ≡ way_of o.subcommand
   pub form : service_in rules.form ≡ service_of o left (way_of o.subcommand)
   pub most_turns : rules.most_turns ≡ most_turns
   pub tidy_at : rules.tidy_at ≡ o.tidy_at

@@ -8,20 +8,20 @@ use crate::limits::MOST_TURNS;
 use exec_commands::{Left, NoticeForm, Service};
 use exec_events::Events;
 use exec_options::{JournalLocation, Options, Subcommand, VERSION};
-use exec_session::{Pace, SessionContext, Way};
+use exec_session::{Pace, SessionContext, Mode};
 use std::alloc::Global;
 
 // The mode of the session that this subcommand asks for.
-fn way_of(subcommand: Subcommand) -> Way
+fn way_of(subcommand: Subcommand) -> Mode
     ensures { result ≡ way_of subcommand }
 {
     match subcommand {
-        Subcommand::Serve => Way::Serve,
+        Subcommand::Serve => Mode::Serve,
         Subcommand::Run
         | Subcommand::Show
         | Subcommand::Status
         | Subcommand::Log
-        | Subcommand::Metrics => Way::Run,
+        | Subcommand::Metrics => Mode::Run,
     }
 }
 
@@ -41,8 +41,8 @@ fn form_of<'a>(options: Options<'a>, left: &'a [Left]) -> NoticeForm<'a>
     ensures { service_in result ≡ service_of options.entry left.now (way_of options.entry.subcommand) }
 {
     match way_of(options.subcommand) {
-        Way::Run => NoticeForm::Short,
-        Way::Serve => NoticeForm::Timed(Service {
+        Mode::Run => NoticeForm::Short,
+        Mode::Serve => NoticeForm::Timed(Service {
             version: VERSION,
             journal: served_folder(options),
             left,
@@ -63,7 +63,7 @@ pub fn context_of<'a, M>(
     SessionContext {
         alloc,
         metadata,
-        way: way_of(options.subcommand),
+        mode: way_of(options.subcommand),
         form: form_of(options, left),
         most_turns: MOST_TURNS,
         tidy_at: options.tidy_at,

@@ -12,34 +12,34 @@ use Rattle.exec_session.specs.Answers.{Source}
 use Rattle.exec_session.specs.Held.{AnswersHeld, MayAnswerAtOnce, MayTakeAtOnce, asks}
 use Rattle.exec_session.specs.Progress.{AnswersSo}
 use Rattle.exec_session.specs.Rules.{Rules}
-use Rattle.exec_session.specs.Spots.{MayBreakOff, Spot, Sending, SendsPart}
-use Rattle.exec_session.specs.declared.context.Way.{Way}
-use Rattle.exec_session.specs.declared.context.Way.TheVariants.{Run}
+use Rattle.exec_session.specs.SessionViews.{MayBreakOff, SessionView, Sending, SendsPart}
+use Rattle.exec_session.specs.declared.context.Mode.{Mode}
+use Rattle.exec_session.specs.declared.context.Mode.TheVariants.{Run}
 use Rattle.exec_session.specs.declared.held.Held.{Held}
 use Rattle.exec_session.specs.declared.lines.Found.{Found}
 use Rattle.exec_session.specs.declared.lines.Found.TheVariants as found
 
-line_at_once : (way : Way) → way ≡ Run → (line : Result Line Refusal) → MayAnswerAtOnce way line
-line_at_once way is (Ok (line.Meta provider agent limit)) = is
-line_at_once way is (Ok (line.Request request)) = tt
-line_at_once way is (Ok (line.Drain limit)) = tt
-line_at_once way is (Ok (line.Watch limit)) = tt
-line_at_once way is (Ok line.Tidy) = tt
-line_at_once way is (Ok line.Leave) = is
-line_at_once way is (Ok line.Version) = tt
-line_at_once way is (Ok line.Status) = tt
-line_at_once way is (Ok (line.Direct direct)) = tt
-line_at_once way is (Err why) = tt
+line_at_once : (mode : Mode) → mode ≡ Run → (line : Result Line Refusal) → MayAnswerAtOnce mode line
+line_at_once mode is (Ok (line.Meta provider agent limit)) = is
+line_at_once mode is (Ok (line.Request request)) = tt
+line_at_once mode is (Ok (line.Drain limit)) = tt
+line_at_once mode is (Ok (line.Watch limit)) = tt
+line_at_once mode is (Ok line.Tidy) = tt
+line_at_once mode is (Ok line.Leave) = is
+line_at_once mode is (Ok line.Version) = tt
+line_at_once mode is (Ok line.Status) = tt
+line_at_once mode is (Ok (line.Direct direct)) = tt
+line_at_once mode is (Err why) = tt
 
 -- in `run` each line is answered as soon as it is read
-pub found_at_once : (way : Way) → way ≡ Run → (found : Found) → MayTakeAtOnce way found
-found_at_once way is (found.Line line) = line_at_once way is line
-found_at_once way is found.Empty = tt
-found_at_once way is found.End = tt
+pub found_at_once : (mode : Mode) → mode ≡ Run → (found : Found) → MayTakeAtOnce mode found
+found_at_once mode is (found.Line line) = line_at_once mode is line
+found_at_once mode is found.Empty = tt
+found_at_once mode is found.End = tt
 
 -- an open executor replied to a held line with what the source gave
 pub answered_held : {D : Type 0} (sends_so : Sending D) (view : D → View) (source : Source) (rules : Rules)
-    (provider agent : List ℕ) (limit : Option ℕ) (given : Result (Vec ℕ) MetaFault) (p q : Spot D) → p.executor.is_open ≡ true
+    (provider agent : List ℕ) (limit : Option ℕ) (given : Result (Vec ℕ) MetaFault) (p q : SessionView D) → p.executor.is_open ≡ true
     → source provider agent limit given → sends_so p q (Answered (answer.Meta given) ∷ [])
     → AnswersSo sends_so view source rules (Ok (line.Meta provider agent limit)) p q
 answered_held sends_so view source rules provider agent limit given p q is_open gives sends_all = record {
@@ -52,7 +52,7 @@ answered_held sends_so view source rules provider agent limit given p q is_open 
   sends_all = sends_all;
 }
 
-pub held_err : {D E : Type 0} (view : D → View) (source : Source) (rules : Rules) (held : Held) (p q : Spot D) (r : Result Bool E)
+pub held_err : {D E : Type 0} (view : D → View) (source : Source) (rules : Rules) (held : Held) (p q : SessionView D) (r : Result Bool E)
     → IsErr r → AnswersSo (SendsPart rules.form) view source rules (Ok (asks held)) p q → MayBreakOff q.events
     → AnswersHeld view source rules held p q r
 held_err view source rules held p q (Ok done) bad broke cause = let none : ⊥ = cc in absurd none

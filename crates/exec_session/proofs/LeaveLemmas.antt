@@ -9,7 +9,7 @@ use Rattle.exec_client.specs.MaySend.{IsBacked}
 use Rattle.exec_client.specs.Sends.{noticed}
 use Rattle.exec_client.proofs.Growing.{both_hold, cleared_holds, finish_holds}
 use Rattle.exec_session.specs.Leaving.{FinishReceived, WindsOne}
-use Rattle.exec_session.specs.Spots.{Spot, Sending}
+use Rattle.exec_session.specs.SessionViews.{SessionView, Sending}
 
 -- the notices of a turn that begins nothing are backed by what it recorded
 pub finish_sent : {D : Type 0} (view : D → View) (now : ℕ) (x y z : ExecutorView D) (end : TurnEnd) → y ≡ with_empty_book x → x.is_open ≡ true
@@ -26,6 +26,6 @@ finish_taken {D} view now x y z end cleared is_open does =
     subst (λ (c : ExecutorView D). FinishesTurn view now c z end) cleared (subst (λ (b : Bool). FinishesWhile b view now y z end) still does)
 
 -- the same while an action runs
-pub winds_one : {D : Type 0} (sends_so : Sending D) (view : D → View) (p q : Spot D) → p.executor.is_open ≡ true
+pub winds_one : {D : Type 0} (sends_so : Sending D) (view : D → View) (p q : SessionView D) → p.executor.is_open ≡ true
     → any_running p.executor.state ≡ true → FinishReceived sends_so view p q → WindsOne sends_so view p q
 winds_one sends_so view p q is_open runs client_view = record { is_open = is_open; runs = runs; client_view = client_view }

@@ -23,11 +23,11 @@ use Rattle.exec_session.specs.Pending.{IsClear}
 use Rattle.exec_session.specs.Rules.{Rules}
 use Rattle.exec_session.specs.Polls.{HasPolled, Lines, misses_in, reads_in}
 use Rattle.exec_session.specs.Runs.{IsWait, MakesOwnTurn, MakesTurns, MayGoOn, MayRest, MayTurn, OwnTurn, Reaches, ReachesFault, ReachesLeave, answers, of_command, turn, turned}
-use Rattle.exec_session.specs.Spots.{Lasts, MayBreakOff, Position, Spot, SendsPart, following, noted, paused, position, spot}
+use Rattle.exec_session.specs.SessionViews.{Lasts, MayBreakOff, SessionPosition, SessionView, SendsPart, following, noted, paused, session_position, session_view}
 use Rattle.exec_session.specs.Progress.{Answers, AnswersSo}
 use Rattle.exec_session.specs.Waiting.{Comes, ComesOrEnds, GoesRound, HasCome, HasComeRound, IsReadTo, IsRound, IsSince, PollsOnce, MayBegin, MayTakeAfter, MayWait, Midway, Rounds, Stage, Waits, WaitsForThere, midway, more, still}
-use Rattle.exec_session.specs.declared.context.Way.{Way}
-use Rattle.exec_session.specs.declared.context.Way.TheVariants.{Run, Serve}
+use Rattle.exec_session.specs.declared.context.Mode.{Mode}
+use Rattle.exec_session.specs.declared.context.Mode.TheVariants.{Run, Serve}
 use Rattle.exec_session.specs.declared.held.Held.{Held}
 use Rattle.exec_session.specs.declared.held.Held.TheVariants as held
 use Rattle.exec_session.specs.declared.lines.Taken.{Taken}
@@ -43,39 +43,39 @@ at_none (Some x) P Q is m = absurd cc
 pub at_some : {A : Type 0} (o : Option A) (x : A) (P : Type 0) (Q : A → Type 0) → o ≡ Some x → MatchOption o P Q → Q x
 at_some o x P Q is m = subst (λ v. MatchOption v P Q) is m
 
-pub turns_serve : (way : Way) → way ≡ Serve → MakesTurns way
+pub turns_serve : (mode : Mode) → mode ≡ Serve → MakesTurns mode
 turns_serve Run is = absurd cc
 turns_serve Serve is = tt
 
-pub open_serves : {D : Type 0} (way : Way) (x : ExecutorView D) → way ≡ Serve → MayGoOn way x → x.is_open ≡ true
+pub open_serves : {D : Type 0} (mode : Mode) (x : ExecutorView D) → mode ≡ Serve → MayGoOn mode x → x.is_open ≡ true
 open_serves Run x is goes_on = absurd cc
 open_serves Serve x is goes_on = goes_on
 
-zero_round : (way : Way) → way ≡ Serve → (most : ℕ) → IsRound way most → most ≡ 0
+zero_round : (mode : Mode) → mode ≡ Serve → (most : ℕ) → IsRound mode most → most ≡ 0
 zero_round Run is most round = absurd cc
 zero_round Serve is most round = round
 
-any_round : (way : Way) → IsRound way 0
+any_round : (mode : Mode) → IsRound mode 0
 any_round Run = tt
 any_round Serve = refl
 
-pub session_round : (way : Way) → way ≡ Run → (most : ℕ) → IsRound way most
+pub session_round : (mode : Mode) → mode ≡ Run → (most : ℕ) → IsRound mode most
 session_round Run is most = tt
 session_round Serve is most = absurd cc
 
 -- a round may begin
-pub session_begins : {D : Type 0} (way : Way) (s : Midway D) → way ≡ Run → MayWait way s → WaitsForThere s → MayBegin way s
-session_begins way s run waits there = record { stays = record { waits = waits; there = there }; serves = λ serve. absurd cc }
+pub session_begins : {D : Type 0} (mode : Mode) (s : Midway D) → mode ≡ Run → MayWait mode s → WaitsForThere s → MayBegin mode s
+session_begins mode s run waits there = record { stays = record { waits = waits; there = there }; serves = λ serve. absurd cc }
 
-pub serve_begins : {D : Type 0} (way : Way) (s : Midway D) → way ≡ Serve → s.place.at.executor.is_open ≡ true → s.commands ≡ []
-    → MayBegin way s
-serve_begins way s serve is_open none =
-    record { stays = none_stays way s none (λ run. absurd cc); serves = λ _. (is_open, none) }
+pub serve_begins : {D : Type 0} (mode : Mode) (s : Midway D) → mode ≡ Serve → s.point.at.executor.is_open ≡ true → s.commands ≡ []
+    → MayBegin mode s
+serve_begins mode s serve is_open none =
+    record { stays = none_stays mode s none (λ run. absurd cc); serves = λ _. (is_open, none) }
 
 -- where a session is, by its fields
-pub position_is : {D : Type 0} (q : Position D) (s : Spot D) (left : Option (List ℕ)) → q.at ≡ s → q.left ≡ left → q ≡ position s left
+pub position_is : {D : Type 0} (q : SessionPosition D) (s : SessionView D) (left : Option (List ℕ)) → q.at ≡ s → q.left ≡ left → q ≡ session_position s left
 position_is {D} q s left same same' =
-    ap (λ (t : Spot D). position t q.left) same ∙ ap (λ (l : Option (List ℕ)). position s l) same'
+    ap (λ (t : SessionView D). session_position t q.left) same ∙ ap (λ (l : Option (List ℕ)). session_position s l) same'
 
 -- at most as long as the wait may be
 pub pause_less : {D : Type 0} (since now : ℕ) (x : ExecutorView D) (es : List IoEvent) (less micros : ℕ) → less ≤ micros
@@ -108,225 +108,225 @@ due_none x es now micros idle shown brief none =
 
 -- waits, one after the other
 module _ {D : Type 0} (since now : ℕ) where
-  abbrev Waited : Position D → Position D → Type 0
+  abbrev Waited : SessionPosition D → SessionPosition D → Type 0
   Waited p q = Waits since now p q
 
-  pub waits_more : (p m q : Position D) (event : IoEvent) → Waited p m → IsWait since now m.at event → q ≡ noted m event → Waited p q
-  waits_more p m q event waits is same = subst (λ (w : Position D). Waited p w) (sym same) (more m event waits is)
+  pub waits_more : (p m q : SessionPosition D) (event : IoEvent) → Waited p m → IsWait since now m.at event → q ≡ noted m event → Waited p q
+  waits_more p m q event waits is same = subst (λ (w : SessionPosition D). Waited p w) (sym same) (more m event waits is)
 
-  pub waits_last : (p q : Position D) → Waited p q → Lasts p.at q.at
+  pub waits_last : (p q : SessionPosition D) → Waited p q → Lasts p.at q.at
   waits_last p _ still = lasts_same p.at p.at refl
   waits_last p _ (more m event waits is) =
       lasts_both p.at m.at (following m.at event) (waits_last p m waits) (lasts_event m.at (following m.at event) event refl)
 
-  pub waits_executor : (p q : Position D) → Waited p q → q.at.executor ≡ p.at.executor
+  pub waits_executor : (p q : SessionPosition D) → Waited p q → q.at.executor ≡ p.at.executor
   waits_executor p _ still = refl
   waits_executor p _ (more m event waits is) = waits_executor p m waits
 
-  pub waits_once : (p q : Position D) (event : IoEvent) → IsWait since now p.at event → q ≡ noted p event → Waited p q
+  pub waits_once : (p q : SessionPosition D) (event : IoEvent) → IsWait since now p.at event → q ≡ noted p event → Waited p q
   waits_once p q event is same = waits_more p p q event still is same
 
-  pub waits_none : (p q : Position D) → q ≡ p → Waited p q
-  waits_none p q same = subst (λ (w : Position D). Waited p w) (sym same) still
+  pub waits_none : (p q : SessionPosition D) → q ≡ p → Waited p q
+  waits_none p q same = subst (λ (w : SessionPosition D). Waited p w) (sym same) still
 
-  pub waits_rest : (p m q : Position D) (micros : ℕ) → MayPause since now m.at.executor m.at.events micros → Waited p m
-      → q ≡ position (paused m.at micros) m.left → Waited p q
+  pub waits_rest : (p m q : SessionPosition D) (micros : ℕ) → MayPause since now m.at.executor m.at.events micros → Waited p m
+      → q ≡ session_position (paused m.at micros) m.left → Waited p q
   waits_rest p m q micros may waits same = by (nat_lt 0 micros) refl
     where
-      at : Bool → Position D
-      at b = position (spot m.at.executor m.at.client_view (m.at.events ++ (if b then Rested micros ∷ [] else []))) m.left
+      at : Bool → SessionPosition D
+      at b = session_position (session_view m.at.executor m.at.client_view (m.at.events ++ (if b then Rested micros ∷ [] else []))) m.left
 
       by : (b : Bool) → nat_lt 0 micros ≡ b → Waited p q
       by true is = waits_more p m q (Rested micros) waits may (same ∙ ap at is)
       by false is =
-          subst (λ (w : Position D). Waited p w)
+          subst (λ (w : SessionPosition D). Waited p w)
           (sym (same ∙ ap at is
-          ∙ ap (λ (es : List IoEvent). position (spot m.at.executor m.at.client_view es) m.left) (append-nil m.at.events))) waits
+          ∙ ap (λ (es : List IoEvent). session_position (session_view m.at.executor m.at.client_view es) m.left) (append-nil m.at.events))) waits
 
 -- a poll that a wait may make
-pub wait_looked : {D : Type 0} (way : Way) (p q : Position D) (pending : Pending) → PollsOnce p q → MayWait way (midway p pending)
-    → MayWait way (midway q pending)
-wait_looked way p q pending (inl same) may =
-    subst (λ (w : Position _). MayWait way (midway w pending)) (sym same) may
-wait_looked way p q pending (inr (ready, same)) may =
-    subst (λ (w : Position _). MayWait way (midway w pending)) (sym same)
+pub wait_looked : {D : Type 0} (mode : Mode) (p q : SessionPosition D) (pending : Pending) → PollsOnce p q → MayWait mode (midway p pending)
+    → MayWait mode (midway q pending)
+wait_looked mode p q pending (inl same) may =
+    subst (λ (w : SessionPosition _). MayWait mode (midway w pending)) (sym same) may
+wait_looked mode p q pending (inr (ready, same)) may =
+    subst (λ (w : SessionPosition _). MayWait mode (midway w pending)) (sym same)
     (record { few = may.few; while_open = may.while_open; free = may.free })
 
-pub lasts_looked : {D : Type 0} (p q : Position D) → PollsOnce p q → Lasts p.at q.at
-lasts_looked p q (inl same) = lasts_same p.at q.at (ap (λ (w : Position _). w.at) same)
+pub lasts_looked : {D : Type 0} (p q : SessionPosition D) → PollsOnce p q → Lasts p.at q.at
+lasts_looked p q (inl same) = lasts_same p.at q.at (ap (λ (w : SessionPosition _). w.at) same)
 lasts_looked p q (inr (ready, same)) = lasts_noted p q (Polled 0 ready) same
 
-module _ {D : Type 0} (view : D → View) (source : Source) (rules : Rules) (p : Position D) (own : OwnTurn) where
-  abbrev At : ℕ → Lines → Position D → Type 0
+module _ {D : Type 0} (view : D → View) (source : Source) (rules : Rules) (p : SessionPosition D) (own : OwnTurn) where
+  abbrev At : ℕ → Lines → SessionPosition D → Type 0
   At n lines q = Reaches view source rules p own n lines q
 
-  abbrev Come : ℕ → Position D → List Command → Option Held → List ℕ → Type 0
-  Come most place commands held kept =
-      HasCome view source rules p own most (record { place = place; commands = commands; held = held; kept = kept })
+  abbrev Come : ℕ → SessionPosition D → List Command → Option Held → List ℕ → Type 0
+  Come most point commands held kept =
+      HasCome view source rules p own most (record { point = point; commands = commands; held = held; kept = kept })
 
   -- one poll, or none
-  pub looked_once : (most : ℕ) (commands : List Command) (held : Option Held) (kept : List ℕ) (place place' : Position D)
-      → rules.way ≡ Serve → PollsOnce place place' → Come most place commands held kept → Come most place' commands held kept
-  looked_once most commands held kept place place' way (inl same) come =
-      subst (λ (w : Position D). Come most w commands held kept) (sym same) come
-  looked_once most commands held kept place place' way (inr (ready, same)) come =
-      polled view source rules p own most commands held kept place place' (Polled 0 ready) (turns_serve rules.way way, refl) same come
+  pub looked_once : (most : ℕ) (commands : List Command) (held : Option Held) (kept : List ℕ) (point point' : SessionPosition D)
+      → rules.mode ≡ Serve → PollsOnce point point' → Come most point commands held kept → Come most point' commands held kept
+  looked_once most commands held kept point point' mode (inl same) come =
+      subst (λ (w : SessionPosition D). Come most w commands held kept) (sym same) come
+  looked_once most commands held kept point point' mode (inr (ready, same)) come =
+      polled view source rules p own most commands held kept point point' (Polled 0 ready) (turns_serve rules.mode mode, refl) same come
 
   -- waits, as steps of a session
-  pub waits_come : (most : ℕ) (commands : List Command) (held : Option Held) (kept : List ℕ) (place : Position D) (place' : Position D)
-      → commands ≡ [] → MayRest (held_lines held) → Waits own.since own.now place place' → Come most place commands held kept
-      → Come most place' commands held kept
-  waits_come most commands held kept place _ none rests still come = come
-  waits_come most commands held kept place _ none rests (more m event waits is) come =
-      waited view source rules p own most commands held kept m (position (following m.at event) m.left) event none rests is refl
-      (waits_come most commands held kept place m none rests waits come)
+  pub waits_come : (most : ℕ) (commands : List Command) (held : Option Held) (kept : List ℕ) (point : SessionPosition D) (point' : SessionPosition D)
+      → commands ≡ [] → MayRest (held_lines held) → Waits own.since own.now point point' → Come most point commands held kept
+      → Come most point' commands held kept
+  waits_come most commands held kept point _ none rests still come = come
+  waits_come most commands held kept point _ none rests (more m event waits is) come =
+      waited view source rules p own most commands held kept m (session_position (following m.at event) m.left) event none rests is refl
+      (waits_come most commands held kept point m none rests waits come)
 
   -- the lines that are unanswered where no command waits
-  none_but_held : (count : ℕ) (commands : List Command) (held : Option Held) (q : Position D) → commands ≡ []
+  none_but_held : (count : ℕ) (commands : List Command) (held : Option Held) (q : SessionPosition D) → commands ≡ []
       → At count (map of_command commands ++ held_lines held) q → At count (held_lines held) q
   none_but_held count commands held q none reached =
       subst (λ (cs : List Command). At count (map of_command cs ++ held_lines held) q) none reached
 
   -- a line asked for the end of the session
-  pub come_leave : rules.way ≡ Serve → (most : ℕ) (commands : List Command) (o : Option Held) (kept : List ℕ) (place : Position D)
-      → commands ≡ [] → o ≡ Some held.Leave → Come most place commands o kept → ReachesLeave view source rules p place.at
-  come_leave way most commands o kept place none is come = record {
-    serves = turns_serve rules.way way;
+  pub come_leave : rules.mode ≡ Serve → (most : ℕ) (commands : List Command) (o : Option Held) (kept : List ℕ) (point : SessionPosition D)
+      → commands ≡ [] → o ≡ Some held.Leave → Come most point commands o kept → ReachesLeave view source rules p point.at
+  come_leave mode most commands o kept point none is come = record {
+    serves = turns_serve rules.mode mode;
     own = own;
     count = come.count;
     left = come.left;
     reached =
-        subst (λ (h : Option Held). At come.count (held_lines h) (position place.at come.left)) is
-        (none_but_held come.count commands o (position place.at come.left) none come.reached);
-    is_open = open_serves rules.way place.at.executor way come.goes_on;
+        subst (λ (h : Option Held). At come.count (held_lines h) (session_position point.at come.left)) is
+        (none_but_held come.count commands o (session_position point.at come.left) none come.reached);
+    is_open = open_serves rules.mode point.at.executor mode come.goes_on;
   }
 
   -- the line that is held was answered, or broke off
-  pub held_answered : rules.way ≡ Serve → (most : ℕ) → MayTakeAfter rules.way most → (commands : List Command) (held : Option Held)
-      (h : Held) (kept : List ℕ) (place place' : Position D) → commands ≡ [] → held ≡ Some h → place'.left ≡ place.left
-      → Come most place commands held kept → Answers view source rules (Ok (asks h)) place.at place'.at
-      → MayGoOn rules.way place'.at.executor → Come (most + 1) place' commands None kept
-  held_answered way most may commands held h kept place place' none is same come answered goes_on = record {
+  pub held_answered : rules.mode ≡ Serve → (most : ℕ) → MayTakeAfter rules.mode most → (commands : List Command) (held : Option Held)
+      (h : Held) (kept : List ℕ) (point point' : SessionPosition D) → commands ≡ [] → held ≡ Some h → point'.left ≡ point.left
+      → Come most point commands held kept → Answers view source rules (Ok (asks h)) point.at point'.at
+      → MayGoOn rules.mode point'.at.executor → Come (most + 1) point' commands None kept
+  held_answered mode most may commands held h kept point point' none is same come answered goes_on = record {
     count = come.count + 1;
     few = omega (arith, come.few, ap length none);
     left = come.left;
-    mid = begins come.left place'.left kept (sym read.0 ∙ sym same) read.1;
+    mid = begins come.left point'.left kept (sym read.0 ∙ sym same) read.1;
     reached =
-        subst (λ (cs : List Command). At (come.count + 1) (map of_command cs ++ []) (position place'.at come.left)) (sym none)
-        (answers own come.count (Ok (asks h)) (position place.at come.left) place'.at before come.goes_on
+        subst (λ (cs : List Command). At (come.count + 1) (map of_command cs ++ []) (session_position point'.at come.left)) (sym none)
+        (answers own come.count (Ok (asks h)) (session_position point.at come.left) point'.at before come.goes_on
         (may come.count (omega (arith, come.few))) answered);
     goes_on = goes_on;
   }
     where
-      read : (place.left ≡ come.left) × (kept ≡ [])
-      read = subst (λ (o : Option Held). IsReadTo o come.left kept place.left) is come.mid
+      read : (point.left ≡ come.left) × (kept ≡ [])
+      read = subst (λ (o : Option Held). IsReadTo o come.left kept point.left) is come.mid
 
-      before : At come.count (Ok (asks h) ∷ []) (position place.at come.left)
+      before : At come.count (Ok (asks h) ∷ []) (session_position point.at come.left)
       before =
-          subst (λ (o : Option Held). At come.count (held_lines o) (position place.at come.left)) is
-          (none_but_held come.count commands held (position place.at come.left) none come.reached)
+          subst (λ (o : Option Held). At come.count (held_lines o) (session_position point.at come.left)) is
+          (none_but_held come.count commands held (session_position point.at come.left) none come.reached)
 
   -- its agent has not answered by now
-  pub held_still : (most : ℕ) (commands : List Command) (held : Option Held) (kept : List ℕ) (place place' : Position D)
-      → place'.at ≡ place.at → place'.left ≡ place.left → Come most place commands held kept → Come most place' commands held kept
-  held_still most commands held kept place place' same same' come =
-      subst (λ (w : Position D). Come most w commands held kept) (sym (position_is place' place.at place.left same same')) come
+  pub held_still : (most : ℕ) (commands : List Command) (held : Option Held) (kept : List ℕ) (point point' : SessionPosition D)
+      → point'.at ≡ point.at → point'.left ≡ point.left → Come most point commands held kept → Come most point' commands held kept
+  held_still most commands held kept point point' same same' come =
+      subst (λ (w : SessionPosition D). Come most w commands held kept) (sym (position_is point' point.at point.left same same')) come
 
-  pub held_breaks : (most : ℕ) (commands : List Command) (held : Option Held) (h : Held) (kept : List ℕ) (place : Position D) (s : Spot D)
-      → commands ≡ [] → held ≡ Some h → Come most place commands held kept
-      → AnswersSo (SendsPart rules.form) view source rules (Ok (asks h)) place.at s × MayBreakOff s.events → BreaksOff view source rules p s
-  held_breaks most commands held h kept place s none is come (broke, cause) = record {
+  pub held_breaks : (most : ℕ) (commands : List Command) (held : Option Held) (h : Held) (kept : List ℕ) (point : SessionPosition D) (s : SessionView D)
+      → commands ≡ [] → held ≡ Some h → Come most point commands held kept
+      → AnswersSo (SendsPart rules.form) view source rules (Ok (asks h)) point.at s × MayBreakOff s.events → BreaksOff view source rules p s
+  held_breaks most commands held h kept point s none is come (broke, cause) = record {
     own = own;
     count = come.count;
     lines = Ok (asks h) ∷ [];
-    last = position place.at come.left;
+    last = session_position point.at come.left;
     reached =
-        subst (λ (o : Option Held). At come.count (held_lines o) (position place.at come.left)) is
-        (none_but_held come.count commands held (position place.at come.left) none come.reached);
+        subst (λ (o : Option Held). At come.count (held_lines o) (session_position point.at come.left)) is
+        (none_but_held come.count commands held (session_position point.at come.left) none come.reached);
     breaks = in_line (Ok (asks h)) refl come.goes_on (inl broke);
     cause = cause;
   }
 
   -- an own turn may be made
-  abbrev pub Turning : Option Held → Position D → Type 0
-  Turning held place = MayRest (held_lines held) × HasPolled own.reads own.misses (own.lines ++ held_lines held) place.at.events
+  abbrev pub Turning : Option Held → SessionPosition D → Type 0
+  Turning held point = MayRest (held_lines held) × HasPolled own.reads own.misses (own.lines ++ held_lines held) point.at.events
 
-  may_turn : rules.way ≡ Serve → (most : ℕ) (commands : List Command) (held : Option Held) (kept : List ℕ) (place : Position D)
-      → Turning held place → Come most place commands held kept → MayTurn rules.way own (held_lines held) place.at
-  may_turn way most commands held kept place (rests, polled) come = record {
-    serves = turns_serve rules.way way;
+  may_turn : rules.mode ≡ Serve → (most : ℕ) (commands : List Command) (held : Option Held) (kept : List ℕ) (point : SessionPosition D)
+      → Turning held point → Come most point commands held kept → MayTurn rules.mode own (held_lines held) point.at
+  may_turn mode most commands held kept point (rests, polled) come = record {
+    serves = turns_serve rules.mode mode;
     rests = rests;
-    is_open = open_serves rules.way place.at.executor way come.goes_on;
+    is_open = open_serves rules.mode point.at.executor mode come.goes_on;
     polled = polled;
   }
 
   -- this turn is made, since which nothing has ended or begun
-  abbrev pub Turned : Option Held → Position D → Position D → ℕ → ℕ → TurnEnd → Type 0
-  Turned held place place' now since end =
-      Turning held place × MakesOwnTurn view rules own.end now place.at place'.at end
-      × IsQuietSince place'.at.executor.children.book now own.since since
+  abbrev pub Turned : Option Held → SessionPosition D → SessionPosition D → ℕ → ℕ → TurnEnd → Type 0
+  Turned held point point' now since end =
+      Turning held point × MakesOwnTurn view rules own.end now point.at point'.at end
+      × IsQuietSince point'.at.executor.children.book now own.since since
 
-  one_turned : rules.way ≡ Serve → (most : ℕ) (commands : List Command) (held : Option Held) (kept : List ℕ) (place place' : Position D)
-      (now since : ℕ) (end : TurnEnd) → commands ≡ [] → (come : Come most place commands held kept)
-      → Turned held place place' now since end
-      → Reaches view source rules p (turned now since end (held_lines held) place'.at) 0 (held_lines held) (position place'.at come.left)
-  one_turned way most commands held kept place place' now since end none come (may, made, quiet) =
-      turn own come.count (held_lines held) (position place.at come.left) place'.at end now since
-      (none_but_held come.count commands held (position place.at come.left) none come.reached)
-      (may_turn way most commands held kept place may come) made quiet
+  one_turned : rules.mode ≡ Serve → (most : ℕ) (commands : List Command) (held : Option Held) (kept : List ℕ) (point point' : SessionPosition D)
+      (now since : ℕ) (end : TurnEnd) → commands ≡ [] → (come : Come most point commands held kept)
+      → Turned held point point' now since end
+      → Reaches view source rules p (turned now since end (held_lines held) point'.at) 0 (held_lines held) (session_position point'.at come.left)
+  one_turned mode most commands held kept point point' now since end none come (may, made, quiet) =
+      turn own come.count (held_lines held) (session_position point.at come.left) point'.at end now since
+      (none_but_held come.count commands held (session_position point.at come.left) none come.reached)
+      (may_turn mode most commands held kept point may come) made quiet
 
   -- it leaves the executor open, or closes it, or breaks off
-  pub turn_made : rules.way ≡ Serve → (most : ℕ) (commands : List Command) (held : Option Held) (kept : List ℕ) (place place' : Position D)
-      (now since : ℕ) (end : TurnEnd) → commands ≡ [] → place'.left ≡ place.left → Come most place commands held kept
-      → Turned held place place' now since end → place'.at.executor.is_open ≡ true
-      → HasCome view source rules p (turned now since end (held_lines held) place'.at) 0
-      (record { place = place'; commands = commands; held = held; kept = kept })
-  turn_made way most commands held kept place place' now since end none same come made is_open = record {
+  pub turn_made : rules.mode ≡ Serve → (most : ℕ) (commands : List Command) (held : Option Held) (kept : List ℕ) (point point' : SessionPosition D)
+      (now since : ℕ) (end : TurnEnd) → commands ≡ [] → point'.left ≡ point.left → Come most point commands held kept
+      → Turned held point point' now since end → point'.at.executor.is_open ≡ true
+      → HasCome view source rules p (turned now since end (held_lines held) point'.at) 0
+      (record { point = point'; commands = commands; held = held; kept = kept })
+  turn_made mode most commands held kept point point' now since end none same come made is_open = record {
     count = 0;
     few = omega (arith, ap length none);
     left = come.left;
     mid = subst (λ (l : Option (List ℕ)). IsReadTo held come.left kept l) (sym same) come.mid;
     reached =
-        subst (λ (cs : List Command). Reaches view source rules p (turned now since end (held_lines held) place'.at) 0
-        (map of_command cs ++ held_lines held) (position place'.at come.left)) (sym none)
-        (one_turned way most commands held kept place place' now since end none come made);
-    goes_on = go_open rules.way place'.at.executor is_open;
+        subst (λ (cs : List Command). Reaches view source rules p (turned now since end (held_lines held) point'.at) 0
+        (map of_command cs ++ held_lines held) (session_position point'.at come.left)) (sym none)
+        (one_turned mode most commands held kept point point' now since end none come made);
+    goes_on = go_open rules.mode point'.at.executor is_open;
   }
 
-  pub turn_closes : rules.way ≡ Serve → (most : ℕ) (commands : List Command) (held : Option Held) (kept : List ℕ) (place place' : Position D)
-      (now since : ℕ) (end : TurnEnd) → commands ≡ [] → Come most place commands held kept → Turned held place place' now since end
-      → place'.at.executor.is_open ≡ false → ReachesFault view source rules p place'.at
-  turn_closes way most commands held kept place place' now since end none come made closed = record {
-    serves = turns_serve rules.way way;
-    own = turned now since end (held_lines held) place'.at;
+  pub turn_closes : rules.mode ≡ Serve → (most : ℕ) (commands : List Command) (held : Option Held) (kept : List ℕ) (point point' : SessionPosition D)
+      (now since : ℕ) (end : TurnEnd) → commands ≡ [] → Come most point commands held kept → Turned held point point' now since end
+      → point'.at.executor.is_open ≡ false → ReachesFault view source rules p point'.at
+  turn_closes mode most commands held kept point point' now since end none come made closed = record {
+    serves = turns_serve rules.mode mode;
+    own = turned now since end (held_lines held) point'.at;
     count = 0;
     lines = held_lines held;
     left = come.left;
-    reached = one_turned way most commands held kept place place' now since end none come made;
+    reached = one_turned mode most commands held kept point point' now since end none come made;
     is_closed = closed;
   }
 
-  pub turn_breaks : rules.way ≡ Serve → (most : ℕ) (commands : List Command) (held : Option Held) (kept : List ℕ) (place : Position D)
-      (s : Spot D) → commands ≡ [] → Turning held place → Come most place commands held kept
-      → OwnTurnBreaks view rules own.end place.at s → MayBreakOff s.events → BreaksOff view source rules p s
-  turn_breaks way most commands held kept place s none may come broke cause = record {
+  pub turn_breaks : rules.mode ≡ Serve → (most : ℕ) (commands : List Command) (held : Option Held) (kept : List ℕ) (point : SessionPosition D)
+      (s : SessionView D) → commands ≡ [] → Turning held point → Come most point commands held kept
+      → OwnTurnBreaks view rules own.end point.at s → MayBreakOff s.events → BreaksOff view source rules p s
+  turn_breaks mode most commands held kept point s none may come broke cause = record {
     own = own;
     count = come.count;
     lines = held_lines held;
-    last = position place.at come.left;
-    reached = none_but_held come.count commands held (position place.at come.left) none come.reached;
-    breaks = in_own_turn (may_turn way most commands held kept place may come) broke;
+    last = session_position point.at come.left;
+    reached = none_but_held come.count commands held (session_position point.at come.left) none come.reached;
+    breaks = in_own_turn (may_turn mode most commands held kept point may come) broke;
     cause = cause;
   }
 
   -- a session that ends does so with more lines allowed, too
-  pub ends_more : (n m : ℕ) (commands : List Command) (held : Option Held) (kept : List ℕ) (place : Position D) (step : Taken) → n ≤ m
-      → ComesOrEnds view source rules p own n (record { place = place; commands = commands; held = held; kept = kept }) step
-      → ComesOrEnds view source rules p own m (record { place = place; commands = commands; held = held; kept = kept }) step
-  ends_more n m commands held kept place taken.More le come = come_more view source rules p own n m commands held kept place le come
-  ends_more n m commands held kept place taken.End le come = come
-  ends_more n m commands held kept place taken.Closed le come = come
-  ends_more n m commands held kept place taken.Leaves le come = come
+  pub ends_more : (n m : ℕ) (commands : List Command) (held : Option Held) (kept : List ℕ) (point : SessionPosition D) (step : Taken) → n ≤ m
+      → ComesOrEnds view source rules p own n (record { point = point; commands = commands; held = held; kept = kept }) step
+      → ComesOrEnds view source rules p own m (record { point = point; commands = commands; held = held; kept = kept }) step
+  ends_more n m commands held kept point taken.More le come = come_more view source rules p own n m commands held kept point le come
+  ends_more n m commands held kept point taken.End le come = come
+  ends_more n m commands held kept point taken.Closed le come = come
+  ends_more n m commands held kept point taken.Leaves le come = come
 
   -- a round that ends the session
   pub round_ends : (E : Type 0) (quiet : ℕ) (end : TurnEnd) (most : ℕ) (s : Midway D) (step : Taken) → step ≢ taken.More
@@ -337,15 +337,15 @@ module _ {D : Type 0} (view : D → View) (source : Source) (rules : Rules) (p :
   round_ends E quiet end most s taken.Leaves ends come = come
 
   -- a round in `run`
-  pub round_read : {E : Type 0} → rules.way ≡ Run → (quiet : ℕ) (end : TurnEnd) (most : ℕ) (s : Midway D) (r : Result Taken E)
-      → IsSince own quiet end (held_lines s.held) s.place.at → Comes view source rules p own most s r
+  pub round_read : {E : Type 0} → rules.mode ≡ Run → (quiet : ℕ) (end : TurnEnd) (most : ℕ) (s : Midway D) (r : Result Taken E)
+      → IsSince own quiet end (held_lines s.held) s.point.at → Comes view source rules p own most s r
       → GoesRound view source rules p quiet end s r
-  round_read way quiet end most s (Ok taken.More) since come =
-      record { most = most; own = own; round = session_round rules.way way most; since = since; come = come }
-  round_read way quiet end most s (Ok taken.End) since come = come
-  round_read way quiet end most s (Ok taken.Closed) since come = come
-  round_read way quiet end most s (Ok taken.Leaves) since come = come
-  round_read way quiet end most s (Err e) since breaks = breaks
+  round_read mode quiet end most s (Ok taken.More) since come =
+      record { most = most; own = own; round = session_round rules.mode mode most; since = since; come = come }
+  round_read mode quiet end most s (Ok taken.End) since come = come
+  round_read mode quiet end most s (Ok taken.Closed) since come = come
+  round_read mode quiet end most s (Ok taken.Leaves) since come = come
+  round_read mode quiet end most s (Err e) since breaks = breaks
 
 -- a line is held, or a poll found nothing
 pub looked_held : (held : Option Held) (reads misses : ℕ) (es : List IoEvent) → (held ≡ None → misses < misses_in es)
@@ -372,7 +372,7 @@ looked_none held held' reads misses es is polled =
     subst (λ (o : Option Held). HasPolled reads misses (held_lines o ++ held_lines held') es) (sym is) polled
 
 -- a turn that ended like this is still the last one
-pub since_later : {D : Type 0} (own : OwnTurn) (quiet : ℕ) (end : TurnEnd) (lines lines' : Lines) (q q' : Spot D) → lines' ≡ lines
+pub since_later : {D : Type 0} (own : OwnTurn) (quiet : ℕ) (end : TurnEnd) (lines lines' : Lines) (q q' : SessionView D) → lines' ≡ lines
     → Lasts q q' → IsSince own quiet end lines q → IsSince own quiet end lines' q'
 since_later own quiet end lines lines' q q' same lasts since = record {
   quiet = since.quiet;
@@ -383,7 +383,7 @@ since_later own quiet end lines lines' q q' same lasts since = record {
 }
 
 -- a poll of this round is after the turn before it
-pub looked_since : {D : Type 0} (own : OwnTurn) (quiet : ℕ) (end : TurnEnd) (before lines : Lines) (q q' : Spot D)
+pub looked_since : {D : Type 0} (own : OwnTurn) (quiet : ℕ) (end : TurnEnd) (before lines : Lines) (q q' : SessionView D)
     → IsSince own quiet end before q → HasPolled (reads_in q.events) (misses_in q.events) (before ++ lines) q'.events
     → HasPolled own.reads own.misses (own.lines ++ lines) q'.events
 looked_since own quiet end before lines q q' since polled =
@@ -399,16 +399,16 @@ quiet_later own book now quiet since le (inr (runs, later)) = inr (runs, omega (
 
 -- a round that ends the session, whose last step kept this
 pub round_over : {D E : Type 0} (view : D → View) (source : Source) (rules : Rules) (s t : Stage D) (step : Taken) → step ≢ taken.More
-    → Lasts s.at.place.at t.at.place.at
-    → ((p : Position D) → HasComeRound view source rules p s.quiet s.end s.at
+    → Lasts s.at.point.at t.at.point.at
+    → ((p : SessionPosition D) → HasComeRound view source rules p s.quiet s.end s.at
     → GoesRound {E = E} view source rules p t.quiet t.end t.at (Ok step)) → Rounds {E = E} view source rules s t (Ok step)
 round_over view source rules s t step ends lasts goes =
     record { lasts = lasts; longer = λ is. absurd (ends is); begins = λ is. absurd (ends is); goes = goes }
 
 -- a round that breaks off
 pub round_fails : {D E : Type 0} (view : D → View) (source : Source) (rules : Rules) (s t : Stage D) (r : Result Taken E) → IsErr r
-    → Lasts s.at.place.at t.at.place.at
-    → ((p : Position D) → HasComeRound view source rules p s.quiet s.end s.at → BreaksOff view source rules p t.at.place.at)
+    → Lasts s.at.point.at t.at.point.at
+    → ((p : SessionPosition D) → HasComeRound view source rules p s.quiet s.end s.at → BreaksOff view source rules p t.at.point.at)
     → Rounds view source rules s t r
 round_fails view source rules s t (Ok x) bad lasts breaks = let none : ⊥ = cc in absurd none
 round_fails view source rules s t (Err e) bad lasts breaks = record { lasts = lasts; longer = tt; begins = tt; goes = breaks }
@@ -420,45 +420,45 @@ pub leaves_ends : taken.Leaves ≢ taken.More
 leaves_ends is = cc
 
 -- a round that breaks off
-pub round_err : {D E : Type 0} (view : D → View) (source : Source) (rules : Rules) (p : Position D) (quiet : ℕ) (end : TurnEnd) (s : Midway D)
-    (r : Result Taken E) → IsErr r → BreaksOff view source rules p s.place.at → GoesRound view source rules p quiet end s r
+pub round_err : {D E : Type 0} (view : D → View) (source : Source) (rules : Rules) (p : SessionPosition D) (quiet : ℕ) (end : TurnEnd) (s : Midway D)
+    (r : Result Taken E) → IsErr r → BreaksOff view source rules p s.point.at → GoesRound view source rules p quiet end s r
 round_err view source rules p quiet end s (Ok x) bad breaks = let none : ⊥ = cc in absurd none
 round_err view source rules p quiet end s (Err e) bad breaks = breaks
 
 -- a round in `serve` begins after a turn
-pub round_begins : {D : Type 0} (view : D → View) (source : Source) (rules : Rules) (p : Position D) (quiet : ℕ) (end : TurnEnd)
-    (s : Midway D) → rules.way ≡ Serve → (come : HasComeRound view source rules p quiet end s) → HasCome view source rules p come.own 0 s
-round_begins view source rules p quiet end s way come =
-    subst (λ (n : ℕ). HasCome view source rules p come.own n s) (zero_round rules.way way come.most come.round) come.come
+pub round_begins : {D : Type 0} (view : D → View) (source : Source) (rules : Rules) (p : SessionPosition D) (quiet : ℕ) (end : TurnEnd)
+    (s : Midway D) → rules.mode ≡ Serve → (come : HasComeRound view source rules p quiet end s) → HasCome view source rules p come.own 0 s
+round_begins view source rules p quiet end s mode come =
+    subst (λ (n : ℕ). HasCome view source rules p come.own n s) (zero_round rules.mode mode come.most come.round) come.come
 
 -- the next round begins after a turn that ended like this
-pub round_again : {D : Type 0} (view : D → View) (source : Source) (rules : Rules) (p : Position D) (now quiet : ℕ) (end : TurnEnd)
-    (q : Spot D) (s : Midway D) → Lasts q s.place.at → HasCome view source rules p (turned now quiet end (held_lines s.held) q) 0 s
+pub round_again : {D : Type 0} (view : D → View) (source : Source) (rules : Rules) (p : SessionPosition D) (now quiet : ℕ) (end : TurnEnd)
+    (q : SessionView D) (s : Midway D) → Lasts q s.point.at → HasCome view source rules p (turned now quiet end (held_lines s.held) q) 0 s
     → HasComeRound view source rules p quiet end s
 round_again view source rules p now quiet end q s lasts come = record {
   most = 0;
   own = turned now quiet end (held_lines s.held) q;
-  round = any_round rules.way;
+  round = any_round rules.mode;
   since = record {
     quiet = omega arith;
     ended = refl;
     unanswered = refl;
-    reads = lasts_reads q s.place.at lasts;
-    misses = lasts_misses q s.place.at lasts;
+    reads = lasts_reads q s.point.at lasts;
+    misses = lasts_misses q s.point.at lasts;
   };
   come = come;
 }
 
 -- nothing is done yet
-pub first_round : {D : Type 0} (view : D → View) (source : Source) (rules : Rules) (p : Position D) (pending : Pending) (quiet : ℕ)
+pub first_round : {D : Type 0} (view : D → View) (source : Source) (rules : Rules) (p : SessionPosition D) (pending : Pending) (quiet : ℕ)
     (end : TurnEnd) → IsClear pending → end ≡ Done → p.at.executor.is_open ≡ true
-    → MayBegin rules.way (midway p pending) × HasComeRound view source rules p quiet end (midway p pending)
+    → MayBegin rules.mode (midway p pending) × HasComeRound view source rules p quiet end (midway p pending)
 first_round view source rules p pending quiet end clear none is_open = (
-  record { stays = none_stays rules.way (midway p pending) clear.none (λ _. clear.free); serves = λ _. (is_open, clear.none) },
+  record { stays = none_stays rules.mode (midway p pending) clear.none (λ _. clear.free); serves = λ _. (is_open, clear.none) },
   record {
     most = 0;
     own = turned 0 0 Done [] p.at;
-    round = any_round rules.way;
+    round = any_round rules.mode;
     since = record {
       quiet = omega arith;
       ended = sym none;
@@ -466,6 +466,6 @@ first_round view source rules p pending quiet end clear none is_open = (
       reads = omega arith;
       misses = omega arith;
     };
-    come = first_come view source rules p pending clear (go_open rules.way p.at.executor is_open);
+    come = first_come view source rules p pending clear (go_open rules.mode p.at.executor is_open);
   },
 )

@@ -24,11 +24,11 @@ use Rattle.exec_session.specs.Rules.{Rules}
 use Rattle.exec_session.specs.Polls.{IsThere, Lines, MayRead}
 use Rattle.exec_session.specs.Runs.{IsLook, IsWait, MakesTurns, MayGoOn, MayRest, MayTake, OwnTurn, Reaches, ReachesFault, of_command, turned}
 use Rattle.exec_session.specs.Runs.{answers, here, looks, passes, reads, batch, waits}
-use Rattle.exec_session.specs.Spots.{MayBreakOff, Position, Spot, following, noted, position}
+use Rattle.exec_session.specs.SessionViews.{MayBreakOff, SessionPosition, SessionView, following, noted, session_position}
 use Rattle.exec_session.specs.Together.{AnswersAll}
 use Rattle.exec_session.specs.Waiting.{Comes, ComesOrEnds, HasCome, HasFound, IsFound, IsReadTo, IsTaken, MayStay, MayTakeAfter, MayWait, Midway, TakesFound, WaitsForThere, found_lines, midway}
-use Rattle.exec_session.specs.declared.context.Way.{Way}
-use Rattle.exec_session.specs.declared.context.Way.TheVariants.{Run, Serve}
+use Rattle.exec_session.specs.declared.context.Mode.{Mode}
+use Rattle.exec_session.specs.declared.context.Mode.TheVariants.{Run, Serve}
 use Rattle.exec_session.specs.declared.held.Held.{Held}
 use Rattle.exec_session.specs.declared.lines.Found.{Found}
 use Rattle.exec_session.specs.declared.lines.Found.TheVariants as found
@@ -37,20 +37,20 @@ use Rattle.exec_session.specs.declared.lines.Taken.TheVariants as taken
 use Rattle.exec_session.specs.declared.pending.Pending.{Pending}
 
 -- in `run` any line may be taken, in `serve` 64 after a turn
-pub may_run : (way : Way) (most : ℕ) → way ≡ Run → MayTakeAfter way most
+pub may_run : (mode : Mode) (most : ℕ) → mode ≡ Run → MayTakeAfter mode most
 may_run Run most is = λ n le. tt
 may_run Serve most is = absurd cc
 
-pub may_serve : (way : Way) (most : ℕ) → way ≡ Serve → most + 1 ≤ 64 → MayTakeAfter way most
+pub may_serve : (mode : Mode) (most : ℕ) → mode ≡ Serve → most + 1 ≤ 64 → MayTakeAfter mode most
 may_serve Run most is le = absurd cc
 may_serve Serve most is le = λ n few. omega (arith, le, few)
 
 -- in `run` a session goes on in any case and makes no turns, and any session goes on while its executor is open
-pub go_session : {D : Type 0} (way : Way) (x : ExecutorView D) → way ≡ Run → MayGoOn way x
+pub go_session : {D : Type 0} (mode : Mode) (x : ExecutorView D) → mode ≡ Run → MayGoOn mode x
 go_session Run x is = tt
 go_session Serve x is = absurd cc
 
-pub go_open : {D : Type 0} (way : Way) (x : ExecutorView D) → x.is_open ≡ true → MayGoOn way x
+pub go_open : {D : Type 0} (mode : Mode) (x : ExecutorView D) → x.is_open ≡ true → MayGoOn mode x
 go_open Run x is_open = tt
 go_open Serve x is_open = is_open
 
@@ -59,25 +59,25 @@ if_ok P Q (Ok x) to p = to x p
 if_ok P Q (Err e) to p = tt
 
 -- none waits
-pub none_waits : {D : Type 0} (way : Way) (s : Midway D) → s.commands ≡ [] → (way ≡ Run → s.held ≡ None) → MayWait way s
-none_waits way s none free = record { few = omega (arith, ap length none); while_open = λ _. none; free = free }
+pub none_waits : {D : Type 0} (mode : Mode) (s : Midway D) → s.commands ≡ [] → (mode ≡ Run → s.held ≡ None) → MayWait mode s
+none_waits mode s none free = record { few = omega (arith, ap length none); while_open = λ _. none; free = free }
 
 -- then nothing has to be there
 pub none_there : {D : Type 0} (s : Midway D) → s.commands ≡ [] → WaitsForThere s
 none_there s none some = absurd (some none)
 
-pub none_stays : {D : Type 0} (way : Way) (s : Midway D) → s.commands ≡ [] → (way ≡ Run → s.held ≡ None) → MayStay way s
-none_stays way s none free = record { waits = none_waits way s none free; there = none_there s none }
+pub none_stays : {D : Type 0} (mode : Mode) (s : Midway D) → s.commands ≡ [] → (mode ≡ Run → s.held ≡ None) → MayStay mode s
+none_stays mode s none free = record { waits = none_waits mode s none free; there = none_there s none }
 
 -- a poll found input
-pub peeked_there : {D : Type 0} (p q : Position D) (has_line : Bool) → q ≡ noted p (Peeked has_line) → has_line ≡ true → IsThere q.at.events
+pub peeked_there : {D : Type 0} (p q : SessionPosition D) (has_line : Bool) → q ≡ noted p (Peeked has_line) → has_line ≡ true → IsThere q.at.events
 peeked_there p q has_line same is =
-    record { before = p.at.events; last = Peeked has_line; is_last = ap (λ (w : Position _). w.at.events) same; there = is }
+    record { before = p.at.events; last = Peeked has_line; is_last = ap (λ (w : SessionPosition _). w.at.events) same; there = is }
 
-pub looked_there : {D : Type 0} (p q : Position D) (millis : ℕ) (ready : Bool) → q ≡ noted p (Polled millis ready) → ready ≡ true
+pub looked_there : {D : Type 0} (p q : SessionPosition D) (millis : ℕ) (ready : Bool) → q ≡ noted p (Polled millis ready) → ready ≡ true
     → IsThere q.at.events
 looked_there p q millis ready same is =
-    record { before = p.at.events; last = Polled millis ready; is_last = ap (λ (w : Position _). w.at.events) same; there = is }
+    record { before = p.at.events; last = Polled millis ready; is_last = ap (λ (w : SessionPosition _). w.at.events) same; there = is }
 
 -- a fact about any value
 pub ok_always : {A E : Type 0} (P : A → Type 0) (r : Result A E) → ((x : A) → P x) → IfOk r P
@@ -97,16 +97,16 @@ may_read_free commands held events free there =
     (subst (λ (ls : Lines). MayRead ls events) (sym (append-nil (map of_command commands))) (may_read commands events there))
 
 -- the executor is open while commands wait
-pub open_while : {D : Type 0} (way : Way) (s : Midway D) → MayWait way s → s.commands ≢ [] → s.place.at.executor.is_open ≡ true
-open_while way s may some = by s.place.at.executor.is_open refl
+pub open_while : {D : Type 0} (mode : Mode) (s : Midway D) → MayWait mode s → s.commands ≢ [] → s.point.at.executor.is_open ≡ true
+open_while mode s may some = by s.point.at.executor.is_open refl
   where
-    by : (b : Bool) → s.place.at.executor.is_open ≡ b → s.place.at.executor.is_open ≡ true
+    by : (b : Bool) → s.point.at.executor.is_open ≡ b → s.point.at.executor.is_open ≡ true
     by true is_open = is_open
     by false closed = absurd (some (may.while_open closed))
 
 -- an error of a step is that of a session that broke off
-pub comes_err : {D E : Type 0} (view : D → View) (source : Source) (rules : Rules) (p : Position D) (own : OwnTurn) (most : ℕ) (s : Midway D)
-    (r : Result Taken E) → IsErr r → BreaksOff view source rules p s.place.at → Comes view source rules p own most s r
+pub comes_err : {D E : Type 0} (view : D → View) (source : Source) (rules : Rules) (p : SessionPosition D) (own : OwnTurn) (most : ℕ) (s : Midway D)
+    (r : Result Taken E) → IsErr r → BreaksOff view source rules p s.point.at → Comes view source rules p own most s r
 comes_err view source rules p own most s (Ok x) bad breaks = let none : ⊥ = cc in absurd none
 comes_err view source rules p own most s (Err e) bad breaks = breaks
 
@@ -130,21 +130,21 @@ begins_free : (held : Option Held) (left now : Option (List ℕ)) (kept : List �
 begins_free held left now kept free same none =
     subst (λ (h : Option Held). IsReadTo h left kept now) (sym free) (begins left now kept same none)
 
-module _ {D : Type 0} (view : D → View) (source : Source) (rules : Rules) (p : Position D) (own : OwnTurn) where
-  abbrev At : ℕ → Lines → Position D → Type 0
+module _ {D : Type 0} (view : D → View) (source : Source) (rules : Rules) (p : SessionPosition D) (own : OwnTurn) where
+  abbrev At : ℕ → Lines → SessionPosition D → Type 0
   At n lines q = Reaches view source rules p own n lines q
 
-  abbrev Come : ℕ → Position D → List Command → Option Held → List ℕ → Type 0
-  Come most place commands held kept =
-      HasCome view source rules p own most (record { place = place; commands = commands; held = held; kept = kept })
+  abbrev Come : ℕ → SessionPosition D → List Command → Option Held → List ℕ → Type 0
+  Come most point commands held kept =
+      HasCome view source rules p own most (record { point = point; commands = commands; held = held; kept = kept })
 
-  abbrev Finds : ℕ → List Command → Found → Position D → Type 0
+  abbrev Finds : ℕ → List Command → Found → SessionPosition D → Type 0
   Finds most commands what q = HasFound view source rules p own most commands what q
 
   -- more lines were allowed
-  pub come_more : (n m : ℕ) (commands : List Command) (held : Option Held) (kept : List ℕ) (place : Position D) → n ≤ m
-      → Come n place commands held kept → Come m place commands held kept
-  come_more n m commands held kept place le come = record {
+  pub come_more : (n m : ℕ) (commands : List Command) (held : Option Held) (kept : List ℕ) (point : SessionPosition D) → n ≤ m
+      → Come n point commands held kept → Come m point commands held kept
+  come_more n m commands held kept point le come = record {
     count = come.count;
     few = omega (arith, le, come.few);
     left = come.left;
@@ -154,109 +154,109 @@ module _ {D : Type 0} (view : D → View) (source : Source) (rules : Rules) (p :
   }
 
   -- a poll, and a wait
-  pub polled : (most : ℕ) (commands : List Command) (held : Option Held) (kept : List ℕ) (place place' : Position D) (event : IoEvent)
-      → IsLook rules.way (map of_command commands ++ held_lines held) place.at.events event
-      → place' ≡ position (following place.at event) place.left → Come most place commands held kept
-      → Come most place' commands held kept
-  polled most commands held kept place place' event is same come =
-      subst (λ (w : Position D). Come most w commands held kept) (sym same) (record {
+  pub polled : (most : ℕ) (commands : List Command) (held : Option Held) (kept : List ℕ) (point point' : SessionPosition D) (event : IoEvent)
+      → IsLook rules.mode (map of_command commands ++ held_lines held) point.at.events event
+      → point' ≡ session_position (following point.at event) point.left → Come most point commands held kept
+      → Come most point' commands held kept
+  polled most commands held kept point point' event is same come =
+      subst (λ (w : SessionPosition D). Come most w commands held kept) (sym same) (record {
         count = come.count;
         few = come.few;
         left = come.left;
         mid = come.mid;
         reached =
-            looks own come.count (map of_command commands ++ held_lines held) (position place.at come.left) event come.reached is;
+            looks own come.count (map of_command commands ++ held_lines held) (session_position point.at come.left) event come.reached is;
         goes_on = come.goes_on;
       })
 
-  pub waited : (most : ℕ) (commands : List Command) (held : Option Held) (kept : List ℕ) (place place' : Position D) (event : IoEvent)
-      → commands ≡ [] → MayRest (held_lines held) → IsWait own.since own.now place.at event → place' ≡ position (following place.at event) place.left
-      → Come most place commands held kept → Come most place' commands held kept
-  waited most commands held kept place place' event none rests is same come =
-      subst (λ (w : Position D). Come most w commands held kept) (sym same) (record {
+  pub waited : (most : ℕ) (commands : List Command) (held : Option Held) (kept : List ℕ) (point point' : SessionPosition D) (event : IoEvent)
+      → commands ≡ [] → MayRest (held_lines held) → IsWait own.since own.now point.at event → point' ≡ session_position (following point.at event) point.left
+      → Come most point commands held kept → Come most point' commands held kept
+  waited most commands held kept point point' event none rests is same come =
+      subst (λ (w : SessionPosition D). Come most w commands held kept) (sym same) (record {
         count = come.count;
         few = come.few;
         left = come.left;
         mid = come.mid;
         reached =
-            waits own come.count (map of_command commands ++ held_lines held) (position place.at come.left) event come.reached
+            waits own come.count (map of_command commands ++ held_lines held) (session_position point.at come.left) event come.reached
             come.goes_on (subst (λ (cs : List Command). MayRest (map of_command cs ++ held_lines held)) (sym none) rests) is;
         goes_on = come.goes_on;
       })
 
   -- the last question failed, or the loops have gone round as often as they can
-  pub event_breaks : (most : ℕ) (commands : List Command) (held : Option Held) (kept : List ℕ) (place : Position D) (q : Spot D)
-      (event : IoEvent) → is_failure event ≡ true → q ≡ following place.at event → Come most place commands held kept
+  pub event_breaks : (most : ℕ) (commands : List Command) (held : Option Held) (kept : List ℕ) (point : SessionPosition D) (q : SessionView D)
+      (event : IoEvent) → is_failure event ≡ true → q ≡ following point.at event → Come most point commands held kept
       → BreaksOff view source rules p q
-  event_breaks most commands held kept place q event fails same come = record {
+  event_breaks most commands held kept point q event fails same come = record {
     own = own;
     count = come.count;
     lines = map of_command commands ++ held_lines held;
-    last = position place.at come.left;
+    last = session_position point.at come.left;
     reached = come.reached;
     breaks = in_event event fails same;
-    cause = inl (record { before = place.at.events; last = event; is_last = ap (λ (s : Spot D). s.events) same; fails = fails });
+    cause = inl (record { before = point.at.events; last = event; is_last = ap (λ (s : SessionView D). s.events) same; fails = fails });
   }
 
-  pub bound_breaks : (most : ℕ) (commands : List Command) (held : Option Held) (kept : List ℕ) (place : Position D)
-      → num_max ≤ length place.at.events → Come most place commands held kept → BreaksOff view source rules p place.at
-  bound_breaks most commands held kept place many come = record {
+  pub bound_breaks : (most : ℕ) (commands : List Command) (held : Option Held) (kept : List ℕ) (point : SessionPosition D)
+      → num_max ≤ length point.at.events → Come most point commands held kept → BreaksOff view source rules p point.at
+  bound_breaks most commands held kept point many come = record {
     own = own;
     count = come.count;
     lines = map of_command commands ++ held_lines held;
-    last = position place.at come.left;
+    last = session_position point.at come.left;
     reached = come.reached;
     breaks = at_once refl;
     cause = inr many;
   }
 
   -- a part of the next line was read
-  pub read_part : (most : ℕ) (commands : List Command) (held : Option Held) (kept kept' : List ℕ) (place place' : Position D)
-      → held ≡ None → (commands ≢ [] → IsThere place.at.events) → place'.at ≡ following place.at (Read true)
-      → (come : Come most place commands held kept) → IsMidLine come.left kept' place'.left → Come most place' commands held kept'
-  read_part most commands held kept kept' place place' free there same come mid = record {
+  pub read_part : (most : ℕ) (commands : List Command) (held : Option Held) (kept kept' : List ℕ) (point point' : SessionPosition D)
+      → held ≡ None → (commands ≢ [] → IsThere point.at.events) → point'.at ≡ following point.at (Read true)
+      → (come : Come most point commands held kept) → IsMidLine come.left kept' point'.left → Come most point' commands held kept'
+  read_part most commands held kept kept' point point' free there same come mid = record {
     count = come.count;
     few = come.few;
     left = come.left;
-    mid = subst (λ (h : Option Held). IsReadTo h come.left kept' place'.left) (sym free) mid;
+    mid = subst (λ (h : Option Held). IsReadTo h come.left kept' point'.left) (sym free) mid;
     reached =
-        subst (λ (s : Spot D). At come.count (map of_command commands ++ held_lines held) (position s come.left)) (sym same)
-        (looks own come.count (map of_command commands ++ held_lines held) (position place.at come.left) (Read true) come.reached
-        (refl, may_read_free commands held place.at.events free there));
-    goes_on = subst (λ (s : Spot D). MayGoOn rules.way s.executor) (sym same) come.goes_on;
+        subst (λ (s : SessionView D). At come.count (map of_command commands ++ held_lines held) (session_position s come.left)) (sym same)
+        (looks own come.count (map of_command commands ++ held_lines held) (session_position point.at come.left) (Read true) come.reached
+        (refl, may_read_free commands held point.at.events free there));
+    goes_on = subst (λ (s : SessionView D). MayGoOn rules.mode s.executor) (sym same) come.goes_on;
   }
 
   -- what comes next was read
-  pub found_next : (most : ℕ) (commands : List Command) (held : Option Held) (kept : List ℕ) (place place' : Position D) (what : Found)
-      → held ≡ None → (commands ≢ [] → IsThere place.at.events) → place'.at ≡ following place.at (Read true)
-      → (come : Come most place commands held kept) → ReadsInput rules.way come.left place'.left what → Finds most commands what place'
-  found_next most commands held kept place place' what free there same come input = by what input
+  pub found_next : (most : ℕ) (commands : List Command) (held : Option Held) (kept : List ℕ) (point point' : SessionPosition D) (what : Found)
+      → held ≡ None → (commands ≢ [] → IsThere point.at.events) → point'.at ≡ following point.at (Read true)
+      → (come : Come most point commands held kept) → ReadsInput rules.mode come.left point'.left what → Finds most commands what point'
+  found_next most commands held kept point point' what free there same come input = by what input
     where
-      before : At come.count (map of_command commands ++ []) (position place.at come.left)
+      before : At come.count (map of_command commands ++ []) (session_position point.at come.left)
       before =
-          subst (λ (h : Option Held). At come.count (map of_command commands ++ held_lines h) (position place.at come.left)) free
+          subst (λ (h : Option Held). At come.count (map of_command commands ++ held_lines h) (session_position point.at come.left)) free
           come.reached
 
-      goes_on : MayGoOn rules.way place'.at.executor
-      goes_on = subst (λ (s : Spot D). MayGoOn rules.way s.executor) (sym same) come.goes_on
+      goes_on : MayGoOn rules.mode point'.at.executor
+      goes_on = subst (λ (s : SessionView D). MayGoOn rules.mode s.executor) (sym same) come.goes_on
 
-      looked_at : At come.count (map of_command commands ++ []) (position place'.at come.left)
+      looked_at : At come.count (map of_command commands ++ []) (session_position point'.at come.left)
       looked_at =
-          subst (λ (s : Spot D). At come.count (map of_command commands ++ []) (position s come.left)) (sym same)
-          (looks own come.count (map of_command commands ++ []) (position place.at come.left) (Read true) before
-          (refl, may_read_free commands None place.at.events refl there))
+          subst (λ (s : SessionView D). At come.count (map of_command commands ++ []) (session_position s come.left)) (sym same)
+          (looks own come.count (map of_command commands ++ []) (session_position point.at come.left) (Read true) before
+          (refl, may_read_free commands None point.at.events refl there))
 
-      by : (f : Found) → ReadsInput rules.way come.left place'.left f → Finds most commands f place'
+      by : (f : Found) → ReadsInput rules.mode come.left point'.left f → Finds most commands f point'
       by (found.Line line) input = record {
         count = come.count;
         few = come.few;
-        left = place'.left;
+        left = point'.left;
         next = refl;
         reached =
-            subst (λ (s : Spot D). At come.count (map of_command commands ++ line ∷ []) (position s place'.left)) (sym same)
-            (reads own come.count commands (position place.at come.left) place'.left line
-            (subst (λ (ls : Lines). At come.count ls (position place.at come.left)) (append-nil (map of_command commands)) before)
-            come.goes_on (may_read commands place.at.events there) input);
+            subst (λ (s : SessionView D). At come.count (map of_command commands ++ line ∷ []) (session_position s point'.left)) (sym same)
+            (reads own come.count commands (session_position point.at come.left) point'.left line
+            (subst (λ (ls : Lines). At come.count ls (session_position point.at come.left)) (append-nil (map of_command commands)) before)
+            come.goes_on (may_read commands point.at.events there) input);
         goes_on = goes_on;
       }
       by found.Empty input = record {
@@ -277,22 +277,22 @@ module _ {D : Type 0} (view : D → View) (source : Source) (rules : Rules) (p :
       }
 
   -- then there was a poll
-  pub found_looked : (most : ℕ) (commands : List Command) (what : Found) (q q' : Position D) (event : IoEvent)
-      → IsLook rules.way (map of_command commands ++ found_lines what) q.at.events event
-      → q' ≡ position (following q.at event) q.left → Finds most commands what q → Finds most commands what q'
+  pub found_looked : (most : ℕ) (commands : List Command) (what : Found) (q q' : SessionPosition D) (event : IoEvent)
+      → IsLook rules.mode (map of_command commands ++ found_lines what) q.at.events event
+      → q' ≡ session_position (following q.at event) q.left → Finds most commands what q → Finds most commands what q'
   found_looked most commands what q q' event is same finds =
-      subst (λ (w : Position D). Finds most commands what w) (sym same) (record {
+      subst (λ (w : SessionPosition D). Finds most commands what w) (sym same) (record {
         count = finds.count;
         few = finds.few;
         left = finds.left;
         next = finds.next;
         reached =
-            looks own finds.count (map of_command commands ++ found_lines what) (position q.at finds.left) event finds.reached is;
+            looks own finds.count (map of_command commands ++ found_lines what) (session_position q.at finds.left) event finds.reached is;
         goes_on = finds.goes_on;
       })
 
   -- the line is held
-  pub found_held : (most : ℕ) (commands : List Command) (held : Option Held) (kept : List ℕ) (h : Held) (what : Found) (q : Position D)
+  pub found_held : (most : ℕ) (commands : List Command) (held : Option Held) (kept : List ℕ) (h : Held) (what : Found) (q : SessionPosition D)
       → what ≡ found.Line (Ok (asks h)) → held ≡ Some h → kept ≡ [] → Finds most commands what q
       → Come (most + 1) q commands held kept
   found_held most commands held kept h what q is holds none finds =
@@ -310,7 +310,7 @@ module _ {D : Type 0} (view : D → View) (source : Source) (rules : Rules) (p :
       }
 
   -- the line waits, as it is a command
-  pub one_waits : (most : ℕ) (commands commands' : List Command) (held : Option Held) (kept : List ℕ) (command : Command) (q : Position D)
+  pub one_waits : (most : ℕ) (commands commands' : List Command) (held : Option Held) (kept : List ℕ) (command : Command) (q : SessionPosition D)
       → held ≡ None → kept ≡ [] → commands' ≡ commands ++ command ∷ [] → Finds most commands (found.Line (of_command command)) q
       → Come (most + 1) q commands' held kept
   one_waits most commands commands' held kept command q free none more finds = record {
@@ -319,7 +319,7 @@ module _ {D : Type 0} (view : D → View) (source : Source) (rules : Rules) (p :
     left = finds.left;
     mid = begins_free held finds.left q.left kept free finds.next none;
     reached =
-        subst (λ (ls : Lines). At finds.count ls (position q.at finds.left)) (sym same) finds.reached;
+        subst (λ (ls : Lines). At finds.count ls (session_position q.at finds.left)) (sym same) finds.reached;
     goes_on = finds.goes_on;
   }
     where
@@ -330,68 +330,68 @@ module _ {D : Type 0} (view : D → View) (source : Source) (rules : Rules) (p :
           ∙ append-nil (map of_command (commands ++ command ∷ [])) ∙ map-append of_command commands (command ∷ [])
 
   -- all that wait are answered
-  batch_reached : (count most : ℕ) → ((n : ℕ) → n + 1 ≤ most → MayTake rules.way n) → (commands : List Command) (lines : Lines)
-      (at at' : Spot D) (left : Option (List ℕ)) → count + length commands ≤ most → (commands ≢ [] → at.executor.is_open ≡ true)
-      → At count (map of_command commands ++ lines) (position at left) → AnswersAll view rules commands at at'
-      → (n : ℕ) × (n ≤ most) × At n lines (position at' left)
+  batch_reached : (count most : ℕ) → ((n : ℕ) → n + 1 ≤ most → MayTake rules.mode n) → (commands : List Command) (lines : Lines)
+      (at at' : SessionView D) (left : Option (List ℕ)) → count + length commands ≤ most → (commands ≢ [] → at.executor.is_open ≡ true)
+      → At count (map of_command commands ++ lines) (session_position at left) → AnswersAll view rules commands at at'
+      → (n : ℕ) × (n ≤ most) × At n lines (session_position at' left)
   batch_reached count most may [] lines at at' left few is_open reached same =
-      (count, omega (arith, few), subst (λ (s : Spot D). At count lines (position s left)) (sym same) reached)
+      (count, omega (arith, few), subst (λ (s : SessionView D). At count lines (session_position s left)) (sym same) reached)
   batch_reached count most may (first ∷ others) lines at at' left few is_open reached answered = (
     count + length others + 1,
     omega (arith, few),
-    batch own count first others lines (position at left) at' reached (is_open (λ none. cc))
+    batch own count first others lines (session_position at left) at' reached (is_open (λ none. cc))
         (may (count + length others) (omega (arith, few))) answered,
   )
 
   -- their answer broke off
-  batch_broken : (count : ℕ) (commands : List Command) (lines : Lines) (at s : Spot D) (left : Option (List ℕ))
-      → (commands ≢ [] → at.executor.is_open ≡ true) → At count (map of_command commands ++ lines) (position at left)
+  batch_broken : (count : ℕ) (commands : List Command) (lines : Lines) (at s : SessionView D) (left : Option (List ℕ))
+      → (commands ≢ [] → at.executor.is_open ≡ true) → At count (map of_command commands ++ lines) (session_position at left)
       → BatchBreaks view rules commands at s → MayBreakOff s.events → BreaksOff view source rules p s
   batch_broken count [] lines at s left is_open reached broke cause = absurd broke
   batch_broken count (first ∷ others) lines at s left is_open reached broke cause = record {
     own = own;
     count = count;
     lines = map of_command (first ∷ others) ++ lines;
-    last = position at left;
+    last = session_position at left;
     reached = reached;
     breaks = in_batch (first ∷ others) lines refl (is_open (λ none. cc)) broke;
     cause = cause;
   }
 
-  pub come_batch_breaks : (most : ℕ) (commands : List Command) (held : Option Held) (kept : List ℕ) (place : Position D) (s : Spot D)
-      → (commands ≢ [] → place.at.executor.is_open ≡ true) → Come most place commands held kept
-      → BatchBreaks view rules commands place.at s → MayBreakOff s.events → BreaksOff view source rules p s
-  come_batch_breaks most commands held kept place s is_open come broke cause =
-      batch_broken come.count commands (held_lines held) place.at s come.left is_open come.reached broke cause
+  pub come_batch_breaks : (most : ℕ) (commands : List Command) (held : Option Held) (kept : List ℕ) (point : SessionPosition D) (s : SessionView D)
+      → (commands ≢ [] → point.at.executor.is_open ≡ true) → Come most point commands held kept
+      → BatchBreaks view rules commands point.at s → MayBreakOff s.events → BreaksOff view source rules p s
+  come_batch_breaks most commands held kept point s is_open come broke cause =
+      batch_broken come.count commands (held_lines held) point.at s come.left is_open come.reached broke cause
 
-  pub found_batch_breaks : (most : ℕ) (commands : List Command) (what : Found) (q : Position D) (s : Spot D)
+  pub found_batch_breaks : (most : ℕ) (commands : List Command) (what : Found) (q : SessionPosition D) (s : SessionView D)
       → (commands ≢ [] → q.at.executor.is_open ≡ true) → Finds most commands what q
       → BatchBreaks view rules commands q.at s → MayBreakOff s.events → BreaksOff view source rules p s
   found_batch_breaks most commands what q s is_open finds broke cause =
       batch_broken finds.count commands (found_lines what) q.at s finds.left is_open finds.reached broke cause
 
   -- the session goes on after it
-  pub come_answered : (most : ℕ) → ((n : ℕ) → n + 1 ≤ most → MayTake rules.way n) → (commands commands' : List Command)
-      (held : Option Held) (kept : List ℕ) (place place' : Position D) (step : Taken) → (commands ≢ [] → place.at.executor.is_open ≡ true)
-      → commands' ≡ [] → place'.left ≡ place.left → Come most place commands held kept
-      → AnswersAll view rules commands place.at place'.at → IsTaken rules.way place'.at.executor false step
+  pub come_answered : (most : ℕ) → ((n : ℕ) → n + 1 ≤ most → MayTake rules.mode n) → (commands commands' : List Command)
+      (held : Option Held) (kept : List ℕ) (point point' : SessionPosition D) (step : Taken) → (commands ≢ [] → point.at.executor.is_open ≡ true)
+      → commands' ≡ [] → point'.left ≡ point.left → Come most point commands held kept
+      → AnswersAll view rules commands point.at point'.at → IsTaken rules.mode point'.at.executor false step
       → ComesOrEnds view source rules p own most
-      (record { place = place'; commands = commands'; held = held; kept = kept }) step
-  come_answered most may commands commands' held kept place place' step is_open none same come answered is =
-      by step is (batch_reached come.count most may commands (held_lines held) place.at place'.at come.left come.few is_open come.reached
+      (record { point = point'; commands = commands'; held = held; kept = kept }) step
+  come_answered most may commands commands' held kept point point' step is_open none same come answered is =
+      by step is (batch_reached come.count most may commands (held_lines held) point.at point'.at come.left come.few is_open come.reached
       answered)
     where
-      by : (s : Taken) → IsTaken rules.way place'.at.executor false s
-          → (n : ℕ) × (n ≤ most) × At n (held_lines held) (position place'.at come.left)
+      by : (s : Taken) → IsTaken rules.mode point'.at.executor false s
+          → (n : ℕ) × (n ≤ most) × At n (held_lines held) (session_position point'.at come.left)
           → ComesOrEnds view source rules p own most
-          (record { place = place'; commands = commands'; held = held; kept = kept }) s
+          (record { point = point'; commands = commands'; held = held; kept = kept }) s
       by taken.More (not_ended, goes_on) (n, few, reached) = record {
         count = n;
         few = omega (arith, few, ap length none);
         left = come.left;
         mid = subst (λ (l : Option (List ℕ)). IsReadTo held come.left kept l) (sym same) come.mid;
         reached =
-            subst (λ (cs : List Command). At n (map of_command cs ++ held_lines held) (position place'.at come.left)) (sym none)
+            subst (λ (cs : List Command). At n (map of_command cs ++ held_lines held) (session_position point'.at come.left)) (sym none)
             reached;
         goes_on = goes_on;
       }
@@ -408,9 +408,9 @@ module _ {D : Type 0} (view : D → View) (source : Source) (rules : Rules) (p :
       }
 
   -- the same before the line that was read is answered
-  pub found_answered : (most : ℕ) → ((n : ℕ) → n + 1 ≤ most → MayTake rules.way n) → (commands : List Command) (what : Found)
-      (q q' : Position D) → (commands ≢ [] → q.at.executor.is_open ≡ true) → q'.left ≡ q.left → Finds most commands what q
-      → AnswersAll view rules commands q.at q'.at → MayGoOn rules.way q'.at.executor → Finds most [] what q'
+  pub found_answered : (most : ℕ) → ((n : ℕ) → n + 1 ≤ most → MayTake rules.mode n) → (commands : List Command) (what : Found)
+      (q q' : SessionPosition D) → (commands ≢ [] → q.at.executor.is_open ≡ true) → q'.left ≡ q.left → Finds most commands what q
+      → AnswersAll view rules commands q.at q'.at → MayGoOn rules.mode q'.at.executor → Finds most [] what q'
   found_answered most may commands what q q' is_open same finds answered goes_on =
       let (n, few, reached) = batch_reached finds.count most may commands (found_lines what) q.at q'.at finds.left finds.few is_open
       finds.reached answered in
@@ -423,9 +423,9 @@ module _ {D : Type 0} (view : D → View) (source : Source) (rules : Rules) (p :
         goes_on = goes_on;
       }
 
-  pub found_closed : (most : ℕ) → ((n : ℕ) → n + 1 ≤ most → MayTake rules.way n) → (commands : List Command) (what : Found)
-      (q q' : Position D) → (commands ≢ [] → q.at.executor.is_open ≡ true) → Finds most commands what q
-      → AnswersAll view rules commands q.at q'.at → MakesTurns rules.way → q'.at.executor.is_open ≡ false
+  pub found_closed : (most : ℕ) → ((n : ℕ) → n + 1 ≤ most → MayTake rules.mode n) → (commands : List Command) (what : Found)
+      (q q' : SessionPosition D) → (commands ≢ [] → q.at.executor.is_open ≡ true) → Finds most commands what q
+      → AnswersAll view rules commands q.at q'.at → MakesTurns rules.mode → q'.at.executor.is_open ≡ false
       → ReachesFault view source rules p q'.at
   found_closed most may commands what q q' is_open finds answered serves closed =
       let (n, few, reached) = batch_reached finds.count most may commands (found_lines what) q.at q'.at finds.left finds.few is_open
@@ -441,12 +441,12 @@ module _ {D : Type 0} (view : D → View) (source : Source) (rules : Rules) (p :
       }
 
   -- a session that does not go on after them ends where it is
-  pub step_ends : (most : ℕ) → ((n : ℕ) → n + 1 ≤ most → MayTake rules.way n) → (commands commands' : List Command) (held : Option Held)
-      (kept : List ℕ) (what : Found) (q q' : Position D) (step : Taken) → (commands ≢ [] → q.at.executor.is_open ≡ true)
+  pub step_ends : (most : ℕ) → ((n : ℕ) → n + 1 ≤ most → MayTake rules.mode n) → (commands commands' : List Command) (held : Option Held)
+      (kept : List ℕ) (what : Found) (q q' : SessionPosition D) (step : Taken) → (commands ≢ [] → q.at.executor.is_open ≡ true)
       → Finds most commands what q → AnswersAll view rules commands q.at q'.at → step ≢ taken.More
-      → IsTaken rules.way q'.at.executor false step
+      → IsTaken rules.mode q'.at.executor false step
       → ComesOrEnds view source rules p own (most + 1)
-      (record { place = q'; commands = commands'; held = held; kept = kept }) step
+      (record { point = q'; commands = commands'; held = held; kept = kept }) step
   step_ends most may commands commands' held kept what q q' taken.More is_open finds answered ends is = absurd (ends refl)
   step_ends most may commands commands' held kept what q q' taken.End is_open finds answered ends (ended, goes_on) = absurd cc
   step_ends most may commands commands' held kept what q q' taken.Leaves is_open finds answered ends is = absurd is
@@ -454,31 +454,31 @@ module _ {D : Type 0} (view : D → View) (source : Source) (rules : Rules) (p :
       found_closed most may commands what q q' is_open finds answered serves closed
 
   -- the line that was read was answered, or there was no line
-  pub found_taken : (E : Type 0) (most : ℕ) → MayTakeAfter rules.way most → (commands : List Command) (held : Option Held) (kept : List ℕ)
-      (what : Found) (q q' : Position D) (has_ended : Bool) (step : Taken) → commands ≡ [] → held ≡ None → kept ≡ []
+  pub found_taken : (E : Type 0) (most : ℕ) → MayTakeAfter rules.mode most → (commands : List Command) (held : Option Held) (kept : List ℕ)
+      (what : Found) (q q' : SessionPosition D) (has_ended : Bool) (step : Taken) → commands ≡ [] → held ≡ None → kept ≡ []
       → q'.left ≡ q.left → Finds most [] what q → TakesFound {E = E} view source rules what q.at q'.at (Ok has_ended)
-      → IsTaken rules.way q'.at.executor has_ended step
+      → IsTaken rules.mode q'.at.executor has_ended step
       → ComesOrEnds view source rules p own (most + 1)
-      (record { place = q'; commands = commands; held = held; kept = kept }) step
+      (record { point = q'; commands = commands; held = held; kept = kept }) step
   found_taken E most may commands held kept what q q' has_ended step none free empty same finds takes is =
       by what finds takes
     where
       Ends : Taken → Type 0
       Ends s =
           ComesOrEnds view source rules p own (most + 1)
-          (record { place = q'; commands = commands; held = held; kept = kept }) s
+          (record { point = q'; commands = commands; held = held; kept = kept }) s
 
       -- after one line more
-      further : (left : Option (List ℕ)) (n : ℕ) → n ≤ most + 1 → left ≡ q'.left → At n [] (position q'.at left) → (s : Taken)
-          → IsTaken rules.way q'.at.executor false s → Ends s
+      further : (left : Option (List ℕ)) (n : ℕ) → n ≤ most + 1 → left ≡ q'.left → At n [] (session_position q'.at left) → (s : Taken)
+          → IsTaken rules.mode q'.at.executor false s → Ends s
       further left n few now reached taken.More (not_ended, goes_on) = record {
         count = n;
         few = omega (arith, few, ap length none);
         left = left;
         mid = begins_free held left q'.left kept free now empty;
         reached =
-            subst (λ (cs : List Command). At n (map of_command cs ++ held_lines held) (position q'.at left)) (sym none)
-            (subst (λ (h : Option Held). At n (held_lines h) (position q'.at left)) (sym free) reached);
+            subst (λ (cs : List Command). At n (map of_command cs ++ held_lines held) (session_position q'.at left)) (sym none)
+            (subst (λ (h : Option Held). At n (held_lines h) (session_position q'.at left)) (sym free) reached);
         goes_on = goes_on;
       }
       further left n few now reached taken.End (ended, goes_on) = absurd cc
@@ -494,13 +494,13 @@ module _ {D : Type 0} (view : D → View) (source : Source) (rules : Rules) (p :
       }
 
       -- at the end of the input
-      ended : Finds most [] found.End q → q'.at ≡ q.at → (s : Taken) → IsTaken rules.way q'.at.executor true s → Ends s
+      ended : Finds most [] found.End q → q'.at ≡ q.at → (s : Taken) → IsTaken rules.mode q'.at.executor true s → Ends s
       ended it same_at taken.More (not_ended, goes_on) = absurd cc
       ended it same_at taken.End (has_ended, goes_on) = record {
         own = own;
         count = it.count;
         left = it.left;
-        reached = subst (λ (s : Spot D). At it.count [] (position s it.left)) (sym same_at) it.reached;
+        reached = subst (λ (s : SessionView D). At it.count [] (session_position s it.left)) (sym same_at) it.reached;
         end = it.next;
         goes_on = goes_on;
       }
@@ -511,24 +511,24 @@ module _ {D : Type 0} (view : D → View) (source : Source) (rules : Rules) (p :
         count = it.count;
         lines = [];
         left = it.left;
-        reached = subst (λ (s : Spot D). At it.count [] (position s it.left)) (sym same_at) it.reached;
+        reached = subst (λ (s : SessionView D). At it.count [] (session_position s it.left)) (sym same_at) it.reached;
         is_closed = closed;
       }
 
       by : (f : Found) → Finds most [] f q → TakesFound {E = E} view source rules f q.at q'.at (Ok has_ended) → Ends step
       by (found.Line line) it (not_ended, answered) =
           further it.left (it.count + 1) (omega (arith, it.few)) (it.next ∙ sym same)
-          (answers own it.count line (position q.at it.left) q'.at it.reached it.goes_on (may it.count (omega (arith, it.few))) answered)
-          step (subst (λ (b : Bool). IsTaken rules.way q'.at.executor b step) not_ended is)
+          (answers own it.count line (session_position q.at it.left) q'.at it.reached it.goes_on (may it.count (omega (arith, it.few))) answered)
+          step (subst (λ (b : Bool). IsTaken rules.mode q'.at.executor b step) not_ended is)
       by found.Empty it (not_ended, same_at) =
           further q.left (it.count + 1) (omega (arith, it.few)) (sym same)
-          (subst (λ (s : Spot D). At (it.count + 1) [] (position s q.left)) (sym same_at)
-          (passes own it.count (position q.at it.left) q.left it.reached it.goes_on (may it.count (omega (arith, it.few))) it.next))
-          step (subst (λ (b : Bool). IsTaken rules.way q'.at.executor b step) not_ended is)
+          (subst (λ (s : SessionView D). At (it.count + 1) [] (session_position s q.left)) (sym same_at)
+          (passes own it.count (session_position q.at it.left) q.left it.reached it.goes_on (may it.count (omega (arith, it.few))) it.next))
+          step (subst (λ (b : Bool). IsTaken rules.mode q'.at.executor b step) not_ended is)
       by found.End it (at_end, same_at) =
-          ended it same_at step (subst (λ (b : Bool). IsTaken rules.way q'.at.executor b step) at_end is)
+          ended it same_at step (subst (λ (b : Bool). IsTaken rules.mode q'.at.executor b step) at_end is)
 
-  pub found_breaks : {E : Type 0} (most : ℕ) (what : Found) (q : Position D) (s : Spot D) (fault : E) → Finds most [] what q
+  pub found_breaks : {E : Type 0} (most : ℕ) (what : Found) (q : SessionPosition D) (s : SessionView D) (fault : E) → Finds most [] what q
       → TakesFound view source rules what q.at s (Err fault) → BreaksOff view source rules p s
   found_breaks most what q s fault finds broke = by what finds broke
     where
@@ -537,7 +537,7 @@ module _ {D : Type 0} (view : D → View) (source : Source) (rules : Rules) (p :
         own = own;
         count = it.count;
         lines = line ∷ [];
-        last = position q.at it.left;
+        last = session_position q.at it.left;
         reached = it.reached;
         breaks = in_line line refl it.goes_on breaks;
         cause = cause;
@@ -546,8 +546,8 @@ module _ {D : Type 0} (view : D → View) (source : Source) (rules : Rules) (p :
       by found.End it none = absurd none
 
 -- nothing is done yet
-pub first_come : {D : Type 0} (view : D → View) (source : Source) (rules : Rules) (p : Position D) (pending : Pending) → IsClear pending
-    → MayGoOn rules.way p.at.executor → HasCome view source rules p (turned 0 0 Done [] p.at) 0 (midway p pending)
+pub first_come : {D : Type 0} (view : D → View) (source : Source) (rules : Rules) (p : SessionPosition D) (pending : Pending) → IsClear pending
+    → MayGoOn rules.mode p.at.executor → HasCome view source rules p (turned 0 0 Done [] p.at) 0 (midway p pending)
 first_come view source rules p pending clear goes_on = record {
   count = 0;
   few = omega (arith, ap length clear.none);

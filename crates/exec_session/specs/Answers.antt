@@ -28,13 +28,13 @@ use Rattle.exec_client.specs.SentItem.{Answered}
 use Rattle.exec_trace.specs.declared.event.IoEvent.TheVariants.{Shown}
 use Rattle.exec_session.specs.Drains.{Drains}
 use Rattle.exec_session.specs.Rules.{Rules, MakesRoom}
-use Rattle.exec_session.specs.Spots.{Spot, Sending, following, moved}
-use Rattle.exec_session.specs.declared.context.Way.{Way}
-use Rattle.exec_session.specs.declared.context.Way.TheVariants.{Run, Serve}
+use Rattle.exec_session.specs.SessionViews.{SessionView, Sending, following, moved}
+use Rattle.exec_session.specs.declared.context.Mode.{Mode}
+use Rattle.exec_session.specs.declared.context.Mode.TheVariants.{Run, Serve}
 
 -- A line of these bytes is read as the definition says, except that memory may be refused in reading it. In `serve` lines have a
 -- definition of their own.
-abbrev pub IsReadAs : Way → List ℕ → Result Line Refusal → Type 0
+abbrev pub IsReadAs : Mode → List ℕ → Result Line Refusal → Type 0
 IsReadAs Run bytes (Ok found) = line_read bytes ≡ Ok found
 IsReadAs Run bytes (Err why) = why ≢ refusal.Memory → line_read bytes ≡ Err why
 IsReadAs Serve bytes found = IsServedAs bytes found
@@ -83,24 +83,24 @@ IsClosedReply source (Ok (line.Direct direct)) reply = reply ≡ refused refusal
 IsClosedReply source (Err why) reply = reply ≡ refused refusal.Closed
 
 -- a drain from the next clock reading on, for at most this many milliseconds and turns
-abbrev pub DrainsFor : {D : Type 0} → (D → View) → Bool → ℕ → Rules → Spot D
-    → Spot D → LineReply → Type 0
+abbrev pub DrainsFor : {D : Type 0} → (D → View) → Bool → ℕ → Rules → SessionView D
+    → SessionView D → LineReply → Type 0
 DrainsFor view ends_idle limit rules p q reply =
     (now : ℕ) × (end : DrainEnd) × (reply ≡ answer.Drain end)
     × Drains view rules (record { ends_idle = ends_idle; until = now + limit; most = rules.most_turns }) now (following p (Shown now)) q end
 
 -- A drain, and then a reply that says how it ended, which is sent like this.
 pub record DrainSent {D : Type 0} (sends_so : Sending D) (view : D → View) (ends_idle : Bool) (limit : ℕ) (rules : Rules)
-    (p q : Spot D) : Type 0 where
+    (p q : SessionView D) : Type 0 where
   pub reply : LineReply
-  pub noticed : Spot D
+  pub noticed : SessionView D
   pub drains : DrainsFor view ends_idle limit rules p noticed reply
   pub sends_all : sends_so noticed q (Answered reply ∷ [])
 
 -- An open executor serves a request: the clock is read, a due tidy is made, and then the request is served. If a disk fault closed the
 -- executor in the tidy, the request is refused for that and nothing else is done.
 pub record ServesNow {D : Type 0} (view : D → View) (rules : Rules) (request : Request)
-    (p q : Spot D) (reply : LineReply) : Type 0 where
+    (p q : SessionView D) (reply : LineReply) : Type 0 where
   pub now : ℕ
   pub middle : ExecutorView D
   pub given : Reply
@@ -112,13 +112,13 @@ pub record ServesNow {D : Type 0} (view : D → View) (rules : Rules) (request :
   pub closes : q.executor.is_open ≡ false ↔ (given ≡ Refused refusal.Disk)
 
 -- how a tidy ended that was asked for
-abbrev pub TidiesNow : {D : Type 0} → (D → View) → Spot D → Spot D → LineReply → Type 0
+abbrev pub TidiesNow : {D : Type 0} → (D → View) → SessionView D → SessionView D → LineReply → Type 0
 TidiesNow view p q reply =
     (end : TidyEnd) × (reply ≡ answer.Tidy end) × Tidies view p.executor q.executor end × (q ≡ moved p q.executor)
 
 -- the reply of an open executor to a line: from the spot at which the line is taken to that at which the reply is sent
-abbrev pub IsOpenReply : {D : Type 0} → (D → View) → Source → Rules → Spot D
-    → Spot D → Result Line Refusal → LineReply → Type 0
+abbrev pub IsOpenReply : {D : Type 0} → (D → View) → Source → Rules → SessionView D
+    → SessionView D → Result Line Refusal → LineReply → Type 0
 IsOpenReply view source rules p q (Ok (line.Request request)) reply = ServesNow view rules request p q reply
 IsOpenReply view source rules p q (Ok (line.Drain limit)) reply = DrainsFor view true limit rules p q reply
 IsOpenReply view source rules p q (Ok (line.Watch limit)) reply = DrainsFor view false limit rules p q reply
@@ -133,6 +133,6 @@ IsOpenReply view source rules p q (Err why) reply = (reply ≡ refused why) × (
 
 -- the reply of an executor, open or closed
 pub record IsReply {D : Type 0} (view : D → View) (source : Source) (rules : Rules)
-    (p q : Spot D) (found : Result Line Refusal) (reply : LineReply) : Type 0 where
+    (p q : SessionView D) (found : Result Line Refusal) (reply : LineReply) : Type 0 where
   pub while_open : p.executor.is_open ≡ true → IsOpenReply view source rules p q found reply
   pub once_closed : p.executor.is_open ≡ false → IsClosedReply source found reply × (q ≡ p)

@@ -21,24 +21,24 @@ use Rattle.exec_session.specs.Reports.{ReadyBreaks, ReportBreaks, SendsReady, Se
 use Rattle.exec_session.specs.Rules.{Rules}
 use Rattle.exec_session.specs.Polls.{Lines}
 use Rattle.exec_session.specs.Runs.{Finishes, MakesTurns, MayGoOn, MayTurn, NewsSo, OwnTurn, Reaches, of_command}
-use Rattle.exec_session.specs.Spots.{MayBreakOff, Position, Spot, SendsPart, following}
+use Rattle.exec_session.specs.SessionViews.{MayBreakOff, SessionPosition, SessionView, SendsPart, following}
 use Rattle.exec_session.specs.Steps.{Steps}
 
 -- A session broke off in an own turn: the client received a prefix of its notices, or of the line that says how it ended.
-pub data OwnTurnBreaks {D : Type 0} (view : D → View) (rules : Rules) (before : TurnEnd) (p q : Spot D) : Type 0 where
+pub data OwnTurnBreaks {D : Type 0} (view : D → View) (rules : Rules) (before : TurnEnd) (p q : SessionView D) : Type 0 where
   in_notices : (now : ℕ) (end : TurnEnd) → TurnReceived (SendsPart rules.form) view rules now (following p (Shown now)) q end
       → OwnTurnBreaks view rules before p q
-  in_end : (now : ℕ) (end : TurnEnd) (noticed : Spot D) → MakesTurn view rules now (following p (Shown now)) noticed end
+  in_end : (now : ℕ) (end : TurnEnd) (noticed : SessionView D) → MakesTurn view rules now (following p (Shown now)) noticed end
       → NewsSo (SendsPart rules.form) before end noticed q → OwnTurnBreaks view rules before p q
 
 -- a session broke off in answering a line: in the reply, or, if the executor is open, before it
-abbrev pub AnswerBreaks : {D : Type 0} → (D → View) → Source → Rules → Result Line Refusal → Spot D → Spot D → Type 0
+abbrev pub AnswerBreaks : {D : Type 0} → (D → View) → Source → Rules → Result Line Refusal → SessionView D → SessionView D → Type 0
 AnswerBreaks view source rules found p q =
     AnswersSo (SendsPart rules.form) view source rules found p q
     ⊎ ((p.executor.is_open ≡ true) × ReplyBreaks view rules p q found)
 
 -- a line is answered, or its answer breaks off
-abbrev pub AnswersLine : {D E : Type 0} → (D → View) → Source → Rules → Result Line Refusal → Position D → Position D
+abbrev pub AnswersLine : {D E : Type 0} → (D → View) → Source → Rules → Result Line Refusal → SessionPosition D → SessionPosition D
     → Result Unit E → Type 0
 AnswersLine view source rules found p q result =
     Steps (Answers view source rules found p.at) (AnswerBreaks view source rules found p.at) p q result
@@ -47,42 +47,42 @@ AnswersLine view source rules found p q result =
 -- prefix: it asked something that failed; or it answered the next line, or a drain's turns up to one of them, or a group commit; or it
 -- made a turn, or sent that a disk fault ends it, or made an orderly end.
 pub data BreaksIn {D : Type 0} (view : D → View) (source : Source) (rules : Rules) (own : OwnTurn) (lines : Lines)
-    (m : Position D) (q : Spot D) : Type 0 where
+    (m : SessionPosition D) (q : SessionView D) : Type 0 where
   at_once : q ≡ m.at → BreaksIn view source rules own lines m q
   in_event : (event : IoEvent) → is_failure event ≡ true → q ≡ following m.at event → BreaksIn view source rules own lines m q
-  in_line : (found : Result Line Refusal) → lines ≡ found ∷ [] → MayGoOn rules.way m.at.executor
+  in_line : (found : Result Line Refusal) → lines ≡ found ∷ [] → MayGoOn rules.mode m.at.executor
       → AnswerBreaks view source rules found m.at q → BreaksIn view source rules own lines m q
   in_batch : (commands : List Command) (others : Lines) → lines ≡ map of_command commands ++ others → m.at.executor.is_open ≡ true
       → BatchBreaks view rules commands m.at q → BreaksIn view source rules own lines m q
-  in_own_turn : MayTurn rules.way own lines m.at → OwnTurnBreaks view rules own.end m.at q
+  in_own_turn : MayTurn rules.mode own lines m.at → OwnTurnBreaks view rules own.end m.at q
       → BreaksIn view source rules own lines m q
-  in_fault : MakesTurns rules.way → m.at.executor.is_open ≡ false → SendsPart rules.form m.at q (ended Disk ∷ [])
+  in_fault : MakesTurns rules.mode → m.at.executor.is_open ≡ false → SendsPart rules.form m.at q (ended Disk ∷ [])
       → BreaksIn view source rules own lines m q
-  in_leave : MakesTurns rules.way → lines ≡ Ok line.Leave ∷ [] → m.at.executor.is_open ≡ true → LeaveBreaks view rules m.at q
+  in_leave : MakesTurns rules.mode → lines ≡ Ok line.Leave ∷ [] → m.at.executor.is_open ≡ true → LeaveBreaks view rules m.at q
       → BreaksIn view source rules own lines m q
 
 -- Line after line was answered, up to a position after which the session broke off: the last question failed, or the loops have gone
 -- round as often as they can.
-pub record BreaksOff {D : Type 0} (view : D → View) (source : Source) (rules : Rules) (p : Position D) (q : Spot D) : Type 0 where
+pub record BreaksOff {D : Type 0} (view : D → View) (source : Source) (rules : Rules) (p : SessionPosition D) (q : SessionView D) : Type 0 where
   pub own : OwnTurn
   pub count : ℕ
   pub lines : Lines
-  pub last : Position D
+  pub last : SessionPosition D
   pub reached : Reaches view source rules p own count lines last
   pub breaks : BreaksIn view source rules own lines last q
   pub cause : MayBreakOff q.events
 
 -- a session finished, or broke off before
-abbrev pub EndsOrBreaks : {D E : Type 0} → (D → View) → Source → Rules → Position D → Position D → Result Unit E → Type 0
+abbrev pub EndsOrBreaks : {D E : Type 0} → (D → View) → Source → Rules → SessionPosition D → SessionPosition D → Result Unit E → Type 0
 EndsOrBreaks view source rules p q (Ok done) = Finishes view source rules p q
 EndsOrBreaks view source rules p q (Err fault) = BreaksOff view source rules p q.at
 
 -- A session broke off while it sent the report, or that it is ready, or after that.
 pub data SessionBreaks {D N : Type 0} (view : D → View) (source : Source) (rules : Rules) (report : Report N)
-    (p : Position D) (q : Spot D) : Type 0 where
+    (p : SessionPosition D) (q : SessionView D) : Type 0 where
   in_report : ReportBreaks rules.form report p.at q → SessionBreaks view source rules report p q
-  in_ready : (opening_report : Spot D) → SendsReport rules.form report p.at opening_report
-      → ReadyBreaks rules.way rules.form opening_report q → SessionBreaks view source rules report p q
-  after_ready : (opening_report begun : Spot D) → SendsReport rules.form report p.at opening_report
-      → SendsReady rules.way rules.form opening_report begun
+  in_ready : (opening_report : SessionView D) → SendsReport rules.form report p.at opening_report
+      → ReadyBreaks rules.mode rules.form opening_report q → SessionBreaks view source rules report p q
+  after_ready : (opening_report begun : SessionView D) → SendsReport rules.form report p.at opening_report
+      → SendsReady rules.mode rules.form opening_report begun
       → BreaksOff view source rules (record p { at = begun }) q → SessionBreaks view source rules report p q

@@ -11,39 +11,39 @@ use Rattle.exec_session.specs.declared.drain.Terms.{Terms}
 use Rattle.exec_session.specs.Answers.{DrainSent}
 use Rattle.exec_session.specs.Drains.{GoesOn, MakesTurn, TurnReceived}
 use Rattle.exec_session.specs.Rules.{Rules}
-use Rattle.exec_session.specs.Spots.{Pauses, Spot, SendsPart, following}
+use Rattle.exec_session.specs.SessionViews.{Pauses, SessionView, SendsPart, following}
 use Rattle.exec_session.specs.Together.{TogetherReceived}
 
 -- a turn at this time broke off in its notices
-abbrev pub TurnBreaks : {D : Type 0} → (D → View) → Rules → ℕ → Spot D → Spot D → Type 0
+abbrev pub TurnBreaks : {D : Type 0} → (D → View) → Rules → ℕ → SessionView D → SessionView D → Type 0
 TurnBreaks view rules now p q = (end : TurnEnd) × TurnReceived (SendsPart rules.form) view rules now p q end
 
 -- A drain broke off in a turn, of whose notices a prefix was written, or after one, where nobody read the output any more; or its loop
 -- has gone round as often as it can.
-pub data DrainBreaks {D : Type 0} (view : D → View) (rules : Rules) (t : Terms) (start : ℕ) (p q : Spot D) : Type 0 where
-  in_turn : (turns now : ℕ) (m : Spot D) (end : TurnEnd) → GoesOn view rules t start p turns now m
+pub data DrainBreaks {D : Type 0} (view : D → View) (rules : Rules) (t : Terms) (start : ℕ) (p q : SessionView D) : Type 0 where
+  in_turn : (turns now : ℕ) (m : SessionView D) (end : TurnEnd) → GoesOn view rules t start p turns now m
       → TurnReceived (SendsPart rules.form) view rules now m q end → DrainBreaks view rules t start p q
-  unheard : (turns now : ℕ) (m reported : Spot D) (end : TurnEnd) → GoesOn view rules t start p turns now m
+  unheard : (turns now : ℕ) (m reported : SessionView D) (end : TurnEnd) → GoesOn view rules t start p turns now m
       → MakesTurn view rules now m reported end → Pauses start now false reported q → DrainBreaks view rules t start p q
   spent : (turns now : ℕ) → GoesOn view rules t start p turns now q → DrainBreaks view rules t start p q
 
 -- the same of a drain of at most this many milliseconds from the next clock reading on
-abbrev pub DrainBreaksFor : {D : Type 0} → (D → View) → Bool → ℕ → Rules → Spot D → Spot D → Type 0
+abbrev pub DrainBreaksFor : {D : Type 0} → (D → View) → Bool → ℕ → Rules → SessionView D → SessionView D → Type 0
 DrainBreaksFor view ends_idle limit rules p q =
     (now : ℕ) × DrainBreaks view rules (record { ends_idle = ends_idle; until = now + limit; most = rules.most_turns }) now (following p (Shown now)) q
 
 -- the same, or its reply broke off
-abbrev pub DrainEndsEarly : {D : Type 0} → (D → View) → Bool → ℕ → Rules → Spot D → Spot D → Type 0
+abbrev pub DrainEndsEarly : {D : Type 0} → (D → View) → Bool → ℕ → Rules → SessionView D → SessionView D → Type 0
 DrainEndsEarly view ends_idle limit rules p q =
     DrainSent (SendsPart rules.form) view ends_idle limit rules p q ⊎ DrainBreaksFor view ends_idle limit rules p q
 
 -- An open executor broke off in answering a line before the reply was sent: only a drain or a watch can.
-abbrev pub ReplyBreaks : {D : Type 0} → (D → View) → Rules → Spot D → Spot D → Result Line Refusal → Type 0
+abbrev pub ReplyBreaks : {D : Type 0} → (D → View) → Rules → SessionView D → SessionView D → Result Line Refusal → Type 0
 ReplyBreaks view rules p q (Ok (line.Drain limit)) = DrainBreaksFor view true limit rules p q
 ReplyBreaks view rules p q (Ok (line.Watch limit)) = DrainBreaksFor view false limit rules p q
 ReplyBreaks view rules p q _ = ⊥
 
 -- a group commit was answered, and a prefix of its replies was written
-abbrev pub BatchBreaks : {D : Type 0} → (D → View) → Rules → List Command → Spot D → Spot D → Type 0
+abbrev pub BatchBreaks : {D : Type 0} → (D → View) → Rules → List Command → SessionView D → SessionView D → Type 0
 BatchBreaks view rules [] p q = ⊥
 BatchBreaks view rules (first ∷ others) p q = TogetherReceived (SendsPart rules.form) view rules (first ∷ others) p q

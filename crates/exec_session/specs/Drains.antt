@@ -12,12 +12,12 @@ use Rattle.exec_client.specs.Sends.{noticed}
 use Rattle.exec_trace.specs.Events.{last_shown}
 use Rattle.exec_trace.specs.declared.event.IoEvent.TheVariants.{Shown}
 use Rattle.exec_session.specs.Rules.{Rules, MakesRoom}
-use Rattle.exec_session.specs.Spots.{Pauses, Spot, Sending, SendsAll, following, moved}
+use Rattle.exec_session.specs.SessionViews.{Pauses, SessionView, Sending, SendsAll, following, moved}
 use Rattle.exec_session.specs.declared.drain.Terms.{Terms}
 
 -- A turn at this time, the last clock reading: the book is emptied, a due tidy is made, then the turn, and its notices are sent like
 -- this. If a disk fault closed the executor in the tidy, no turn is made and nothing is sent.
-pub record TurnReceived {D : Type 0} (sends_so : Sending D) (view : D → View) (rules : Rules) (now : ℕ) (p q : Spot D)
+pub record TurnReceived {D : Type 0} (sends_so : Sending D) (view : D → View) (rules : Rules) (now : ℕ) (p q : SessionView D)
     (end : TurnEnd) : Type 0 where
   pub shown : last_shown p.events ≡ Some now
   pub middle : ExecutorView D
@@ -27,13 +27,13 @@ pub record TurnReceived {D : Type 0} (sends_so : Sending D) (view : D → View) 
   pub fails : middle.is_open ≡ false → (end ≡ Disk) × (q ≡ moved p middle)
 
 -- the client receives all of them
-abbrev pub MakesTurn : {D : Type 0} → (D → View) → Rules → ℕ → Spot D → Spot D → TurnEnd → Type 0
+abbrev pub MakesTurn : {D : Type 0} → (D → View) → Rules → ℕ → SessionView D → SessionView D → TurnEnd → Type 0
 MakesTurn view rules now p q end = TurnReceived (SendsAll rules.form) view rules now p q end
 
 -- After a turn at the second time, in a drain since the first: a short pause, then the client still reads, and then the clock shows the
 -- third time.
-abbrev pub Rests : {D : Type 0} → ℕ → ℕ → Spot D → Spot D → ℕ → Type 0
-Rests {D} start now p q after = (m : Spot D) × Pauses start now true p m × (q ≡ following m (Shown after))
+abbrev pub Rests : {D : Type 0} → ℕ → ℕ → SessionView D → SessionView D → ℕ → Type 0
+Rests {D} start now p q after = (m : SessionView D) × Pauses start now true p m × (q ≡ following m (Shown after))
 
 -- How a drain ends after this number of turns, the last of which ended like this, with the executor idle or not, at this time; `None`
 -- where it goes on.
@@ -50,21 +50,21 @@ end_at t turns now end e = end_after t turns now end (not (any_busy e.state))
 -- This many turns were made, none of which ended the drain, each at the clock reading after the one before. The first was at the start,
 -- and the next will be at this time.
 pub data GoesOn {D : Type 0} (view : D → View) (rules : Rules) (t : Terms) (start : ℕ)
-    (p : Spot D) : ℕ → ℕ → Spot D → Type 0 where
+    (p : SessionView D) : ℕ → ℕ → SessionView D → Type 0 where
   at_start : GoesOn view rules t start p 0 start p
-  further : (turns now after : ℕ) (m reported q : Spot D) (end : TurnEnd)
+  further : (turns now after : ℕ) (m reported q : SessionView D) (end : TurnEnd)
       → GoesOn view rules t start p turns now m → MakesTurn view rules now m reported end → Rests start now reported q after
       → end_at t (turns + 1) after end reported.executor ≡ None
       → GoesOn view rules t start p (turns + 1) after q
 
 -- A whole drain from this start: turns after which it goes on, and the one that ends it.
 pub record Drains {D : Type 0} (view : D → View) (rules : Rules) (t : Terms) (start : ℕ)
-    (p q : Spot D) (end : DrainEnd) : Type 0 where
+    (p q : SessionView D) (end : DrainEnd) : Type 0 where
   pub turns : ℕ
   pub now : ℕ
   pub after : ℕ
-  pub last : Spot D
-  pub reported : Spot D
+  pub last : SessionView D
+  pub reported : SessionView D
   pub turn_end : TurnEnd
   pub gone_on : GoesOn view rules t start p turns now last
   pub made : MakesTurn view rules now last reported turn_end

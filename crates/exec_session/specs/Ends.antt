@@ -14,21 +14,21 @@ use Rattle.exec_session.specs.Breaks.{SessionBreaks}
 use Rattle.exec_session.specs.Reports.{SendsReady, SendsReport}
 use Rattle.exec_session.specs.Rules.{Rules}
 use Rattle.exec_session.specs.Runs.{Finishes}
-use Rattle.exec_session.specs.Spots.{Position, Spot, position, spot}
+use Rattle.exec_session.specs.SessionViews.{SessionPosition, SessionView, session_position, session_view}
 
 -- The report is sent first, and in `serve` the line that the session is ready; then all lines are answered, or in `serve` a disk fault
 -- ends the session.
 pub record Runs {D N : Type 0} (view : D → View) (source : Source) (rules : Rules) (report : Report N)
-    (p q : Position D) : Type 0 where
-  pub opening_report : Spot D
+    (p q : SessionPosition D) : Type 0 where
+  pub opening_report : SessionView D
   pub report_first : SendsReport rules.form report p.at opening_report
-  pub begun : Spot D
-  pub ready : SendsReady rules.way rules.form opening_report begun
+  pub begun : SessionView D
+  pub ready : SendsReady rules.mode rules.form opening_report begun
   pub lines : Finishes view source rules (record p { at = begun }) q
 
 -- how a session from one position to another ends
-abbrev pub EndsAs : {D N T : Type 0} → (D → View) → Source → Rules → Report N → Position D
-    → Position D → Result T Fault → Type 0
+abbrev pub EndsAs : {D N T : Type 0} → (D → View) → Source → Rules → Report N → SessionPosition D
+    → SessionPosition D → Result T Fault → Type 0
 EndsAs view source rules report p q (Ok done) = Runs view source rules report p q × (q.at.executor.is_open ≡ true)
 EndsAs view source rules report p q (Err Disk) =
     Runs view source rules report p q × (q.at.executor.is_open ≡ false)
@@ -39,9 +39,9 @@ EndsAs view source rules report p q (Err _) = ⊥
 -- A session that begins at this position ended, and its edge shows this. At its end all agent processes are given up, and the agents and
 -- the disk are given back.
 pub record Ended {D C N : Type 0} (view : D → View) (tend : C → ChildrenView) (source : Source) (rules : Rules) (report : Report N)
-    (p : Position D) (edge : EdgeView D) (ended : Result Unit Fault) (disk : D) (children : C) : Type 0 where
+    (p : SessionPosition D) (edge : EdgeView D) (ended : Result Unit Fault) (disk : D) (children : C) : Type 0 where
   pub last : ExecutorView D
-  pub ends : EndsAs view source rules report p (position (spot last edge.client_view edge.events) edge.left) ended
+  pub ends : EndsAs view source rules report p (session_position (session_view last edge.client_view edge.events) edge.left) ended
   pub disk_is : disk ≡ last.disk
   pub children_are : tend children ≡ given_up last.children
 

@@ -8,9 +8,9 @@ use Rattle.exec_session.specs.Answers.{Source}
 use Rattle.exec_session.specs.Progress.{Answers, AnswersSo}
 use Rattle.exec_session.specs.Rules.{Rules}
 use Rattle.exec_session.specs.Polls.{Lines}
-use Rattle.exec_session.specs.Spots.{MayBreakOff, Spot, SendsPart}
-use Rattle.exec_session.specs.declared.context.Way.{Way}
-use Rattle.exec_session.specs.declared.context.Way.TheVariants.{Run}
+use Rattle.exec_session.specs.SessionViews.{MayBreakOff, SessionView, SendsPart}
+use Rattle.exec_session.specs.declared.context.Mode.{Mode}
+use Rattle.exec_session.specs.declared.context.Mode.TheVariants.{Run}
 use Rattle.exec_session.specs.declared.held.Held.{Held}
 use Rattle.exec_session.specs.declared.held.Held.TheVariants as held
 use Rattle.exec_session.specs.declared.lines.Found.{Found}
@@ -28,18 +28,18 @@ held_lines (Some h) = Ok (asks h) ∷ []
 
 -- In this mode a line may be answered as soon as it is read: in `run` any line; in `serve` any but a question for metadata and the one
 -- that asks for the end of the session.
-abbrev pub MayAnswerAtOnce : Way → Result Line Refusal → Type 0
-MayAnswerAtOnce way (Ok (line.Meta provider agent limit)) = way ≡ Run
-MayAnswerAtOnce way (Ok line.Leave) = way ≡ Run
-MayAnswerAtOnce way _ = ⊤
+abbrev pub MayAnswerAtOnce : Mode → Result Line Refusal → Type 0
+MayAnswerAtOnce mode (Ok (line.Meta provider agent limit)) = mode ≡ Run
+MayAnswerAtOnce mode (Ok line.Leave) = mode ≡ Run
+MayAnswerAtOnce mode _ = ⊤
 
 -- the same of what comes next in the input
-abbrev pub MayTakeAtOnce : Way → Found → Type 0
-MayTakeAtOnce way (found.Line line) = MayAnswerAtOnce way line
-MayTakeAtOnce way _ = ⊤
+abbrev pub MayTakeAtOnce : Mode → Found → Type 0
+MayTakeAtOnce mode (found.Line line) = MayAnswerAtOnce mode line
+MayTakeAtOnce mode _ = ⊤
 
 -- the held line was answered; or its agent has not answered by now and nothing was done; or its reply broke off
-abbrev pub AnswersHeld : {D E : Type 0} → (D → View) → Source → Rules → Held → Spot D → Spot D → Result Bool E → Type 0
+abbrev pub AnswersHeld : {D E : Type 0} → (D → View) → Source → Rules → Held → SessionView D → SessionView D → Result Bool E → Type 0
 AnswersHeld view source rules held p q (Ok true) = Answers view source rules (Ok (asks held)) p q
 AnswersHeld view source rules held p q (Ok false) = q ≡ p
 AnswersHeld view source rules held p q (Err fault) =

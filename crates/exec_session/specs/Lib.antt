@@ -14,7 +14,7 @@ pub mod Reports
 pub mod Rules
 pub mod Progress
 pub mod Runs
-pub mod Spots
+pub mod SessionViews
 pub mod Steps
 pub mod Together
 pub mod Waiting

@@ -9,24 +9,24 @@ use Rattle.exec_commands.specs.declared.notice.NoticeForm.{NoticeForm}
 use Rattle.exec_commands.specs.declared.service.Counts.{Counts}
 use Rattle.exec_commands.specs.declared.reply.LineReply.TheVariants.{Drain, Ready}
 use Rattle.exec_client.specs.SentItem.{Answered, Reported, SentItem}
-use Rattle.exec_session.specs.Spots.{Spot, SendsAll, SendsPart}
-use Rattle.exec_session.specs.declared.context.Way.{Way}
-use Rattle.exec_session.specs.declared.context.Way.TheVariants.{Run, Serve}
+use Rattle.exec_session.specs.SessionViews.{SessionView, SendsAll, SendsPart}
+use Rattle.exec_session.specs.declared.context.Mode.{Mode}
+use Rattle.exec_session.specs.declared.context.Mode.TheVariants.{Run, Serve}
 
 -- the report is that of the opening that gave this executor
 abbrev pub IsReportOf : {D M : Type 0} → ExecutorView D → Report M → Type 0
 IsReportOf x r = x.opening_report ≡ report_of r
 
 -- the report was sent: the interrupted actions, and then the dropped ones
-abbrev pub SendsReport : {D M : Type 0} → NoticeForm → Report M → Spot D → Spot D → Type 0
+abbrev pub SendsReport : {D M : Type 0} → NoticeForm → Report M → SessionView D → SessionView D → Type 0
 SendsReport {D} form r p q =
-    (m : Spot D) × SendsAll form p m (map Reported r.interrupted.items) × SendsAll form m q (map Reported r.dropped.items)
+    (m : SessionView D) × SendsAll form p m (map Reported r.interrupted.items) × SendsAll form m q (map Reported r.dropped.items)
 
 -- the report broke off in the first of these messages, or in the second
-abbrev pub ReportBreaks : {D M : Type 0} → NoticeForm → Report M → Spot D → Spot D → Type 0
+abbrev pub ReportBreaks : {D M : Type 0} → NoticeForm → Report M → SessionView D → SessionView D → Type 0
 ReportBreaks {D} form r p q =
     SendsPart form p q (map Reported r.interrupted.items)
-    ⊎ ((m : Spot D) × SendsAll form p m (map Reported r.interrupted.items) × SendsPart form m q (map Reported r.dropped.items))
+    ⊎ ((m : SessionView D) × SendsAll form p m (map Reported r.interrupted.items) × SendsPart form m q (map Reported r.dropped.items))
 
 -- the number of registered resources, and of lines of the opening's report: of interrupted and of dropped actions
 abbrev pub counts_of : {D : Type 0} → ExecutorView D → Counts
@@ -41,12 +41,12 @@ abbrev pub readied : {D : Type 0} → ExecutorView D → SentItem
 readied x = Answered (Ready (counts_of x))
 
 -- In `serve` the client receives the line that the session is ready; in `run` it is sent nothing.
-abbrev pub SendsReady : {D : Type 0} → Way → NoticeForm → Spot D → Spot D → Type 0
+abbrev pub SendsReady : {D : Type 0} → Mode → NoticeForm → SessionView D → SessionView D → Type 0
 SendsReady Run form p q = q ≡ p
 SendsReady Serve form p q = SendsAll form p q (readied p.executor ∷ [])
 
 -- that line broke off
-abbrev pub ReadyBreaks : {D : Type 0} → Way → NoticeForm → Spot D → Spot D → Type 0
+abbrev pub ReadyBreaks : {D : Type 0} → Mode → NoticeForm → SessionView D → SessionView D → Type 0
 ReadyBreaks Run form p q = ⊥
 ReadyBreaks Serve form p q = SendsPart form p q (readied p.executor ∷ [])
 

@@ -11,12 +11,12 @@ use Rattle.executor.specs.ExecutorView.{ExecutorView}
 use Rattle.executor.specs.TidyCalls.{Tidies}
 use Rattle.exec_commands.specs.declared.notice.NoticeForm.{NoticeForm}
 use Rattle.exec_session.specs.declared.context.SessionContext.{SessionContext}
-use Rattle.exec_session.specs.declared.context.Way.{Way}
+use Rattle.exec_session.specs.declared.context.Mode.{Mode}
 
 -- The mode of a session, the form of its notices, the most turns of a drain, and the first mark, an offset of its journal's tail past
 -- which it tidies by itself; 0 for never.
 pub record Rules : Type 0 where
-  pub way : Way
+  pub mode : Mode
   pub form : NoticeForm
   pub most_turns : ℕ
   pub tidy_at : ℕ
@@ -24,7 +24,7 @@ pub record Rules : Type 0 where
 -- the rules in a context
 abbrev pub rules_of : {M : Type 0} → SessionContext M → Rules
 rules_of context =
-    record { way = context.way; form = context.form; most_turns = context.most_turns; tidy_at = context.tidy_at }
+    record { mode = context.mode; form = context.form; most_turns = context.most_turns; tidy_at = context.tidy_at }
 
 -- the least gain of a tidy, in bytes: a quarter of a part
 abbrev pub worthwhile : ℕ

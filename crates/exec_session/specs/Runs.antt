@@ -11,8 +11,8 @@ use Rattle.ocf_types.specs.declared.reply.TurnEnd.TheVariants.{Disk, Done}
 use Rattle.exec_client.specs.ClientView.{ClientView, IsSent}
 use Rattle.exec_client.specs.MaySend.{IsBacked}
 use Rattle.exec_client.specs.SentItem.{SentItem}
-use Rattle.exec_session.specs.declared.context.Way.{Way}
-use Rattle.exec_session.specs.declared.context.Way.TheVariants.{Run, Serve}
+use Rattle.exec_session.specs.declared.context.Mode.{Mode}
+use Rattle.exec_session.specs.declared.context.Mode.TheVariants.{Run, Serve}
 use Rattle.exec_commands.specs.declared.line.Line.{Line}
 use Rattle.exec_commands.specs.declared.line.Line.TheVariants as line
 use Rattle.exec_session.specs.Answers.{Source}
@@ -26,7 +26,7 @@ use Rattle.exec_session.specs.Polls.{FollowsRead, HasPolled, Lines, MayRead, mis
 use Rattle.exec_session.specs.Reports.{ended}
 use Rattle.exec_session.specs.Rules.{Rules}
 use Rattle.exec_session.specs.Progress.{Answers, PassesLine, ReadsLine}
-use Rattle.exec_session.specs.Spots.{Position, Spot, Sending, SendsAll, following, position}
+use Rattle.exec_session.specs.SessionViews.{SessionPosition, SessionView, Sending, SendsAll, following, session_position}
 use Rattle.exec_session.specs.Together.{AnswersTogether}
 
 -- a client of an executor that was just opened, and is open; it was sent nothing yet
@@ -34,17 +34,17 @@ abbrev pub IsNew : {D : Type 0} → ClientView D → ExecutorView D → Type 0
 IsNew client_view x = (client_view.opened ≡ x) × (client_view.reported ≡ []) × (x.is_open ≡ true)
 
 -- in this mode a session may take a line after this many since its last turn
-abbrev pub MayTake : Way → ℕ → Type 0
+abbrev pub MayTake : Mode → ℕ → Type 0
 MayTake Run n = ⊤
 MayTake Serve n = n < lines_a_turn
 
 -- in this mode a session makes turns by itself
-abbrev pub MakesTurns : Way → Type 0
+abbrev pub MakesTurns : Mode → Type 0
 MakesTurns Run = ⊥
 MakesTurns Serve = ⊤
 
 -- A session may go on: in `serve` only while its executor is open, as a disk fault ends it.
-abbrev pub MayGoOn : {D : Type 0} → Way → ExecutorView D → Type 0
+abbrev pub MayGoOn : {D : Type 0} → Mode → ExecutorView D → Type 0
 MayGoOn Run x = ⊤
 MayGoOn Serve x = x.is_open ≡ true
 
@@ -54,15 +54,15 @@ abbrev pub IsNews : TurnEnd → TurnEnd → Type 0
 IsNews before end = (end ≢ before) × (end ≢ Done) × (end ≢ Disk)
 
 -- if the end of an own turn is news, it is sent like this, and else nothing is sent
-pub data NewsSo {D : Type 0} (sends_so : Sending D) (before end : TurnEnd) (p q : Spot D) : Type 0 where
+pub data NewsSo {D : Type 0} (sends_so : Sending D) (before end : TurnEnd) (p q : SessionView D) : Type 0 where
   news : IsNews before end → sends_so p q (ended end ∷ []) → NewsSo sends_so before end p q
   no_news : (IsNews before end → ⊥) → q ≡ p → NewsSo sends_so before end p q
 
 -- A turn that a session makes by itself after one that ended like this, at this time, the clock reading at its beginning: the client
 -- receives its notices, and its end if that is news.
-pub record MakesOwnTurn {D : Type 0} (view : D → View) (rules : Rules) (before : TurnEnd) (now : ℕ) (p q : Spot D) (end : TurnEnd)
+pub record MakesOwnTurn {D : Type 0} (view : D → View) (rules : Rules) (before : TurnEnd) (now : ℕ) (p q : SessionView D) (end : TurnEnd)
     : Type 0 where
-  pub noticed : Spot D
+  pub noticed : SessionView D
   pub made : MakesTurn view rules now (following p (Shown now)) noticed end
   pub reported : NewsSo (SendsAll rules.form) before end noticed q
 
@@ -71,21 +71,21 @@ abbrev pub of_command : Command → Result Line Refusal
 of_command command = Ok (line.Request (asked.Command command))
 
 -- the next line is read: less is left, and the read is one more event
-abbrev pub read_to : {D : Type 0} → Position D → Option (List ℕ) → Position D
-read_to p left = position (following p.at (Read true)) left
+abbrev pub read_to : {D : Type 0} → SessionPosition D → Option (List ℕ) → SessionPosition D
+read_to p left = session_position (following p.at (Read true)) left
 
 -- A question that a session asks, after these events and with these lines unanswered, on the way to its next line: in `serve` a poll
 -- without a wait; after a read, whether a further line is there; and a read, of a part of a line or of none.
-abbrev pub IsLook : Way → Lines → List IoEvent → IoEvent → Type 0
-IsLook way lines events (Polled millis ready) = MakesTurns way × (millis ≡ 0)
-IsLook way lines events (Peeked has_line) = FollowsRead events
-IsLook way lines events (Read done) = (done ≡ true) × MayRead lines events
-IsLook way lines events _ = ⊥
+abbrev pub IsLook : Mode → Lines → List IoEvent → IoEvent → Type 0
+IsLook mode lines events (Polled millis ready) = MakesTurns mode × (millis ≡ 0)
+IsLook mode lines events (Peeked has_line) = FollowsRead events
+IsLook mode lines events (Read done) = (done ≡ true) × MayRead lines events
+IsLook mode lines events _ = ⊥
 
 -- A question that a session asks while it waits after a turn at the second time, where nothing has ended or begun since the first: a poll
 -- of the input, short or until the first monitor is due, and a second at most; a pause of that length; a clock reading; and whether
 -- anybody still reads the output.
-abbrev pub IsWait : {D : Type 0} → ℕ → ℕ → Spot D → IoEvent → Type 0
+abbrev pub IsWait : {D : Type 0} → ℕ → ℕ → SessionView D → IoEvent → Type 0
 IsWait since now p (Polled millis ready) = MayPause since now p.executor p.events (millis * 1000)
 IsWait since now p (Rested micros) = MayPause since now p.executor p.events micros
 IsWait since now p (Shown moment) = ⊤
@@ -110,7 +110,7 @@ pub record OwnTurn : Type 0 where
   pub misses : ℕ
 
 -- an own turn that ended here, like this, with these lines unanswered
-abbrev pub turned : {D : Type 0} → ℕ → ℕ → TurnEnd → Lines → Spot D → OwnTurn
+abbrev pub turned : {D : Type 0} → ℕ → ℕ → TurnEnd → Lines → SessionView D → OwnTurn
 turned now since end lines p = record {
   now = now;
   since = since;
@@ -123,8 +123,8 @@ turned now since end lines p = record {
 -- After this turn, with these lines unanswered, a session may make another one here: the mode is `serve`, its executor is open, each line
 -- that was read is answered, except one that asks an agent for metadata, and it has polled for lines since, where none was unanswered in
 -- either turn.
-pub record MayTurn {D : Type 0} (way : Way) (own : OwnTurn) (lines : Lines) (p : Spot D) : Type 0 where
-  pub serves : MakesTurns way
+pub record MayTurn {D : Type 0} (mode : Mode) (own : OwnTurn) (lines : Lines) (p : SessionView D) : Type 0 where
+  pub serves : MakesTurns mode
   pub rests : MayRest lines
   pub is_open : p.executor.is_open ≡ true
   pub polled : HasPolled own.reads own.misses (own.lines ++ lines) p.events
@@ -134,81 +134,81 @@ pub record MayTurn {D : Type 0} (way : Way) (own : OwnTurn) (lines : Lines) (p :
 -- between them, and polled for lines after each before the next one. No command waits for a line that is not there. Each clock reading of
 -- an answer or a turn comes after the read of the last line before it. Only in `run` does a session go on once its executor is closed.
 -- The turn is the last own one, and the number counts the lines that were answered or passed over since then.
-pub data Reaches {D : Type 0} (view : D → View) (source : Source) (rules : Rules) (p : Position D)
-    : OwnTurn → ℕ → Lines → Position D → Type 0 where
+pub data Reaches {D : Type 0} (view : D → View) (source : Source) (rules : Rules) (p : SessionPosition D)
+    : OwnTurn → ℕ → Lines → SessionPosition D → Type 0 where
   here : Reaches view source rules p (turned 0 0 Done [] p.at) 0 [] p
-  looks : (own : OwnTurn) (n : ℕ) (lines : Lines) (m : Position D) (event : IoEvent) → Reaches view source rules p own n lines m
-      → IsLook rules.way lines m.at.events event → Reaches view source rules p own n lines (position (following m.at event) m.left)
-  waits : (own : OwnTurn) (n : ℕ) (lines : Lines) (m : Position D) (event : IoEvent) → Reaches view source rules p own n lines m
-      → MayGoOn rules.way m.at.executor → MayRest lines → IsWait own.since own.now m.at event → Reaches view source rules p own n lines (position (following m.at event) m.left)
-  reads : (own : OwnTurn) (n : ℕ) (commands : List Command) (m : Position D) (left : Option (List ℕ)) (found : Result Line Refusal)
-      → Reaches view source rules p own n (map of_command commands) m → MayGoOn rules.way m.at.executor
-      → MayRead (map of_command commands) m.at.events → ReadsLine rules.way m.left left found
+  looks : (own : OwnTurn) (n : ℕ) (lines : Lines) (m : SessionPosition D) (event : IoEvent) → Reaches view source rules p own n lines m
+      → IsLook rules.mode lines m.at.events event → Reaches view source rules p own n lines (session_position (following m.at event) m.left)
+  waits : (own : OwnTurn) (n : ℕ) (lines : Lines) (m : SessionPosition D) (event : IoEvent) → Reaches view source rules p own n lines m
+      → MayGoOn rules.mode m.at.executor → MayRest lines → IsWait own.since own.now m.at event → Reaches view source rules p own n lines (session_position (following m.at event) m.left)
+  reads : (own : OwnTurn) (n : ℕ) (commands : List Command) (m : SessionPosition D) (left : Option (List ℕ)) (found : Result Line Refusal)
+      → Reaches view source rules p own n (map of_command commands) m → MayGoOn rules.mode m.at.executor
+      → MayRead (map of_command commands) m.at.events → ReadsLine rules.mode m.left left found
       → Reaches view source rules p own n (map of_command commands ++ found ∷ []) (read_to m left)
-  passes : (own : OwnTurn) (n : ℕ) (m : Position D) (left : Option (List ℕ)) → Reaches view source rules p own n [] m
-      → MayGoOn rules.way m.at.executor → MayTake rules.way n → PassesLine m.left left
-      → Reaches view source rules p own (n + 1) [] (position m.at left)
-  answers : (own : OwnTurn) (n : ℕ) (found : Result Line Refusal) (m : Position D) (q : Spot D)
-      → Reaches view source rules p own n (found ∷ []) m → MayGoOn rules.way m.at.executor → MayTake rules.way n
-      → Answers view source rules found m.at q → Reaches view source rules p own (n + 1) [] (position q m.left)
-  batch : (own : OwnTurn) (n : ℕ) (first : Command) (others : List Command) (lines : Lines) (m : Position D) (q : Spot D)
+  passes : (own : OwnTurn) (n : ℕ) (m : SessionPosition D) (left : Option (List ℕ)) → Reaches view source rules p own n [] m
+      → MayGoOn rules.mode m.at.executor → MayTake rules.mode n → PassesLine m.left left
+      → Reaches view source rules p own (n + 1) [] (session_position m.at left)
+  answers : (own : OwnTurn) (n : ℕ) (found : Result Line Refusal) (m : SessionPosition D) (q : SessionView D)
+      → Reaches view source rules p own n (found ∷ []) m → MayGoOn rules.mode m.at.executor → MayTake rules.mode n
+      → Answers view source rules found m.at q → Reaches view source rules p own (n + 1) [] (session_position q m.left)
+  batch : (own : OwnTurn) (n : ℕ) (first : Command) (others : List Command) (lines : Lines) (m : SessionPosition D) (q : SessionView D)
       → Reaches view source rules p own n (map of_command (first ∷ others) ++ lines) m → m.at.executor.is_open ≡ true
-      → MayTake rules.way (n + length others) → AnswersTogether view rules (first ∷ others) m.at q
-      → Reaches view source rules p own (n + length others + 1) lines (position q m.left)
-  turn : (own : OwnTurn) (n : ℕ) (lines : Lines) (m : Position D) (q : Spot D) (end : TurnEnd) (now since : ℕ)
-      → Reaches view source rules p own n lines m → MayTurn rules.way own lines m.at → MakesOwnTurn view rules own.end now m.at q end
+      → MayTake rules.mode (n + length others) → AnswersTogether view rules (first ∷ others) m.at q
+      → Reaches view source rules p own (n + length others + 1) lines (session_position q m.left)
+  turn : (own : OwnTurn) (n : ℕ) (lines : Lines) (m : SessionPosition D) (q : SessionView D) (end : TurnEnd) (now since : ℕ)
+      → Reaches view source rules p own n lines m → MayTurn rules.mode own lines m.at → MakesOwnTurn view rules own.end now m.at q end
       → IsQuietSince q.executor.children.book now own.since since
-      → Reaches view source rules p (turned now since end lines q) 0 lines (position q m.left)
+      → Reaches view source rules p (turned now since end lines q) 0 lines (session_position q m.left)
 
 -- the same up to the end of the input
-pub record ReachesEnd {D : Type 0} (view : D → View) (source : Source) (rules : Rules) (p : Position D) (q : Spot D) : Type 0 where
+pub record ReachesEnd {D : Type 0} (view : D → View) (source : Source) (rules : Rules) (p : SessionPosition D) (q : SessionView D) : Type 0 where
   pub own : OwnTurn
   pub count : ℕ
   pub left : Option (List ℕ)
-  pub reached : Reaches view source rules p own count [] (position q left)
+  pub reached : Reaches view source rules p own count [] (session_position q left)
   pub end : IsAtEnd left
-  pub goes_on : MayGoOn rules.way q.executor
+  pub goes_on : MayGoOn rules.mode q.executor
 
 -- the same up to a disk fault that has closed the executor, in `serve`
-pub record ReachesFault {D : Type 0} (view : D → View) (source : Source) (rules : Rules) (p : Position D) (q : Spot D) : Type 0 where
-  pub serves : MakesTurns rules.way
+pub record ReachesFault {D : Type 0} (view : D → View) (source : Source) (rules : Rules) (p : SessionPosition D) (q : SessionView D) : Type 0 where
+  pub serves : MakesTurns rules.mode
   pub own : OwnTurn
   pub count : ℕ
   pub lines : Lines
   pub left : Option (List ℕ)
-  pub reached : Reaches view source rules p own count lines (position q left)
+  pub reached : Reaches view source rules p own count lines (session_position q left)
   pub is_closed : q.executor.is_open ≡ false
 
 -- the same up to a line that asks for the end of the session, in `serve`, and is not answered yet
-pub record ReachesLeave {D : Type 0} (view : D → View) (source : Source) (rules : Rules) (p : Position D) (q : Spot D) : Type 0 where
-  pub serves : MakesTurns rules.way
+pub record ReachesLeave {D : Type 0} (view : D → View) (source : Source) (rules : Rules) (p : SessionPosition D) (q : SessionView D) : Type 0 where
+  pub serves : MakesTurns rules.mode
   pub own : OwnTurn
   pub count : ℕ
   pub left : Option (List ℕ)
-  pub reached : Reaches view source rules p own count (Ok line.Leave ∷ []) (position q left)
+  pub reached : Reaches view source rules p own count (Ok line.Leave ∷ []) (session_position q left)
   pub is_open : q.executor.is_open ≡ true
 
 -- A disk fault ended a session in `serve`: nothing more was done, no line was answered, and the last line that the client received is
 -- that of the fault.
-pub record EndsByFault {D : Type 0} (view : D → View) (source : Source) (rules : Rules) (p : Position D) (q : Spot D) : Type 0 where
-  pub last : Spot D
+pub record EndsByFault {D : Type 0} (view : D → View) (source : Source) (rules : Rules) (p : SessionPosition D) (q : SessionView D) : Type 0 where
+  pub last : SessionView D
   pub fault : ReachesFault view source rules p last
   pub sends_all : SendsAll rules.form last q (ended Disk ∷ [])
 
 -- The last line that was read asked a session in `serve` to end, and it made an orderly end.
-pub record EndsInOrder {D : Type 0} (view : D → View) (source : Source) (rules : Rules) (p : Position D) (q : Spot D) : Type 0 where
-  pub last : Spot D
+pub record EndsInOrder {D : Type 0} (view : D → View) (source : Source) (rules : Rules) (p : SessionPosition D) (q : SessionView D) : Type 0 where
+  pub last : SessionView D
   pub asked : ReachesLeave view source rules p last
   pub leaves : LeavesFrom view rules last q
 
 -- all lines were answered; or, in `serve`, a disk fault ended the session, or a line asked for its end
-abbrev pub Finishes : {D : Type 0} → (D → View) → Source → Rules → Position D → Position D → Type 0
+abbrev pub Finishes : {D : Type 0} → (D → View) → Source → Rules → SessionPosition D → SessionPosition D → Type 0
 Finishes view source rules p q =
     ReachesEnd view source rules p q.at
     ⊎ (EndsByFault view source rules p q.at ⊎ EndsInOrder view source rules p q.at)
 
 -- Calls alone lead from one spot to another, with these messages, which are backed by what the calls recorded.
-pub record GoesByCalls {D : Type 0} (view : D → View) (p q : Spot D) : Type 0 where
+pub record GoesByCalls {D : Type 0} (view : D → View) (p q : SessionView D) : Type 0 where
   pub items : List SentItem
   pub reported : IsSent p.client_view q.client_view items
   pub holds : IsBacked view p.executor q.executor items

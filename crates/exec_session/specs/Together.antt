@@ -9,7 +9,7 @@ use Rattle.executor.specs.ExecutorView.{ExecutorView}
 use Rattle.exec_client.specs.SentItem.{answered}
 use Rattle.exec_trace.specs.declared.event.IoEvent.TheVariants.{Shown}
 use Rattle.exec_session.specs.Rules.{Rules, MakesRoom}
-use Rattle.exec_session.specs.Spots.{Spot, Sending, SendsAll, following, moved}
+use Rattle.exec_session.specs.SessionViews.{SessionView, Sending, SendsAll, following, moved}
 
 -- An open executor serves a group commit at this time: a due tidy is made, and then it takes the commands. If a disk fault closed the
 -- executor in the tidy, each is refused for that and nothing else is done.
@@ -22,18 +22,18 @@ pub record ServesTogether {D : Type 0} (view : D → View) (rules : Rules) (now 
 
 -- The clock is read, and the group commit is served at that time; then only its replies are sent like this, in their order.
 pub record TogetherReceived {D : Type 0} (sends_so : Sending D) (view : D → View) (rules : Rules) (commands : List Command)
-    (p q : Spot D) : Type 0 where
+    (p q : SessionView D) : Type 0 where
   pub now : ℕ
   pub given : List Reply
   pub serves : ServesTogether view rules now commands p.executor q.executor given
   pub sends_all : sends_so (following (moved p q.executor) (Shown now)) q (map answered given)
 
 -- the client receives all of them
-abbrev pub AnswersTogether : {D : Type 0} → (D → View) → Rules → List Command → Spot D → Spot D → Type 0
+abbrev pub AnswersTogether : {D : Type 0} → (D → View) → Rules → List Command → SessionView D → SessionView D → Type 0
 AnswersTogether view rules commands p q = TogetherReceived (SendsAll rules.form) view rules commands p q
 
 -- the commands that wait, if any, are answered as a group commit
-abbrev pub AnswersAll : {D : Type 0} → (D → View) → Rules → List Command → Spot D
-    → Spot D → Type 0
+abbrev pub AnswersAll : {D : Type 0} → (D → View) → Rules → List Command → SessionView D
+    → SessionView D → Type 0
 AnswersAll view rules [] p q = q ≡ p
 AnswersAll view rules (first ∷ others) p q = AnswersTogether view rules (first ∷ others) p q

@@ -18,9 +18,9 @@ use Rattle.exec_session.specs.Progress.{Answers, PassesLine}
 use Rattle.exec_session.specs.Rules.{Rules}
 use Rattle.exec_session.specs.Polls.{IsThere, Lines, misses_in, reads_in}
 use Rattle.exec_session.specs.Runs.{IsWait, MakesTurns, MayGoOn, MayTake, OwnTurn, Reaches, ReachesEnd, ReachesFault, ReachesLeave, of_command}
-use Rattle.exec_session.specs.Spots.{Lasts, MayBreakOff, Position, Spot, following, position}
-use Rattle.exec_session.specs.declared.context.Way.{Way}
-use Rattle.exec_session.specs.declared.context.Way.TheVariants.{Run, Serve}
+use Rattle.exec_session.specs.SessionViews.{Lasts, MayBreakOff, SessionPosition, SessionView, following, session_position}
+use Rattle.exec_session.specs.declared.context.Mode.{Mode}
+use Rattle.exec_session.specs.declared.context.Mode.TheVariants.{Run, Serve}
 use Rattle.exec_session.specs.declared.held.Held.{Held}
 use Rattle.exec_session.specs.declared.lines.Found.{Found}
 use Rattle.exec_session.specs.declared.lines.Found.TheVariants as found
@@ -31,15 +31,15 @@ use Rattle.exec_session.specs.declared.pending.Pending.{Pending}
 -- Where a session is between two lines: its position, the commands that wait, the line after them if it is held, and the part of the next
 -- line that was read.
 pub record Midway (D : Type 0) : Type 0 where
-  pub place : Position D
+  pub point : SessionPosition D
   pub commands : List Command
   pub held : Option Held
   pub kept : List ℕ
 
 -- where a session with this pending input is
-abbrev pub midway : {D : Type 0} → Position D → Pending → Midway D
-midway place pending = record {
-  place = place;
+abbrev pub midway : {D : Type 0} → SessionPosition D → Pending → Midway D
+midway point pending = record {
+  point = point;
   commands = waiting pending.gathered;
   held = pending.held;
   kept = line_bytes pending.buffer;
@@ -47,14 +47,14 @@ midway place pending = record {
 
 -- The lines that were read may stay unanswered: there is capacity for one more command, none waits once the executor is closed, and in
 -- `run` no line is held.
-pub record MayWait {D : Type 0} (way : Way) (s : Midway D) : Type 0 where
+pub record MayWait {D : Type 0} (mode : Mode) (s : Midway D) : Type 0 where
   pub few : length s.commands < most_together
-  pub while_open : s.place.at.executor.is_open ≡ false → s.commands ≡ []
-  pub free : way ≡ Run → s.held ≡ None
+  pub while_open : s.point.at.executor.is_open ≡ false → s.commands ≡ []
+  pub free : mode ≡ Run → s.held ≡ None
 
 -- While commands wait, the next line is there.
 abbrev pub WaitsForThere : {D : Type 0} → Midway D → Type 0
-WaitsForThere s = s.commands ≢ [] → IsThere s.place.at.events
+WaitsForThere s = s.commands ≢ [] → IsThere s.point.at.events
 
 -- nothing of the next line was read, and none is held
 pub record IsBetween {D : Type 0} (s : Midway D) : Type 0 where
@@ -62,8 +62,8 @@ pub record IsBetween {D : Type 0} (s : Midway D) : Type 0 where
   pub free : s.held ≡ None
 
 -- the lines that were read may stay unanswered while the next one is read
-pub record MayStay {D : Type 0} (way : Way) (s : Midway D) : Type 0 where
-  pub waits : MayWait way s
+pub record MayStay {D : Type 0} (mode : Mode) (s : Midway D) : Type 0 where
+  pub waits : MayWait mode s
   pub there : WaitsForThere s
 
 -- A prefix of the next line was read, and is in the buffer; while a line is held, nothing of the next one was.
@@ -74,24 +74,24 @@ IsReadTo (Some held) left kept now = (now ≡ left) × (kept ≡ [])
 -- A session has come this far from a position: the commands that wait and the line that is held were read and are not answered, its last
 -- own turn ended like this, and of at most this many lines since then the others were answered.
 pub record HasCome {D : Type 0} (view : D → View) (source : Source) (rules : Rules)
-    (p : Position D) (own : OwnTurn) (most : ℕ) (s : Midway D) : Type 0 where
+    (p : SessionPosition D) (own : OwnTurn) (most : ℕ) (s : Midway D) : Type 0 where
   pub count : ℕ
   pub few : count + length s.commands ≤ most
   pub left : Option (List ℕ)
-  pub mid : IsReadTo s.held left s.kept s.place.left
+  pub mid : IsReadTo s.held left s.kept s.point.left
   pub reached :
-      Reaches view source rules p own count (map of_command s.commands ++ held_lines s.held) (position s.place.at left)
-  pub goes_on : MayGoOn rules.way s.place.at.executor
+      Reaches view source rules p own count (map of_command s.commands ++ held_lines s.held) (session_position s.point.at left)
+  pub goes_on : MayGoOn rules.mode s.point.at.executor
 
 -- one poll without a wait, or none
-abbrev pub PollsOnce : {D : Type 0} → Position D → Position D → Type 0
-PollsOnce p q = (q ≡ p) ⊎ ((ready : Bool) × (q ≡ position (following p.at (Polled 0 ready)) p.left))
+abbrev pub PollsOnce : {D : Type 0} → SessionPosition D → SessionPosition D → Type 0
+PollsOnce p q = (q ≡ p) ⊎ ((ready : Bool) × (q ≡ session_position (following p.at (Polled 0 ready)) p.left))
 
 -- A session waited after a turn at the second time, where nothing has ended or begun since the first: question after question.
-pub data Waits {D : Type 0} (since now : ℕ) (p : Position D) : Position D → Type 0 where
+pub data Waits {D : Type 0} (since now : ℕ) (p : SessionPosition D) : SessionPosition D → Type 0 where
   still : Waits since now p p
-  more : (m : Position D) (event : IoEvent) → Waits since now p m → IsWait since now m.at event
-      → Waits since now p (position (following m.at event) m.left)
+  more : (m : SessionPosition D) (event : IoEvent) → Waits since now p m → IsWait since now m.at event
+      → Waits since now p (session_position (following m.at event) m.left)
 
 -- the line, if this is one, that is not answered yet
 abbrev pub found_lines : Found → Lines
@@ -107,16 +107,16 @@ IsFound found.End left now = IsAtEnd left
 
 -- A session has come so far that these commands wait, and has read what comes next, which is not answered.
 pub record HasFound {D : Type 0} (view : D → View) (source : Source) (rules : Rules)
-    (p : Position D) (own : OwnTurn) (most : ℕ) (commands : List Command) (found : Found) (q : Position D) : Type 0 where
+    (p : SessionPosition D) (own : OwnTurn) (most : ℕ) (commands : List Command) (found : Found) (q : SessionPosition D) : Type 0 where
   pub count : ℕ
   pub few : count + length commands ≤ most
   pub left : Option (List ℕ)
   pub next : IsFound found left q.left
-  pub reached : Reaches view source rules p own count (map of_command commands ++ found_lines found) (position q.at left)
-  pub goes_on : MayGoOn rules.way q.at.executor
+  pub reached : Reaches view source rules p own count (map of_command commands ++ found_lines found) (session_position q.at left)
+  pub goes_on : MayGoOn rules.mode q.at.executor
 
 -- What was found was answered, or passed over, or is the end of the input, as the result says; or the answer broke off.
-abbrev pub TakesFound : {D E : Type 0} → (D → View) → Source → Rules → Found → Spot D → Spot D → Result Bool E → Type 0
+abbrev pub TakesFound : {D E : Type 0} → (D → View) → Source → Rules → Found → SessionView D → SessionView D → Result Bool E → Type 0
 TakesFound view source rules (found.Line line) p q (Ok has_ended) = (has_ended ≡ false) × Answers view source rules line p q
 TakesFound view source rules found.Empty p q (Ok has_ended) = (has_ended ≡ false) × (q ≡ p)
 TakesFound view source rules found.End p q (Ok has_ended) = (has_ended ≡ true) × (q ≡ p)
@@ -124,59 +124,59 @@ TakesFound view source rules (found.Line line) p q (Err fault) = AnswerBreaks vi
 TakesFound view source rules _ p q (Err fault) = ⊥
 
 -- the session has come this far, or to the end of the input, or to a disk fault, or to the line that asks for its end
-abbrev pub ComesOrEnds : {D : Type 0} → (D → View) → Source → Rules → Position D → OwnTurn → ℕ → Midway D → Taken → Type 0
+abbrev pub ComesOrEnds : {D : Type 0} → (D → View) → Source → Rules → SessionPosition D → OwnTurn → ℕ → Midway D → Taken → Type 0
 ComesOrEnds view source rules p own most s More = HasCome view source rules p own most s
-ComesOrEnds view source rules p own most s End = ReachesEnd view source rules p s.place.at
-ComesOrEnds view source rules p own most s Closed = ReachesFault view source rules p s.place.at
-ComesOrEnds view source rules p own most s Leaves = ReachesLeave view source rules p s.place.at
+ComesOrEnds view source rules p own most s End = ReachesEnd view source rules p s.point.at
+ComesOrEnds view source rules p own most s Closed = ReachesFault view source rules p s.point.at
+ComesOrEnds view source rules p own most s Leaves = ReachesLeave view source rules p s.point.at
 
 -- the same, or it broke off
-abbrev pub Comes : {D E : Type 0} → (D → View) → Source → Rules → Position D → OwnTurn → ℕ → Midway D → Result Taken E → Type 0
+abbrev pub Comes : {D E : Type 0} → (D → View) → Source → Rules → SessionPosition D → OwnTurn → ℕ → Midway D → Result Taken E → Type 0
 Comes view source rules p own most s (Ok taken) = ComesOrEnds view source rules p own most s taken
-Comes view source rules p own most s (Err fault) = BreaksOff view source rules p s.place.at
+Comes view source rules p own most s (Err fault) = BreaksOff view source rules p s.point.at
 
 -- in this mode a session may take a line after at most this many since its last turn
-abbrev pub MayTakeAfter : Way → ℕ → Type 0
-MayTakeAfter way most = (n : ℕ) → n ≤ most → MayTake way n
+abbrev pub MayTakeAfter : Mode → ℕ → Type 0
+MayTakeAfter mode most = (n : ℕ) → n ≤ most → MayTake mode n
 
 -- A step of a session that has found this, with no part of a further line: the log grows; what was read may stay unanswered, and no
 -- further line was begun; and a session that had come so far comes further by it, or ends, or breaks off.
 pub record Takes {D E : Type 0} (view : D → View) (source : Source) (rules : Rules) (found : Found) (s t : Midway D)
     (result : Result Taken E) : Type 0 where
-  pub lasts : Lasts s.place.at t.place.at
-  pub stays : MayStay rules.way t
+  pub lasts : Lasts s.point.at t.point.at
+  pub stays : MayStay rules.mode t
   pub between : IsBetween t
-  pub comes : (p : Position D) (own : OwnTurn) (most : ℕ) → MayTakeAfter rules.way most
-      → HasFound view source rules p own most s.commands found s.place → Comes view source rules p own (most + 1) t result
+  pub comes : (p : SessionPosition D) (own : OwnTurn) (most : ℕ) → MayTakeAfter rules.mode most
+      → HasFound view source rules p own most s.commands found s.point → Comes view source rules p own (most + 1) t result
 
 -- The lines that are there are taken: the log grows, and a session that has taken no line since its last turn comes further, by as many
 -- lines as there may be between two turns, or ends, or breaks off.
 pub record TakesLines {D E : Type 0} (view : D → View) (source : Source) (rules : Rules) (s t : Midway D) (result : Result Taken E)
     : Type 0 where
-  pub lasts : Lasts s.place.at t.place.at
-  pub comes : (p : Position D) (own : OwnTurn) → HasCome view source rules p own 0 s
+  pub lasts : Lasts s.point.at t.point.at
+  pub comes : (p : SessionPosition D) (own : OwnTurn) → HasCome view source rules p own 0 s
       → Comes view source rules p own lines_a_turn t result
 
 -- whether the input has ended, and whether the session goes on: in `serve` it does not once its executor is closed
-abbrev pub IsTaken : {D : Type 0} → Way → ExecutorView D → Bool → Taken → Type 0
-IsTaken way x has_ended More = (has_ended ≡ false) × MayGoOn way x
-IsTaken way x has_ended End = (has_ended ≡ true) × MayGoOn way x
-IsTaken way x has_ended Closed = MakesTurns way × (x.is_open ≡ false)
-IsTaken way x has_ended Leaves = ⊥
+abbrev pub IsTaken : {D : Type 0} → Mode → ExecutorView D → Bool → Taken → Type 0
+IsTaken mode x has_ended More = (has_ended ≡ false) × MayGoOn mode x
+IsTaken mode x has_ended End = (has_ended ≡ true) × MayGoOn mode x
+IsTaken mode x has_ended Closed = MakesTurns mode × (x.is_open ≡ false)
+IsTaken mode x has_ended Leaves = ⊥
 
 -- A round may begin: what was read may stay unanswered, and in `serve` no command waits and the executor is open.
-pub record MayBegin {D : Type 0} (way : Way) (s : Midway D) : Type 0 where
-  pub stays : MayStay way s
-  pub serves : way ≡ Serve → (s.place.at.executor.is_open ≡ true) × (s.commands ≡ [])
+pub record MayBegin {D : Type 0} (mode : Mode) (s : Midway D) : Type 0 where
+  pub stays : MayStay mode s
+  pub serves : mode ≡ Serve → (s.point.at.executor.is_open ≡ true) × (s.commands ≡ [])
 
 -- In `serve` a round begins after a turn, with no line after that; in `run` anywhere.
-abbrev pub IsRound : Way → ℕ → Type 0
+abbrev pub IsRound : Mode → ℕ → Type 0
 IsRound Run most = ⊤
 IsRound Serve most = most ≡ 0
 
 -- Since this turn, which ended like this with these lines unanswered: nothing had ended or begun since that time, and the numbers of
 -- reads and of polls have not fallen.
-pub record IsSince {D : Type 0} (own : OwnTurn) (since : ℕ) (end : TurnEnd) (lines : Lines) (p : Spot D) : Type 0 where
+pub record IsSince {D : Type 0} (own : OwnTurn) (since : ℕ) (end : TurnEnd) (lines : Lines) (p : SessionView D) : Type 0 where
   pub quiet : own.since ≤ since
   pub ended : own.end ≡ end
   pub unanswered : own.lines ≡ lines
@@ -184,21 +184,21 @@ pub record IsSince {D : Type 0} (own : OwnTurn) (since : ℕ) (end : TurnEnd) (l
   pub misses : own.misses ≤ misses_in p.events
 
 -- a session whose last own turn ended like this is at the beginning of a round
-pub record HasComeRound {D : Type 0} (view : D → View) (source : Source) (rules : Rules) (p : Position D) (quiet : ℕ) (end : TurnEnd)
+pub record HasComeRound {D : Type 0} (view : D → View) (source : Source) (rules : Rules) (p : SessionPosition D) (quiet : ℕ) (end : TurnEnd)
     (s : Midway D) : Type 0 where
   pub most : ℕ
   pub own : OwnTurn
-  pub round : IsRound rules.way most
-  pub since : IsSince own quiet end (held_lines s.held) s.place.at
+  pub round : IsRound rules.mode most
+  pub since : IsSince own quiet end (held_lines s.held) s.point.at
   pub come : HasCome view source rules p own most s
 
 -- a round leads to the beginning of the next one, or ends the session, or breaks off
-abbrev pub GoesRound : {D E : Type 0} → (D → View) → Source → Rules → Position D → ℕ → TurnEnd → Midway D → Result Taken E → Type 0
+abbrev pub GoesRound : {D E : Type 0} → (D → View) → Source → Rules → SessionPosition D → ℕ → TurnEnd → Midway D → Result Taken E → Type 0
 GoesRound view source rules p quiet own s (Ok More) = HasComeRound view source rules p quiet own s
-GoesRound view source rules p quiet own s (Ok End) = ReachesEnd view source rules p s.place.at
-GoesRound view source rules p quiet own s (Ok Closed) = ReachesFault view source rules p s.place.at
-GoesRound view source rules p quiet own s (Ok Leaves) = ReachesLeave view source rules p s.place.at
-GoesRound view source rules p quiet own s (Err fault) = BreaksOff view source rules p s.place.at
+GoesRound view source rules p quiet own s (Ok End) = ReachesEnd view source rules p s.point.at
+GoesRound view source rules p quiet own s (Ok Closed) = ReachesFault view source rules p s.point.at
+GoesRound view source rules p quiet own s (Ok Leaves) = ReachesLeave view source rules p s.point.at
+GoesRound view source rules p quiet own s (Err fault) = BreaksOff view source rules p s.point.at
 
 -- where a session is between two rounds: the time since which nothing has ended or begun, and how its last own turn ended
 pub record Stage (D : Type 0) : Type 0 where
@@ -214,8 +214,8 @@ stage at quiet end = record { at = at; quiet = quiet; end = end }
 -- the beginning of this round comes to that of the next, or ends, or breaks off.
 pub record Rounds {D E : Type 0} (view : D → View) (source : Source) (rules : Rules) (s t : Stage D) (result : Result Taken E)
     : Type 0 where
-  pub lasts : Lasts s.at.place.at t.at.place.at
-  pub longer : IfOk result (λ taken. taken ≡ More → length s.at.place.at.events < length t.at.place.at.events)
-  pub begins : IfOk result (λ taken. taken ≡ More → MayBegin rules.way t.at)
-  pub goes : (p : Position D) → HasComeRound view source rules p s.quiet s.end s.at
+  pub lasts : Lasts s.at.point.at t.at.point.at
+  pub longer : IfOk result (λ taken. taken ≡ More → length s.at.point.at.events < length t.at.point.at.events)
+  pub begins : IfOk result (λ taken. taken ≡ More → MayBegin rules.mode t.at)
+  pub goes : (p : SessionPosition D) → HasComeRound view source rules p s.quiet s.end s.at
       → GoesRound view source rules p t.quiet t.end t.at result

@@ -17,12 +17,12 @@ ghost use Rattle.exec_session.specs.Gathered.{replied, waiting};
 ghost use Rattle.exec_session.specs.Held.{AnswersHeld, MayAnswerAtOnce, MayTakeAtOnce};
 ghost use Rattle.exec_session.specs.Progress.{Answers, AnswersSo};
 ghost use Rattle.exec_session.specs.Rules.{rules_of};
-ghost use Rattle.exec_session.specs.Spots.{Keeps, SendsPart};
+ghost use Rattle.exec_session.specs.SessionViews.{Keeps, SendsPart};
 ghost use Rattle.exec_session.specs.Steps.{Sends, Steps};
 ghost use Rattle.exec_session.specs.Together.{AnswersAll};
 ghost use Rattle.exec_session.specs.Waiting.{TakesFound};
 
-use crate::context::{SessionContext, Way};
+use crate::context::{SessionContext, Mode};
 use crate::gathered::Gathered;
 use crate::held::Held;
 use crate::lines::Found;
@@ -54,7 +54,7 @@ fn meta_reply<M: Metadata>(
     agent: &AgentType,
     limit: Option<u32>,
 ) -> LineReply
-    requires runs { context.now.way ≡ Way.Run }
+    requires runs { context.now.mode ≡ Mode.Run }
     ensures { IsMetaReply (M.gives context.now.metadata.now) provider.now agent.now limit result }
 {
     let given = context
@@ -77,7 +77,7 @@ fn closed_tidy() -> LineReply
 
 // The reply to a line once a disk fault has closed the executor.
 fn closed_reply<M: Metadata>(context: &SessionContext<M>, line: &Result<Line, Refusal>) -> LineReply
-    requires at_once { MayAnswerAtOnce context.now.way line.now }
+    requires at_once { MayAnswerAtOnce context.now.mode line.now }
     ensures { IsClosedReply (M.gives context.now.metadata.now) line.now result }
 {
     match line {
@@ -216,7 +216,7 @@ impl<'a, R: Input, D: Disk + Drop, C: Children + Drop, T: Client<D, C>, K: Clock
         limit: Option<u32>,
     ) -> Result<(), Failed>
         requires open { self.old.at.executor.is_open ≡ true }
-        requires runs { context.now.way ≡ Way.Run }
+        requires runs { context.now.mode ≡ Mode.Run }
         ensures answers { AnswersLine D.view (M.gives context.now.metadata.now) (rules_of context.now)
             (Ok (line.Meta provider.now agent.now limit)) self.old self.new result }
     {
@@ -255,7 +255,7 @@ impl<'a, R: Input, D: Disk + Drop, C: Children + Drop, T: Client<D, C>, K: Clock
         line: Result<Line, Refusal>,
     ) -> Result<(), Failed>
         requires open { self.old.at.executor.is_open ≡ true }
-        requires at_once { MayAnswerAtOnce context.now.way line }
+        requires at_once { MayAnswerAtOnce context.now.mode line }
         ensures answers { AnswersLine D.view (M.gives context.now.metadata.now) (rules_of context.now) line
             self.old self.new result }
     {
@@ -286,7 +286,7 @@ impl<'a, R: Input, D: Disk + Drop, C: Children + Drop, T: Client<D, C>, K: Clock
         line: &Result<Line, Refusal>,
     ) -> Result<(), Failed>
         requires closed { self.old.at.executor.is_open ≡ false }
-        requires at_once { MayAnswerAtOnce context.now.way line.now }
+        requires at_once { MayAnswerAtOnce context.now.mode line.now }
         ensures answers { AnswersLine D.view (M.gives context.now.metadata.now) (rules_of context.now) line.now
             self.old self.new result }
     {
@@ -299,7 +299,7 @@ impl<'a, R: Input, D: Disk + Drop, C: Children + Drop, T: Client<D, C>, K: Clock
         context: &SessionContext<M>,
         line: Result<Line, Refusal>,
     ) -> Result<(), Failed>
-        requires at_once { MayAnswerAtOnce context.now.way line }
+        requires at_once { MayAnswerAtOnce context.now.mode line }
         ensures answers { AnswersLine D.view (M.gives context.now.metadata.now) (rules_of context.now) line
             self.old self.new result }
     {
@@ -316,7 +316,7 @@ impl<'a, R: Input, D: Disk + Drop, C: Children + Drop, T: Client<D, C>, K: Clock
         context: &SessionContext<'_, M>,
         found: Found,
     ) -> Result<bool, Failed>
-        requires at_once { MayTakeAtOnce context.now.way found }
+        requires at_once { MayTakeAtOnce context.now.mode found }
         ensures keeps { Keeps self.old self.new }
         ensures takes { TakesFound D.view (M.gives context.now.metadata.now) (rules_of context.now)
             found self.old.at self.new.at result }

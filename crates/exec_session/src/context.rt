@@ -5,7 +5,7 @@ use std::alloc::Global;
 
 /// The mode of a session.
 #[derive(Clone, Copy, Debug, PartialEq, Eq)]
-pub enum Way {
+pub enum Mode {
     /// Answers lines; turns are made only in drains and watches.
     Run,
     /// Also makes turns by itself: one after at most 64 lines, and others while no line is there.
@@ -17,7 +17,7 @@ pub enum Way {
 pub struct SessionContext<'a, M> {
     pub alloc: Global,
     pub metadata: &'a M,
-    pub way: Way,
+    pub mode: Mode,
     /// The form of notices.
     pub form: NoticeForm<'a>,
     /// The most turns of a drain, which makes at least one.

@@ -6,12 +6,12 @@ ghost use Rattle.exec_session.specs.Limits.{most_together};
 ghost use Rattle.exec_session.specs.Polls.{IsThere, reads_in};
 ghost use Rattle.exec_session.specs.Rules.{rules_of};
 ghost use Rattle.exec_session.specs.Runs.{MayGoOn, OwnTurn, of_command};
-ghost use Rattle.exec_session.specs.Spots.{Lasts, Position};
+ghost use Rattle.exec_session.specs.SessionViews.{Lasts, SessionPosition};
 ghost use Rattle.exec_session.specs.Waiting.{Comes, HasCome, HasFound, IsBetween, IsTaken, MayTakeAfter, MayWait, Takes, WaitsForThere, midway};
 ghost use Rattle.exec_session.specs.declared.lines.Found.TheVariants as found;
 ghost use Rattle.exec_session.specs.declared.lines.Taken.TheVariants.{More};
 
-use crate::context::{SessionContext, Way};
+use crate::context::{SessionContext, Mode};
 use crate::held::held_in;
 use crate::lines::{Found, Taken, found_in};
 use crate::metadata::Metadata;
@@ -43,9 +43,9 @@ impl<'a, R: Input, D: Disk + Drop, C: Children + Drop, T: Client<D, C>, K: Clock
 > {
     /// How the session goes on, given whether the input has ended.
     pub fn next_step<M>(&self, context: &SessionContext<'_, M>, has_ended: bool) -> Taken
-        ensures { IsTaken context.now.way self.now.worker.at.executor has_ended result }
+        ensures { IsTaken context.now.mode self.now.worker.at.executor has_ended result }
     {
-        if context.way == Way::Serve && !self.worker.is_open() {
+        if context.mode == Mode::Serve && !self.worker.is_open() {
             Taken::Closed
         } else if has_ended {
             Taken::End
@@ -63,10 +63,10 @@ impl<'a, R: Input, D: Disk + Drop, C: Children + Drop, T: Client<D, C>, K: Clock
         ensures held { self.new.pending.held ≡ self.old.pending.held }
         ensures buffer { self.new.pending.buffer ≡ self.old.pending.buffer }
         ensures goes_on { IfOk result
-            (λ taken. taken ≡ More → MayGoOn context.now.way self.new.worker.at.executor) }
+            (λ taken. taken ≡ More → MayGoOn context.now.mode self.new.worker.at.executor) }
         ensures lasts { Lasts self.old.worker.at self.new.worker.at }
-        ensures takes { (p : Position D) (own : OwnTurn) (most : ℕ)
-            → MayTakeAfter context.now.way most
+        ensures takes { (p : SessionPosition D) (own : OwnTurn) (most : ℕ)
+            → MayTakeAfter context.now.mode most
             → HasCome D.view (M.gives context.now.metadata.now) (rules_of context.now) p own (most + 1)
             (midway self.old.worker self.old.pending)
             → Comes D.view (M.gives context.now.metadata.now) (rules_of context.now) p own (most + 1)
@@ -88,12 +88,12 @@ impl<'a, R: Input, D: Disk + Drop, C: Children + Drop, T: Client<D, C>, K: Clock
         requires few { length (waiting self.old.pending.gathered) < most_together }
         requires between { IsBetween (midway self.old.worker self.old.pending) }
         requires peeked { has_next ≡ true → IsThere self.old.worker.at.events }
-        ensures waits { MayWait context.now.way (midway self.new.worker self.new.pending) }
+        ensures waits { MayWait context.now.mode (midway self.new.worker self.new.pending) }
         ensures there { WaitsForThere (midway self.new.worker self.new.pending) }
         ensures between { IsBetween (midway self.new.worker self.new.pending) }
         ensures lasts { Lasts self.old.worker.at self.new.worker.at }
-        ensures takes { (p : Position D) (own : OwnTurn) (most : ℕ)
-            → MayTakeAfter context.now.way most
+        ensures takes { (p : SessionPosition D) (own : OwnTurn) (most : ℕ)
+            → MayTakeAfter context.now.mode most
             → HasFound D.view (M.gives context.now.metadata.now) (rules_of context.now) p own most
             (waiting self.old.pending.gathered) (found.Line (of_command command)) self.old.worker
             → Comes D.view (M.gives context.now.metadata.now) (rules_of context.now) p own (most + 1)
@@ -112,8 +112,8 @@ impl<'a, R: Input, D: Disk + Drop, C: Children + Drop, T: Client<D, C>, K: Clock
         context: &SessionContext<'_, M>,
         found: Found,
     ) -> Result<Taken, Failed>
-        requires at_once { MayTakeAtOnce context.now.way found }
-        requires waits { MayWait context.now.way (midway self.old.worker self.old.pending) }
+        requires at_once { MayTakeAtOnce context.now.mode found }
+        requires waits { MayWait context.now.mode (midway self.old.worker self.old.pending) }
         requires between { IsBetween (midway self.old.worker self.old.pending) }
         ensures takes { Takes D.view (M.gives context.now.metadata.now) (rules_of context.now) found
             (midway self.old.worker self.old.pending) (midway self.new.worker self.new.pending) result }
@@ -136,8 +136,8 @@ impl<'a, R: Input, D: Disk + Drop, C: Children + Drop, T: Client<D, C>, K: Clock
         found: Found,
         has_next: bool,
     ) -> Result<Taken, Failed>
-        requires at_once { MayTakeAtOnce context.now.way found }
-        requires waits { MayWait context.now.way (midway self.old.worker self.old.pending) }
+        requires at_once { MayTakeAtOnce context.now.mode found }
+        requires waits { MayWait context.now.mode (midway self.old.worker self.old.pending) }
         requires between { IsBetween (midway self.old.worker self.old.pending) }
         requires peeked { has_next ≡ true → IsThere self.old.worker.at.events }
         ensures takes { Takes D.view (M.gives context.now.metadata.now) (rules_of context.now) found
@@ -155,15 +155,15 @@ impl<'a, R: Input, D: Disk + Drop, C: Children + Drop, T: Client<D, C>, K: Clock
     /// incomplete one.
     pub fn take_read<M: Metadata>(&mut self, context: &SessionContext<'_, M>) -> Result<Taken, Failed>
         requires free { self.old.pending.held ≡ None }
-        requires waits { MayWait context.now.way (midway self.old.worker self.old.pending) }
+        requires waits { MayWait context.now.mode (midway self.old.worker self.old.pending) }
         requires there { WaitsForThere (midway self.old.worker self.old.pending) }
-        ensures waits { MayWait context.now.way (midway self.new.worker self.new.pending) }
+        ensures waits { MayWait context.now.mode (midway self.new.worker self.new.pending) }
         ensures there { IfOk result (λ taken. taken ≡ More
             → WaitsForThere (midway self.new.worker self.new.pending)) }
         ensures lasts { Lasts self.old.worker.at self.new.worker.at }
         ensures reads { reads_in self.old.worker.at.events < reads_in self.new.worker.at.events }
-        ensures takes { (p : Position D) (own : OwnTurn) (most : ℕ)
-            → MayTakeAfter context.now.way most
+        ensures takes { (p : SessionPosition D) (own : OwnTurn) (most : ℕ)
+            → MayTakeAfter context.now.mode most
             → HasCome D.view (M.gives context.now.metadata.now) (rules_of context.now) p own most
             (midway self.old.worker self.old.pending)
             → Comes D.view (M.gives context.now.metadata.now) (rules_of context.now) p own (most + 1)
@@ -174,8 +174,8 @@ impl<'a, R: Input, D: Disk + Drop, C: Children + Drop, T: Client<D, C>, K: Clock
         };
         let (mut found, tag) = found_in(context, &self.pending.buffer, next);
         self.pending.buffer.clear();
-        self.worker.note_found(context.way, &mut found, tag);
-        let other = match held_in(context.way, found) {
+        self.worker.note_found(context.mode, &mut found, tag);
+        let other = match held_in(context.mode, found) {
             Ok(held) => {
                 self.pending.held = Some(held);
                 return self.answer_rest(context);

@@ -5,7 +5,7 @@ ghost use Rattle.exec_session.specs.Broken.{DrainBreaks, DrainBreaksFor, DrainEn
 ghost use Rattle.exec_session.specs.Drains.{Drains, end_after};
 ghost use Rattle.exec_session.specs.Leaving.{FinishReceived, LeaveBreaks, LeavesFrom};
 ghost use Rattle.exec_session.specs.Rules.{rules_of};
-ghost use Rattle.exec_session.specs.Spots.{SendsAll, SendsPart};
+ghost use Rattle.exec_session.specs.SessionViews.{SendsAll, SendsPart};
 ghost use Rattle.exec_session.specs.Steps.{Steps, StepsTo};
 ghost use Rattle.exec_trace.specs.Events.{last_shown};
 

@@ -3,7 +3,7 @@ ghost use Rattle.std.specs.Prelude.{◌≡◌, Ok, IfErr, IfOk};
 ghost use Rattle.exec_session.specs.Held.{MayTakeAtOnce, asks};
 ghost use Rattle.exec_session.specs.declared.lines.Found.TheVariants as found;
 
-use crate::context::Way;
+use crate::context::Mode;
 use crate::lines::Found;
 use exec_commands::Line;
 use ocf_types::{AgentType, Provider};
@@ -23,13 +23,13 @@ pub enum Held {
 
 /// The line, if the session holds it in this mode; anything else is given back.
 #[tactic(auto, using(crate::proofs::HeldLemmas::found_at_once))]
-pub fn held_in(way: Way, next: Found) -> Result<Held, Found>
+pub fn held_in(mode: Mode, next: Found) -> Result<Held, Found>
     ensures held { IfOk result (λ held. next ≡ found.Line (Ok (asks held))) }
-    ensures serves { IfOk result (λ _. way ≡ Way.Serve) }
+    ensures serves { IfOk result (λ _. mode ≡ Mode.Serve) }
     ensures same { IfErr result (λ other. other ≡ next) }
-    ensures at_once { IfErr result (λ other. MayTakeAtOnce way other) }
+    ensures at_once { IfErr result (λ other. MayTakeAtOnce mode other) }
 {
-    if way == Way::Run {
+    if mode == Mode::Run {
         return Err(next);
     }
     match next {

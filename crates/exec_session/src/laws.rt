@@ -5,7 +5,7 @@ ghost use Rattle.exec_session.specs.Leaving.{WindsDown};
 ghost use Rattle.exec_session.specs.Rules.{Rules};
 ghost use Rattle.exec_session.specs.Polls.{Lines};
 ghost use Rattle.exec_session.specs.Runs.{GoesByCalls, OwnTurn, Reaches};
-ghost use Rattle.exec_session.specs.Spots.{Position, Spot};
+ghost use Rattle.exec_session.specs.SessionViews.{SessionPosition, SessionView};
 ghost use Rattle.exec_session.specs.declared.drain.Terms.{Terms};
 
 use crate::metadata::Metadata;
@@ -15,19 +15,19 @@ use disk_model::Disk;
 /// notice is backed by what these recorded. So the law of histories of incarnations holds of each session, with a crash after any of its
 /// replies.
 pub fn lemma_lines_are_calls<D: Disk, M: Metadata>(metadata: &M)
-    ensures { (rules : Rules) (own : OwnTurn) (n : ℕ) (lines : Lines) (p q : Position D)
+    ensures { (rules : Rules) (own : OwnTurn) (n : ℕ) (lines : Lines) (p q : SessionPosition D)
         → Reaches D.view (M.gives metadata.now) rules p own n lines q
         → GoesByCalls D.view p.at q.at }
 {}
 
 /// The same of each drain and watch, turn by turn: so that law holds with a crash after any of its turns.
 pub fn lemma_turns_are_calls<D: Disk>()
-    ensures { (rules : Rules) (terms : Terms) (start turns now : ℕ) (p q : Spot D)
+    ensures { (rules : Rules) (terms : Terms) (start turns now : ℕ) (p q : SessionView D)
         → p.executor.is_open ≡ true → GoesOn D.view rules terms start p turns now q
         → GoesByCalls D.view p q }
 {}
 
 /// The same of an orderly end, whose turns begin nothing.
 pub fn lemma_last_turns_are_calls<D: Disk>()
-    ensures { (rules : Rules) (p q : Spot D) → WindsDown D.view rules p q → GoesByCalls D.view p q }
+    ensures { (rules : Rules) (p q : SessionView D) → WindsDown D.view rules p q → GoesByCalls D.view p q }
 {}

@@ -22,7 +22,7 @@ mod turn;
 mod wait;
 mod worker;
 
-pub use context::{SessionContext, Way};
+pub use context::{SessionContext, Mode};
 pub use metadata::Metadata;
 pub use pace::Pace;
 pub use pending::LineRoom;

@@ -6,7 +6,7 @@ ghost use Rattle.exec_session.specs.Answers.{IsReadAs};
 ghost use Rattle.exec_session.specs.Progress.{HasTagOf, ReadsInput};
 ghost use Rattle.exec_session.specs.declared.lines.Found.TheVariants as found;
 
-use crate::context::{SessionContext, Way};
+use crate::context::{SessionContext, Mode};
 use exec_commands::{Line, Tag, read_command, read_strictly};
 use exec_lines::{LineBuffer, Next};
 use growth::Grows;
@@ -49,14 +49,14 @@ pub enum Taken {
 
 // The request in a line, or why it is refused, and the line's tag. In `serve` a line may ask for the end of the session, lines are read
 // more strictly, and they have tags.
-fn read_line(way: Way, alloc: Global, bytes: &[u8]) -> (Result<Line, Refusal>, Option<Tag>)
-    ensures reads { IsReadAs way bytes.now result.0 }
-    ensures tag { HasTagOf way bytes.now (found.Line result.0) result.1 }
+fn read_line(mode: Mode, alloc: Global, bytes: &[u8]) -> (Result<Line, Refusal>, Option<Tag>)
+    ensures reads { IsReadAs mode bytes.now result.0 }
+    ensures tag { HasTagOf mode bytes.now (found.Line result.0) result.1 }
     ensures memory { IfErr result.0 (λ e. e ≡ Refusal.Memory → IsTrue ⟦<Global as Grows>⟧.refuses) }
 {
-    match way {
-        Way::Run => (read_command(alloc, bytes), None),
-        Way::Serve => match read_strictly(alloc, bytes) {
+    match mode {
+        Mode::Run => (read_command(alloc, bytes), None),
+        Mode::Serve => match read_strictly(alloc, bytes) {
             Ok(served) => (Ok(served.line), served.tag),
             Err(refusal) => (Err(refusal), None),
         },
@@ -70,8 +70,8 @@ pub fn found_in<M>(
     next: Next,
 ) -> (Found, Option<Tag>)
     ensures found { (left now : Option (List ℕ)) → IsNext left next (line_bytes buffer.now) now
-        → ReadsInput context.now.way left now result.0 }
-    ensures tag { HasTagOf context.now.way (line_bytes buffer.now) result.0 result.1 }
+        → ReadsInput context.now.mode left now result.0 }
+    ensures tag { HasTagOf context.now.mode (line_bytes buffer.now) result.0 result.1 }
     ensures memory { result.0 ≡ Found.Line (Err Refusal.Memory)
         → IsTrue ⟦<Global as Grows>⟧.refuses }
 {
@@ -82,7 +82,7 @@ pub fn found_in<M>(
             if buffer.line().is_empty() {
                 return (Found::Empty, None);
             }
-            let (line, tag) = read_line(context.way, context.alloc, buffer.line());
+            let (line, tag) = read_line(context.mode, context.alloc, buffer.line());
             (Found::Line(line), tag)
         }
     }

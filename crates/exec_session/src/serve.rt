@@ -8,7 +8,7 @@ ghost use Rattle.exec_session.specs.Runs.{MayGoOn};
 ghost use Rattle.exec_session.specs.Waiting.{PollsOnce, MayWait, TakesLines, midway};
 ghost use Rattle.exec_session.specs.declared.lines.Taken.TheVariants.{More};
 
-use crate::context::{SessionContext, Way};
+use crate::context::{SessionContext, Mode};
 use crate::desk::Desk;
 use crate::held::Held;
 use crate::lines::Taken;
@@ -51,9 +51,9 @@ impl<'a, R: Input, D: Disk + Drop, C: Children + Drop, T: Client<D, C>, K: Clock
 > {
     // Takes the lines that are there, up to one that is held, unless the session ends before. Commands may still wait after it.
     fn take_waiting<M: Metadata>(&mut self, context: &SessionContext<'_, M>) -> Result<Taken, Failed>
-        requires way { context.now.way ≡ Way.Serve }
-        requires waits { MayWait context.now.way (midway self.old.worker self.old.pending) }
-        ensures waits { MayWait context.now.way (midway self.new.worker self.new.pending) }
+        requires mode { context.now.mode ≡ Mode.Serve }
+        requires waits { MayWait context.now.mode (midway self.old.worker self.old.pending) }
+        ensures waits { MayWait context.now.mode (midway self.new.worker self.new.pending) }
         ensures polled { IfOk result (λ taken. taken ≡ More
             → HasPolled (reads_in self.old.worker.at.events) (misses_in self.old.worker.at.events)
             (held_lines self.new.pending.held) self.new.worker.at.events) }
@@ -74,14 +74,14 @@ impl<'a, R: Input, D: Disk + Drop, C: Children + Drop, T: Client<D, C>, K: Clock
 
     // Answers the lines that are there, up to one that is held, unless the session ends before.
     fn answer_waiting<M: Metadata>(&mut self, context: &SessionContext<'_, M>) -> Result<Taken, Failed>
-        requires way { context.now.way ≡ Way.Serve }
-        requires waits { MayWait context.now.way (midway self.old.worker self.old.pending) }
+        requires mode { context.now.mode ≡ Mode.Serve }
+        requires waits { MayWait context.now.mode (midway self.old.worker self.old.pending) }
         ensures none { IfOk result (λ taken. taken ≡ More → waiting self.new.pending.gathered ≡ []) }
         ensures polled { IfOk result (λ taken. taken ≡ More
             → HasPolled (reads_in self.old.worker.at.events) (misses_in self.old.worker.at.events)
             (held_lines self.new.pending.held) self.new.worker.at.events) }
         ensures goes_on { IfOk result
-            (λ taken. taken ≡ More → MayGoOn context.now.way self.new.worker.at.executor) }
+            (λ taken. taken ≡ More → MayGoOn context.now.mode self.new.worker.at.executor) }
         ensures takes { TakesLines D.view (M.gives context.now.metadata.now) (rules_of context.now)
             (midway self.old.worker self.old.pending) (midway self.new.worker self.new.pending) result }
     {
@@ -98,7 +98,7 @@ impl<'a, R: Input, D: Disk + Drop, C: Children + Drop, T: Client<D, C>, K: Clock
         &mut self,
         context: &SessionContext<'_, M>,
     ) -> Result<Taken, Failed>
-        requires way { context.now.way ≡ Way.Serve }
+        requires mode { context.now.mode ≡ Mode.Serve }
         requires open { self.old.worker.at.executor.is_open ≡ true }
         requires none { waiting self.old.pending.gathered ≡ [] }
         ensures none { IfOk result (λ taken. taken ≡ More → waiting self.new.pending.gathered ≡ []) }
@@ -107,7 +107,7 @@ impl<'a, R: Input, D: Disk + Drop, C: Children + Drop, T: Client<D, C>, K: Clock
             (held_lines self.old.pending.held ++ held_lines self.new.pending.held)
             self.new.worker.at.events) }
         ensures goes_on { IfOk result
-            (λ taken. taken ≡ More → MayGoOn context.now.way self.new.worker.at.executor) }
+            (λ taken. taken ≡ More → MayGoOn context.now.mode self.new.worker.at.executor) }
         ensures takes { TakesLines D.view (M.gives context.now.metadata.now) (rules_of context.now)
             (midway self.old.worker self.old.pending) (midway self.new.worker self.new.pending) result }
     {

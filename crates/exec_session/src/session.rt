@@ -8,10 +8,10 @@ ghost use Rattle.exec_session.specs.Pending.{IsClear};
 ghost use Rattle.exec_session.specs.Reports.{IsReportOf};
 ghost use Rattle.exec_session.specs.Rules.{rules_of};
 ghost use Rattle.exec_session.specs.Runs.{IsNew};
-ghost use Rattle.exec_session.specs.Spots.{Lasts, at_of};
+ghost use Rattle.exec_session.specs.SessionViews.{Lasts, at_of};
 ghost use Rattle.exec_session.specs.Waiting.{MayBegin, Rounds, midway, stage};
 
-use crate::context::{SessionContext, Way};
+use crate::context::{SessionContext, Mode};
 use crate::desk::Desk;
 use crate::lines::Taken;
 use crate::metadata::Metadata;
@@ -59,8 +59,8 @@ impl<'a, R: Input, D: Disk + Drop, C: Children + Drop, T: Client<D, C>, K: Clock
 > {
     // Answers the lines that are there, at most 64, and makes a turn; if nothing happened in it, waits for the next line.
     fn serve_round<M: Metadata>(&mut self, context: &SessionContext<'_, M>) -> Result<Taken, Failed>
-        requires way { context.now.way ≡ Way.Serve }
-        requires begins { MayBegin context.now.way (midway self.old.desk.worker self.old.desk.pending) }
+        requires mode { context.now.mode ≡ Mode.Serve }
+        requires begins { MayBegin context.now.mode (midway self.old.desk.worker self.old.desk.pending) }
         ensures rounds { Rounds D.view (M.gives context.now.metadata.now) (rules_of context.now)
             (stage (midway self.old.desk.worker self.old.desk.pending) self.old.pause.since self.old.own)
             (stage (midway self.new.desk.worker self.new.desk.pending) self.new.pause.since self.new.own)
@@ -91,15 +91,15 @@ impl<'a, R: Input, D: Disk + Drop, C: Children + Drop, T: Client<D, C>, K: Clock
 
     // One round. In `run` it is one read, and the answer to the line that is complete then.
     fn round<M: Metadata>(&mut self, context: &SessionContext<'_, M>) -> Result<Taken, Failed>
-        requires begins { MayBegin context.now.way (midway self.old.desk.worker self.old.desk.pending) }
+        requires begins { MayBegin context.now.mode (midway self.old.desk.worker self.old.desk.pending) }
         ensures rounds { Rounds D.view (M.gives context.now.metadata.now) (rules_of context.now)
             (stage (midway self.old.desk.worker self.old.desk.pending) self.old.pause.since self.old.own)
             (stage (midway self.new.desk.worker self.new.desk.pending) self.new.pause.since self.new.own)
             result }
     {
-        match context.way {
-            Way::Run => self.desk.take_read(context),
-            Way::Serve => self.serve_round(context),
+        match context.mode {
+            Mode::Run => self.desk.take_read(context),
+            Mode::Serve => self.serve_round(context),
         }
     }
 
@@ -111,7 +111,7 @@ impl<'a, R: Input, D: Disk + Drop, C: Children + Drop, T: Client<D, C>, K: Clock
         room: LineRoom,
     ) -> Session<'a, R, D, C, T, K>
         requires fresh { IsNew edge.client_view executor }
-        ensures place { result.desk.worker ≡ at_of executor edge.entry }
+        ensures point { result.desk.worker ≡ at_of executor edge.entry }
         ensures clear { IsClear result.desk.pending }
         ensures none { result.own ≡ Done }
         ensures since { result.pause.since ≡ 0 }

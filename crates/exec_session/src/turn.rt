@@ -5,7 +5,7 @@ ghost use Rattle.exec_session.specs.Broken.{TurnBreaks};
 ghost use Rattle.exec_session.specs.Drains.{MakesTurn};
 ghost use Rattle.exec_session.specs.Rules.{rules_of};
 ghost use Rattle.exec_session.specs.Runs.{IsNews, MakesOwnTurn, NewsSo};
-ghost use Rattle.exec_session.specs.Spots.{SendsAll, SendsPart};
+ghost use Rattle.exec_session.specs.SessionViews.{SendsAll, SendsPart};
 ghost use Rattle.exec_session.specs.Steps.{Steps, StepsTo};
 ghost use Rattle.exec_trace.specs.Events.{last_shown};
 

@@ -1,7 +1,7 @@
 //! The wait after a turn of a session in `serve`.
 ghost use Rattle.std.specs.Prelude.{◌≡◌, ◌≤◌, ◌*◌};
 ghost use Rattle.exec_session.specs.Pausing.{IsQuietSince, MayPause};
-ghost use Rattle.exec_session.specs.Spots.{Position, noted};
+ghost use Rattle.exec_session.specs.SessionViews.{SessionPosition, noted};
 ghost use Rattle.exec_session.specs.Waiting.{Waits};
 ghost use Rattle.exec_trace.specs.declared.event.IoEvent.TheVariants.{Asked};
 
@@ -78,7 +78,7 @@ pub fn wait<R: Input, D: Disk + Drop, C: Children + Drop, T: Client<D, C>, K: Cl
     ensures moment { pause.new.moment ≡ pause.old.moment }
     ensures quiet { IsQuietSince worker.old.at.executor.children.book pause.old.moment pause.old.since
         pause.new.since }
-    ensures waits { (m : Position D) × Waits pause.new.since pause.new.moment worker.old m
+    ensures waits { (m : SessionPosition D) × Waits pause.new.since pause.new.moment worker.old m
         × (worker.new ≡ noted m (Asked result)) }
 {
     pause.holds(holds);

@@ -11,10 +11,10 @@ ghost use Rattle.exec_lines.specs.Pieces.{IsMidLine, IsNext};
 ghost use Rattle.exec_session.specs.Pausing.{IsQuietSince};
 ghost use Rattle.exec_session.specs.Progress.{IsNotedAs};
 ghost use Rattle.exec_session.specs.Runs.{IsNew};
-ghost use Rattle.exec_session.specs.Spots.{Pauses, at_of, following, noted, paused, position};
+ghost use Rattle.exec_session.specs.SessionViews.{Pauses, at_of, following, noted, paused, session_position};
 ghost use Rattle.exec_trace.specs.declared.event.IoEvent.TheVariants.{Asked, Polled, Peeked, Read, Shown};
 
-use crate::context::Way;
+use crate::context::Mode;
 use crate::lines::Found;
 use crate::pause::Pause;
 use child_model::Children;
@@ -38,11 +38,11 @@ pub struct Worker<'a, R: Input, D: Disk + Drop, C: Children + Drop, T: Client<D,
 impl<'a, R: Input, D: Disk + Drop, C: Children + Drop, T: Client<D, C>, K: Clock> Model
     for Worker<'a, R, D, C, T, K> {
     ghost use Rattle.exec_client.specs.MaySend.{AllBacked};
-    ghost use Rattle.exec_session.specs.Spots.{Position, at_of};
+    ghost use Rattle.exec_session.specs.SessionViews.{SessionPosition, at_of};
     ghost use Rattle.serde_json.specs.contracts.value.Value as json_value;
     ghost use Rattle.std.specs.Coded.{codes};
 
-    ghost Value = { Position D };
+    ghost Value = { SessionPosition D };
 
     ghost coded = { Prim.hlevel (codes, json_value.the_row.coded) };
 
@@ -148,11 +148,11 @@ impl<'a, R: Input, D: Disk + Drop, C: Children + Drop, T: Client<D, C>, K: Clock
     /// In `serve`, gives the client the tag of a line that was read: the reply to the line has that tag. Where no memory is there for it,
     /// the line is refused.
     #[tactic(auto, using(crate::proofs::ReadyLemmas::noted_same, crate::proofs::ReadyLemmas::noted_refused))]
-    pub fn note_found(&mut self, way: Way, found: &mut Found, tag: Option<Tag>)
+    pub fn note_found(&mut self, mode: Mode, found: &mut Found, tag: Option<Tag>)
         ensures same { self.new ≡ self.old }
-        ensures found { IsNotedAs T.refuses way found.old found.new }
+        ensures found { IsNotedAs T.refuses mode found.old found.new }
     {
-        let (Way::Serve, Found::Line(_)) = (way, &*found) else {
+        let (Mode::Serve, Found::Line(_)) = (mode, &*found) else {
             return;
         };
         let Err(_) = self.edge.note_tag(tag) else {
@@ -163,7 +163,7 @@ impl<'a, R: Input, D: Disk + Drop, C: Children + Drop, T: Client<D, C>, K: Clock
 
     /// Pauses for this many microseconds; does nothing for 0.
     pub fn rest(&mut self, micros: u64)
-        ensures noted { self.new ≡ position (paused self.old.at micros) self.old.left }
+        ensures noted { self.new ≡ session_position (paused self.old.at micros) self.old.left }
     {
         self.edge.rest(micros);
     }

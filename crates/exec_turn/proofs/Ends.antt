@@ -16,16 +16,16 @@ use Rattle.exec_ledger.specs.Actives.{Active}
 use Rattle.exec_ledger.specs.Laws.{due_after_all-append, joined}
 use Rattle.exec_turn.specs.Laws.{then_started}
 use Rattle.exec_turn.specs.Picks.{begins}
-use Rattle.exec_ledger.specs.Pieces.{Effects, Leaves, no_effects}
+use Rattle.exec_ledger.specs.Pieces.{Effects, CrashCondition, no_effects}
 use Rattle.exec_turn.specs.Polls.{polls, results}
 use Rattle.exec_turn.specs.Starts.{Started, refusal_notices, refusals, starts}
 use Rattle.exec_turn.specs.Turn.{IsFinish, IsTurn, PickedAt, TurnReport, TurnKind, Whole}
-use Rattle.exec_ledger.specs.Scenes.{Scene, following, due_after_all, scene}
+use Rattle.exec_ledger.specs.BatchStarts.{BatchStart, following, due_after_all, batch_start}
 use Rattle.exec_turn.specs.Turns.{BeginsBatch, Finishes, PollsBatch, StartsBatch, Turns, TurnsAs, end_of}
 
 -- a turn that did nothing
-pub book_full : {D : Type 0} (kind : TurnKind) (view : D → View) (k : D) (x : Scene) (from : ChildrenView)
-    → kind turn_end.BookFull x no_effects [] → Leaves view k k x.state x.state no_effects
+pub book_full : {D : Type 0} (kind : TurnKind) (view : D → View) (k : D) (x : BatchStart) (from : ChildrenView)
+    → kind turn_end.BookFull x no_effects [] → CrashCondition view k k x.state x.state no_effects
     → TurnsAs kind view k k x x.state x.due from from [] turn_end.BookFull
 book_full kind view k x from does leaves = record {
   effects = no_effects;
@@ -46,9 +46,9 @@ both_entries was first second one two = two ∙ ap (λ (l : List Entry). l ++ se
 module _ {D : Type 0} {view : D → View} {at : ℕ} {k0 k1 : D} {s0 s1 : State} {d0 d1 : Due} {p0 p1 : Position} {a0 a1 : Bool} {from c1 : ChildrenView}
     {n1 : List Notice} where
   -- the batch of results failed
-  results_failed : (kind : TurnKind) {f : DiskFault} (p : PollsBatch view k0 k1 (scene s0 d0 p0 at a0) (scene s1 d1 p1 at a1) from c1 n1 (Err f))
-      → kind turn_end.Disk (scene s0 d0 p0 at a0) (record { entries = polls at p.answers; events = []; pending = results at p.answers }) n1
-      → TurnsAs kind view k0 k1 (scene s0 d0 p0 at a0) s1 d1 from c1 n1 turn_end.Disk
+  results_failed : (kind : TurnKind) {f : DiskFault} (p : PollsBatch view k0 k1 (batch_start s0 d0 p0 at a0) (batch_start s1 d1 p1 at a1) from c1 n1 (Err f))
+      → kind turn_end.Disk (batch_start s0 d0 p0 at a0) (record { entries = polls at p.answers; events = []; pending = results at p.answers }) n1
+      → TurnsAs kind view k0 k1 (batch_start s0 d0 p0 at a0) s1 d1 from c1 n1 turn_end.Disk
   results_failed kind p does = record {
     effects = record { entries = polls at p.answers; events = []; pending = results at p.answers };
     book = p.book;
@@ -61,17 +61,17 @@ module _ {D : Type 0} {view : D → View} {at : ℕ} {k0 k1 : D} {s0 s1 : State}
     cause = λ _. p.cause;
   }
 
-  pub no_results : {f : DiskFault} → PollsBatch view k0 k1 (scene s0 d0 p0 at a0) (scene s1 d1 p1 at a1) from c1 n1 (Err f)
-      → Turns view k0 k1 (scene s0 d0 p0 at a0) s1 d1 from c1 n1 turn_end.Disk
+  pub no_results : {f : DiskFault} → PollsBatch view k0 k1 (batch_start s0 d0 p0 at a0) (batch_start s1 d1 p1 at a1) from c1 n1 (Err f)
+      → Turns view k0 k1 (batch_start s0 d0 p0 at a0) s1 d1 from c1 n1 turn_end.Disk
   no_results p = results_failed IsTurn p (inl (p.answers, p.each, refl, p.reported_is))
 
-  pub finish_failed : {f : DiskFault} → PollsBatch view k0 k1 (scene s0 d0 p0 at a0) (scene s1 d1 p1 at a1) from c1 n1 (Err f)
-      → Finishes view k0 k1 (scene s0 d0 p0 at a0) s1 d1 from c1 n1 turn_end.Disk
+  pub finish_failed : {f : DiskFault} → PollsBatch view k0 k1 (batch_start s0 d0 p0 at a0) (batch_start s1 d1 p1 at a1) from c1 n1 (Err f)
+      → Finishes view k0 k1 (batch_start s0 d0 p0 at a0) s1 d1 from c1 n1 turn_end.Disk
   finish_failed p = results_failed IsFinish p (p.answers, p.each, refl, p.reported_is)
 
   -- the batch of results was recorded, and nothing begins
-  pub finish_done : {u : Unit} → PollsBatch view k0 k1 (scene s0 d0 p0 at a0) (scene s1 d1 p1 at a1) from c1 n1 (Ok u)
-      → Finishes view k0 k1 (scene s0 d0 p0 at a0) s1 d1 from c1 n1 turn_end.Done
+  pub finish_done : {u : Unit} → PollsBatch view k0 k1 (batch_start s0 d0 p0 at a0) (batch_start s1 d1 p1 at a1) from c1 n1 (Ok u)
+      → Finishes view k0 k1 (batch_start s0 d0 p0 at a0) s1 d1 from c1 n1 turn_end.Done
   finish_done p = record {
     effects = record { entries = polls at p.answers; events = results at p.answers; pending = [] };
     book = p.book;
@@ -79,23 +79,23 @@ module _ {D : Type 0} {view : D → View} {at : ℕ} {k0 k1 : D} {s0 s1 : State}
     site = p.site;
     does = (p.answers, p.each, refl, p.reported_is);
     crash = p.crash;
-    due_is = ap (λ (x : Scene). x.due) p.moves;
+    due_is = ap (λ (x : BatchStart). x.due) p.moves;
     whole = λ _. refl;
     cause = λ bad. let none : ⊥ = cc in absurd none;
   }
 
-  module _ {u : Unit} (p : PollsBatch view k0 k1 (scene s0 d0 p0 at a0) (scene s1 d1 p1 at a1) from c1 n1 (Ok u)) where
+  module _ {u : Unit} (p : PollsBatch view k0 k1 (batch_start s0 d0 p0 at a0) (batch_start s1 d1 p1 at a1) from c1 n1 (Ok u)) where
     due1 : d1 ≡ due_after_all s0 d0 (results at p.answers)
-    due1 = ap (λ (x : Scene). x.due) p.moves
+    due1 = ap (λ (x : BatchStart). x.due) p.moves
 
-    picks : (begun : List Active) (end : TurnEnd) → PickedAt end (scene s1 d1 p1 at a1) begun
-        → PickedAt end (following (scene s0 d0 p0 at a0) (results at p.answers)) begun
-    picks begun end picked = subst (λ (x : Scene). PickedAt end x begun) p.moves picked
+    picks : (begun : List Active) (end : TurnEnd) → PickedAt end (batch_start s1 d1 p1 at a1) begun
+        → PickedAt end (following (batch_start s0 d0 p0 at a0) (results at p.answers)) begun
+    picks begun end picked = subst (λ (x : BatchStart). PickedAt end x begun) p.moves picked
 
     -- the batch of begins failed
     pub no_begins : {k2 : D} {s2 : State} {d2 : Due} {p2 : Position} {a2 : Bool} {begun : List Active} {f : DiskFault}
-        → BeginsBatch view k1 k2 (scene s1 d1 p1 at a1) (scene s2 d2 p2 at a2) begun (Err f)
-        → Turns view k0 k2 (scene s0 d0 p0 at a0) s2 d2 from c1 n1 turn_end.Disk
+        → BeginsBatch view k1 k2 (batch_start s1 d1 p1 at a1) (batch_start s2 d2 p2 at a2) begun (Err f)
+        → Turns view k0 k2 (batch_start s0 d0 p0 at a0) s2 d2 from c1 n1 turn_end.Disk
     no_begins {k2 = k2} {s2 = s2} {begun = begun} b =
         let batch = b.recorded in
         let both = joined view k0 k1 k2 s0 s1 s2 (record { entries = polls at p.answers; events = results at p.answers; pending = [] })
@@ -107,7 +107,7 @@ module _ {D : Type 0} {view : D → View} {at : ℕ} {k0 k1 : D} {s0 s1 : State}
           site = p.site;
           does = inr (inl (p.answers, b.end, begun, p.each, picks begun b.end b.picked, refl, p.reported_is));
           crash =
-              subst (λ (did : Effects). Leaves view k0 k2 s0 s2 did) (λ i. record {
+              subst (λ (did : Effects). CrashCondition view k0 k2 s0 s2 did) (λ i. record {
                 entries = append-nil (polls at p.answers) i;
                 events = append-nil (results at p.answers) i;
                 pending = begins at begun;
@@ -118,46 +118,46 @@ module _ {D : Type 0} {view : D → View} {at : ℕ} {k0 k1 : D} {s0 s1 : State}
         }
 
     module _ {k2 : D} {s2 : State} {d2 : Due} {p2 : Position} {a2 : Bool} {begun : List Active} {end : TurnEnd}
-        (b : BeginsBatch view k1 k2 (scene s1 d1 p1 at a1) (scene s2 d2 p2 at a2) begun (Ok end))
+        (b : BeginsBatch view k1 k2 (batch_start s1 d1 p1 at a1) (batch_start s2 d2 p2 at a2) begun (Ok end))
         (lawful : (view k2).honest → Lawful (view k2)) where
       abbrev before : List Event
       before = results at p.answers ++ begins at begun
 
       state1 : s1 ≡ after_all s0 (results at p.answers)
-      state1 = ap (λ (x : Scene). x.state) p.moves
+      state1 = ap (λ (x : BatchStart). x.state) p.moves
 
       due2 : d2 ≡ due_after_all s0 d0 before
-      due2 = ap (λ (x : Scene). x.due) b.recorded.moves
+      due2 = ap (λ (x : BatchStart). x.due) b.recorded.moves
           ∙ ap (λ (s : State). due_after_all s d1 (begins at begun)) state1
           ∙ ap (λ (d : Due). due_after_all (after_all s0 (results at p.answers)) d (begins at begun)) due1
           ∙ sym (due_after_all-append s0 d0 (results at p.answers) (begins at begun))
 
       state2 : s2 ≡ after_all s1 (begins at begun)
-      state2 = ap (λ (x : Scene). x.state) b.recorded.moves
+      state2 = ap (λ (x : BatchStart). x.state) b.recorded.moves
 
       -- the turn ends as the picks did
-      picked : PickedAt end (scene s1 d1 p1 at a1) begun
-      picked = subst (λ (e : TurnEnd). PickedAt e (scene s1 d1 p1 at a1) begun) (sym b.ended) b.picked
+      picked : PickedAt end (batch_start s1 d1 p1 at a1) begun
+      picked = subst (λ (e : TurnEnd). PickedAt e (batch_start s1 d1 p1 at a1) begun) (sym b.ended) b.picked
 
       module _ (answers : List Started) (each : map (λ a. a.what) answers ≡ begun) where
         abbrev entries : List Entry
         entries = polls at p.answers ++ starts (view k2).clock answers
 
-        begun_leaves : Leaves view k0 k2 s0 s2 (record { entries = entries; events = before; pending = [] })
+        begun_leaves : CrashCondition view k0 k2 s0 s2 (record { entries = entries; events = before; pending = [] })
         begun_leaves =
             joined view k0 k1 k2 s0 s1 s2 (record { entries = polls at p.answers; events = results at p.answers; pending = [] })
             (record { entries = starts (view k2).clock answers; events = begins at begun; pending = [] }) refl p.crash
             (then_started view k1 k2 s1 s2 at (view k2).clock begun answers lawful refl each b.recorded.crash)
 
-        ended : (k3 : D) (s3 : State) (es pending : List Event) → Leaves view k2 k3 s2 s3 (record { entries = []; events = es; pending = pending })
-            → Leaves view k0 k3 s0 s3 (record { entries = entries; events = before ++ es; pending = pending })
+        ended : (k3 : D) (s3 : State) (es pending : List Event) → CrashCondition view k2 k3 s2 s3 (record { entries = []; events = es; pending = pending })
+            → CrashCondition view k0 k3 s0 s3 (record { entries = entries; events = before ++ es; pending = pending })
         ended k3 s3 es pending last =
-            subst (λ (l : List Entry). Leaves view k0 k3 s0 s3 (record { entries = l; events = before ++ es; pending = pending }))
+            subst (λ (l : List Entry). CrashCondition view k0 k3 s0 s3 (record { entries = l; events = before ++ es; pending = pending }))
             (append-nil entries)
             (joined view k0 k2 k3 s0 s2 s3 (record { entries = entries; events = before; pending = [] })
             (record { entries = []; events = es; pending = pending }) refl begun_leaves last)
 
-        abbrev all_reported : TurnReport end (scene s0 d0 p0 at a0)
+        abbrev all_reported : TurnReport end (batch_start s0 d0 p0 at a0)
         all_reported = record {
           polled = p.answers;
           begun = begun;
@@ -170,8 +170,8 @@ module _ {D : Type 0} {view : D → View} {at : ℕ} {k0 k1 : D} {s0 s1 : State}
 
       -- the batch of refused starts failed
       pub no_refusals : {k3 : D} {s3 : State} {d3 : Due} {p3 : Position} {a3 : Bool} {c2 : ChildrenView} {n3 : List Notice} {f : DiskFault}
-          → StartsBatch view k2 k3 (scene s2 d2 p2 at a2) (scene s3 d3 p3 at a3) begun c1 c2 n1 n3 (Err f)
-          → Turns view k0 k3 (scene s0 d0 p0 at a0) s3 d3 from c2 n3 turn_end.Disk
+          → StartsBatch view k2 k3 (batch_start s2 d2 p2 at a2) (batch_start s3 d3 p3 at a3) begun c1 c2 n1 n3 (Err f)
+          → Turns view k0 k3 (batch_start s0 d0 p0 at a0) s3 d3 from c2 n3 turn_end.Disk
       no_refusals {k3 = k3} {s3 = s3} x = let batch = x.recorded in record {
         effects = record { entries = entries x.answers x.each; events = before; pending = refusals at x.answers };
         book = both_entries from.book (polls at p.answers) (starts (view k2).clock x.answers) p.book x.book;
@@ -179,7 +179,7 @@ module _ {D : Type 0} {view : D → View} {at : ℕ} {k0 k1 : D} {s0 s1 : State}
         site = x.site ∙ p.site;
         does = inr (inr (end, all_reported x.answers x.each, refl, x.reported_is ∙ p.reported_is));
         crash =
-            subst (λ (l : List Event). Leaves view k0 k3 s0 s3
+            subst (λ (l : List Event). CrashCondition view k0 k3 s0 s3
             (record { entries = entries x.answers x.each; events = l; pending = refusals at x.answers })) (append-nil before)
             (ended x.answers x.each k3 s3 [] (refusals at x.answers) batch.crash);
         due_is = batch.moves.1 ∙ due2;
@@ -191,7 +191,7 @@ module _ {D : Type 0} {view : D → View} {at : ℕ} {k0 k1 : D} {s0 s1 : State}
             omega (arith, increased, old, older);
       }
 
-      is_whole : (e : TurnEnd) (x : Scene) (did : Effects) (reported : List Notice) → PickedAt e (scene s1 d1 p1 at a1) begun → Whole e x did reported
+      is_whole : (e : TurnEnd) (x : BatchStart) (did : Effects) (reported : List Notice) → PickedAt e (batch_start s1 d1 p1 at a1) begun → Whole e x did reported
           → IsTurn e x did reported
       is_whole turn_end.Done x did reported h done = done
       is_whole turn_end.RunsSpent x did reported h done = done
@@ -201,7 +201,7 @@ module _ {D : Type 0} {view : D → View} {at : ℕ} {k0 k1 : D} {s0 s1 : State}
       is_whole turn_end.BookFull x did reported h done = absurd h.0.0
       is_whole turn_end.Disk x did reported h done = absurd h.0.0
 
-      not_disk : (e : TurnEnd) → PickedAt e (scene s1 d1 p1 at a1) begun → e ≡ turn_end.Disk → ⊥
+      not_disk : (e : TurnEnd) → PickedAt e (batch_start s1 d1 p1 at a1) begun → e ≡ turn_end.Disk → ⊥
       not_disk turn_end.Done h is = cc
       not_disk turn_end.RunsSpent h is = cc
       not_disk turn_end.Full h is = cc
@@ -212,11 +212,11 @@ module _ {D : Type 0} {view : D → View} {at : ℕ} {k0 k1 : D} {s0 s1 : State}
 
       -- all batches were recorded
       pub whole_turn : {k3 : D} {s3 : State} {d3 : Due} {p3 : Position} {a3 : Bool} {c2 : ChildrenView} {n3 : List Notice} {z : Unit}
-          → StartsBatch view k2 k3 (scene s2 d2 p2 at a2) (scene s3 d3 p3 at a3) begun c1 c2 n1 n3 (Ok z)
-          → Turns view k0 k3 (scene s0 d0 p0 at a0) s3 d3 from c2 n3 end
+          → StartsBatch view k2 k3 (batch_start s2 d2 p2 at a2) (batch_start s3 d3 p3 at a3) begun c1 c2 n1 n3 (Ok z)
+          → Turns view k0 k3 (batch_start s0 d0 p0 at a0) s3 d3 from c2 n3 end
       whole_turn {k3 = k3} {s3 = s3} {d3 = d3} {n3 = n3} x =
           let batch = x.recorded in
-          let due3 : d3 ≡ due_after_all s0 d0 (before ++ refusals at x.answers) = ap (λ (y : Scene). y.due) batch.moves
+          let due3 : d3 ≡ due_after_all s0 d0 (before ++ refusals at x.answers) = ap (λ (y : BatchStart). y.due) batch.moves
           ∙ ap (λ (s : State). due_after_all s d2 (refusals at x.answers))
           (state2 ∙ ap (λ (s : State). after_all s (begins at begun)) state1
           ∙ sym (after_all-append s0 (results at p.answers) (begins at begun)))
@@ -228,7 +228,7 @@ module _ {D : Type 0} {view : D → View} {at : ℕ} {k0 k1 : D} {s0 s1 : State}
             book = both_entries from.book (polls at p.answers) (starts (view k2).clock x.answers) p.book x.book;
             log = both_entries from.log (polls at p.answers) (starts (view k2).clock x.answers) p.log x.log;
             site = x.site ∙ p.site;
-            does = is_whole end (scene s0 d0 p0 at a0) did n3 picked (
+            does = is_whole end (batch_start s0 d0 p0 at a0) did n3 picked (
               all_reported x.answers x.each,
               refl,
               x.reported_is
@@ -241,19 +241,19 @@ module _ {D : Type 0} {view : D → View} {at : ℕ} {k0 k1 : D} {s0 s1 : State}
           }
 
 -- the same with other notices
-pub polled_reported : {D : Type 0} {view : D → View} {k l : D} {x y : Scene} {from to : ChildrenView} {n m : List Notice} {r : Result Unit DiskFault}
+pub polled_reported : {D : Type 0} {view : D → View} {k l : D} {x y : BatchStart} {from to : ChildrenView} {n m : List Notice} {r : Result Unit DiskFault}
     → m ≡ n → PollsBatch view k l x y from to n r → PollsBatch view k l x y from to m r
 polled_reported {view = view} {k = k} {l = l} {x = x} {y = y} {from = from} {to = to} {r = r} same polled =
     subst (λ (reported : List Notice). PollsBatch view k l x y from to reported r) (sym same) polled
 
 -- a disk fault ends a turn as such
-pub failed_end : {D : Type 0} {view : D → View} {old new : D} {x : Scene} {t : State} {due : Due} {from to : ChildrenView} {reported : List Notice}
+pub failed_end : {D : Type 0} {view : D → View} {old new : D} {x : BatchStart} {t : State} {due : Due} {from to : ChildrenView} {reported : List Notice}
     (r : Result TurnEnd DiskFault) → IsErr r → Turns view old new x t due from to reported turn_end.Disk → Turns view old new x t due from to reported (end_of r)
 failed_end (Ok end) bad turns = let none : ⊥ = cc in absurd none
 failed_end (Err f) bad turns = turns
 
 -- picks end neither with a full book nor with a disk fault
-pub picks_ended : {D : Type 0} {view : D → View} {k l : D} {x y : Scene} {begun : List Active} {end : TurnEnd}
+pub picks_ended : {D : Type 0} {view : D → View} {k l : D} {x y : BatchStart} {begun : List Active} {end : TurnEnd}
     → BeginsBatch view k l x y begun (Ok end) → (end ≡ turn_end.BookFull → ⊥) × (end ≡ turn_end.Disk → ⊥)
 picks_ended {x = x} {begun = begun} {end = end} b = (λ is. (so is).0.0, λ is. (so is).0.0)
   where

@@ -16,7 +16,7 @@ use Rattle.child_model.specs.declared.answer.Entry.{Entry}
 use Rattle.exec_journal.specs.Found.{FoundAs}
 use Rattle.exec_ledger.specs.Actives.{Active}
 use Rattle.exec_turn.specs.Picks.{begins}
-use Rattle.exec_ledger.specs.Pieces.{HasBegin, Leaves, Prefix, is_begin}
+use Rattle.exec_ledger.specs.Pieces.{HasBegin, CrashCondition, Prefix, is_begin}
 use Rattle.exec_turn.specs.Starts.{Started, starts}
 use Rattle.exec_ledger.specs.Laws.{asked_in, asked_none, asked_one, settles}
 
@@ -39,8 +39,8 @@ asked_starts at clock (x ∷ xs) run u asked = ⊎_elim
 -- Starts may be added to a part that recorded their begins: what a crash leaves from then on has all begins.
 pub then_started : {D : Type 0} (view : D → View) (old new : D) (s t : State) (at clock : ℕ) (bs : List Active) (xs : List Started)
     → ((view new).honest → Lawful (view new)) → clock ≡ (view new).clock → map (λ x. x.what) xs ≡ bs
-    → Leaves view old new s t (record { entries = []; events = begins at bs; pending = [] })
-    → Leaves view old new s t (record { entries = starts clock xs; events = begins at bs; pending = [] })
+    → CrashCondition view old new s t (record { entries = []; events = begins at bs; pending = [] })
+    → CrashCondition view old new s t (record { entries = starts clock xs; events = begins at bs; pending = [] })
 then_started view old new s t at clock bs xs lawful same each leaves = record {
   state = leaves.state;
   crash = leaves.crash;

@@ -5,7 +5,7 @@ use Rattle.ocf_types.specs.declared.reply.TurnEnd.{TurnEnd}
 use Rattle.ocf_types.specs.declared.reply.TurnEnd.TheVariants as turn_end
 use Rattle.ocf_types.specs.declared.reply.Notice.{Notice}
 use Rattle.exec_ledger.specs.Pieces.{Effects, no_effects}
-use Rattle.exec_ledger.specs.Scenes.{Scene, following}
+use Rattle.exec_ledger.specs.BatchStarts.{BatchStart, following}
 use Rattle.exec_ledger.specs.Actives.{Active, active}
 use Rattle.exec_turn.specs.Picks.{Picked, begins}
 use Rattle.exec_turn.specs.Polls.{IsPoll, Polled, polls, result_notices, results}
@@ -13,20 +13,20 @@ use Rattle.exec_turn.specs.Starts.{Started, refusal_notices, refusals, starts}
 
 -- a kind of turn: a relation of its end, the view before it, its effects and its notices
 abbrev pub TurnKind : Type 1
-TurnKind = TurnEnd → Scene → Effects → List Notice → Type 0
+TurnKind = TurnEnd → BatchStart → Effects → List Notice → Type 0
 
 -- one answer to a poll of each running action, in order of registration
-pub record EachPolled (x : Scene) (ps : List Polled) : Type 0 where
+pub record EachPolled (x : BatchStart) (ps : List Polled) : Type 0 where
   pub each : map (λ p. p.who) ps ≡ active x.state
   pub bytes : AllByRecursion (λ p. IsPoll p.poll) ps
 
 -- the actions begun from this view, by what ended the picks; want of memory ends them only where the allocator refuses growths
-abbrev pub PickedAt : TurnEnd → Scene → List Active → Type 0
+abbrev pub PickedAt : TurnEnd → BatchStart → List Active → Type 0
 PickedAt end x bs = Picked end x.state x.due x.position.tail x.at bs × (end ≡ turn_end.Memory → IsTrue x.refuses)
 
 -- The answers in a turn: a poll of each running action, the actions begun after their results, and a start of each of these, all
 -- in order of registration, when the journal's disk had had this many device calls.
-pub record TurnReport (end : TurnEnd) (x : Scene) : Type 0 where
+pub record TurnReport (end : TurnEnd) (x : BatchStart) : Type 0 where
   pub polled : List Polled
   pub begun : List Active
   pub started : List Started
@@ -36,7 +36,7 @@ pub record TurnReport (end : TurnEnd) (x : Scene) : Type 0 where
   pub each_started : map (λ a. a.what) started ≡ begun
 
 -- a turn with these answers that left nothing pending
-abbrev pub Whole : TurnEnd → Scene → Effects → List Notice → Type 0
+abbrev pub Whole : TurnEnd → BatchStart → Effects → List Notice → Type 0
 Whole end x did reported = (t : TurnReport end x)
     × (did ≡ record {
       entries = polls x.at t.polled ++ starts t.clock t.started;
@@ -50,23 +50,23 @@ abbrev pub Nothing : Effects → List Notice → Type 0
 Nothing did reported = (did ≡ no_effects) × (reported ≡ [])
 
 -- one whose batch of results was recorded, and which began nothing
-abbrev pub OnlyResults : Scene → Effects → List Notice → Type 0
+abbrev pub OnlyResults : BatchStart → Effects → List Notice → Type 0
 OnlyResults x did reported = (ps : List Polled) × EachPolled x ps
     × (did ≡ record { entries = polls x.at ps; events = results x.at ps; pending = [] }) × (reported ≡ result_notices x.at ps)
 
 -- one whose batch of results failed: it polled, and no more
-abbrev pub NoResults : Scene → Effects → List Notice → Type 0
+abbrev pub NoResults : BatchStart → Effects → List Notice → Type 0
 NoResults x did reported = (ps : List Polled) × EachPolled x ps
     × (did ≡ record { entries = polls x.at ps; events = []; pending = results x.at ps }) × (reported ≡ [])
 
 -- one whose batch of begins failed: nothing was spawned
-abbrev pub NoBegins : Scene → Effects → List Notice → Type 0
+abbrev pub NoBegins : BatchStart → Effects → List Notice → Type 0
 NoBegins x did reported = (ps : List Polled) × (end : TurnEnd) × (bs : List Active) × EachPolled x ps
     × PickedAt end (following x (results x.at ps)) bs
     × (did ≡ record { entries = polls x.at ps; events = results x.at ps; pending = begins x.at bs }) × (reported ≡ result_notices x.at ps)
 
 -- one whose batch of refused starts failed
-abbrev pub NoRefusals : Scene → Effects → List Notice → Type 0
+abbrev pub NoRefusals : BatchStart → Effects → List Notice → Type 0
 NoRefusals x did reported = (end : TurnEnd) × (t : TurnReport end x)
     × (did ≡ record {
       entries = polls x.at t.polled ++ starts t.clock t.started;

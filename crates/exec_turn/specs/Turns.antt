@@ -14,11 +14,11 @@ use Rattle.exec_ledger.specs.Actives.{Active}
 use Rattle.exec_turn.specs.AgentsLive.{AgentsLive, AgentsLiveBut}
 use Rattle.exec_turn.specs.Launches.{AllLaunch, IsOfOne, all_starting}
 use Rattle.exec_turn.specs.Picks.{begins}
-use Rattle.exec_ledger.specs.Pieces.{Effects, Leaves, batch_effects}
+use Rattle.exec_ledger.specs.Pieces.{Effects, CrashCondition, batch_effects}
 use Rattle.exec_turn.specs.Polls.{Polled, polls, result_notices, results}
 use Rattle.exec_turn.specs.Starts.{AllRun, Rising, Started, refusal_notices, refusals, starts}
 use Rattle.exec_turn.specs.Turn.{EachPolled, IsFinish, IsTurn, PickedAt, TurnKind}
-use Rattle.exec_ledger.specs.Scenes.{Moves, RecordsBatch, Scene, due_after_all}
+use Rattle.exec_ledger.specs.BatchStarts.{Moves, RecordsBatch, BatchStart, due_after_all}
 use Rattle.exec_turn.specs.declared.buffers.TurnBuffers.{TurnBuffers}
 use Rattle.exec_turn.specs.declared.picks.StartOf.{StartOf}
 
@@ -28,7 +28,7 @@ pub record ChildrenMatch (s : State) (v : ChildrenView) : Type 0 where
   pub rising : v.last_run < s.next_run
 
 -- The first step: polls, and the batch of their results.
-pub record PollsBatch {D : Type 0} (view : D → View) (k l : D) (x y : Scene) (from to : ChildrenView) (reported : List Notice)
+pub record PollsBatch {D : Type 0} (view : D → View) (k l : D) (x y : BatchStart) (from to : ChildrenView) (reported : List Notice)
     (result : Result Unit DiskFault) : Type 0 where
   pub answers : List Polled
   pub each : EachPolled x answers
@@ -37,12 +37,12 @@ pub record PollsBatch {D : Type 0} (view : D → View) (k l : D) (x y : Scene) (
   pub site : to.site ≡ from.site
   pub left : from.room ≤ to.room + 2 * length x.state.resources
   pub moves : Moves x y (results x.at answers) result
-  pub crash : Leaves view k l x.state y.state (record (batch_effects (is_ok result) (results x.at answers)) { entries = polls x.at answers })
+  pub crash : CrashCondition view k l x.state y.state (record (batch_effects (is_ok result) (results x.at answers)) { entries = polls x.at answers })
   pub cause : OnErr result (Increased (view k).failures (view l).failures)
   pub reported_is : reported ≡ (if is_ok result then result_notices x.at answers else [])
 
 -- The second: the actions begun, by what ended the picks, and the batch of begins.
-pub record BeginsBatch {D : Type 0} (view : D → View) (k l : D) (x y : Scene) (begun : List Active) (result : Result TurnEnd DiskFault) : Type 0 where
+pub record BeginsBatch {D : Type 0} (view : D → View) (k l : D) (x y : BatchStart) (begun : List Active) (result : Result TurnEnd DiskFault) : Type 0 where
   pub end : TurnEnd
   pub ended : IfOk result (λ reported. reported ≡ end)
   pub picked : PickedAt end x begun
@@ -59,7 +59,7 @@ pub record Startable (s : State) (v : ChildrenView) (begun : List (StartOf Call)
   pub agents_live : AgentsLiveBut s v.live (all_starting begun)
 
 -- The third: starts, and the batch of results of those that were refused.
-pub record StartsBatch {D : Type 0} (view : D → View) (k l : D) (x y : Scene) (begun : List Active) (from to : ChildrenView)
+pub record StartsBatch {D : Type 0} (view : D → View) (k l : D) (x y : BatchStart) (begun : List Active) (from to : ChildrenView)
     (was reported : List Notice) (result : Result Unit DiskFault) : Type 0 where
   pub answers : List Started
   pub each : map (λ a. a.what) answers ≡ begun
@@ -75,7 +75,7 @@ end_of (Ok end) = end
 end_of (Err fault) = turn_end.Disk
 
 -- A turn of a kind, of an open executor: from the view before it to a state, due moments and children, with its notices.
-pub record TurnsAs {D : Type 0} (kind : TurnKind) (view : D → View) (old new : D) (x : Scene) (t : State) (due : Due) (from to : ChildrenView)
+pub record TurnsAs {D : Type 0} (kind : TurnKind) (view : D → View) (old new : D) (x : BatchStart) (t : State) (due : Due) (from to : ChildrenView)
     (reported : List Notice) (end : TurnEnd) : Type 0 where
   pub effects : Effects
   pub book : to.book ≡ from.book ++ effects.entries
@@ -85,17 +85,17 @@ pub record TurnsAs {D : Type 0} (kind : TurnKind) (view : D → View) (old new :
   pub site : to.site ≡ from.site
   pub does : kind end x effects reported
   -- the events that it recorded, what a crash at any moment of it leaves, and that no agent was spawned without its synced begin
-  pub crash : Leaves view old new x.state t effects
+  pub crash : CrashCondition view old new x.state t effects
   pub due_is : due ≡ due_after_all x.state x.due effects.events
   -- nothing is pending but after a disk fault, which has a cause
   pub whole : end ≢ turn_end.Disk → effects.pending ≡ []
   pub cause : end ≡ turn_end.Disk → Increased (view old).failures (view new).failures
 
 -- a turn that begins what has to begin, and one that begins nothing
-abbrev pub Turns : {D : Type 0} → (D → View) → D → D → Scene → State → Due → ChildrenView → ChildrenView → List Notice → TurnEnd → Type 0
+abbrev pub Turns : {D : Type 0} → (D → View) → D → D → BatchStart → State → Due → ChildrenView → ChildrenView → List Notice → TurnEnd → Type 0
 Turns view old new x t due from to reported end = TurnsAs IsTurn view old new x t due from to reported end
 
-abbrev pub Finishes : {D : Type 0} → (D → View) → D → D → Scene → State → Due → ChildrenView → ChildrenView → List Notice → TurnEnd → Type 0
+abbrev pub Finishes : {D : Type 0} → (D → View) → D → D → BatchStart → State → Due → ChildrenView → ChildrenView → List Notice → TurnEnd → Type 0
 Finishes view old new x t due from to reported end = TurnsAs IsFinish view old new x t due from to reported end
 
 -- the notices of the last turn

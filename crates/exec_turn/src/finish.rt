@@ -2,7 +2,7 @@
 ghost use Rattle.std.specs.Prelude.{◌≡◌, ◌≢◌, ◌↔◌, ◌<◌, ◌*◌, true, false, length};
 ghost use Rattle.ocf_types.specs.Answer.{moment};
 ghost use Rattle.exec_ledger.specs.LedgerView.{due_in};
-ghost use Rattle.exec_ledger.specs.Scenes.{scene_of};
+ghost use Rattle.exec_ledger.specs.BatchStarts.{batch_start_of};
 ghost use Rattle.exec_turn.specs.Actives.{any_running};
 ghost use Rattle.exec_turn.specs.Turns.{ChildrenMatch, Finishes, reports_of};
 
@@ -43,7 +43,7 @@ pub fn finish_turn<D: Disk + Drop, C: Children, A: Grows>(
     requires open { ledger.old.is_open ≡ true }
     requires matched { ChildrenMatch ledger.old.state (C.view children.old) }
     ensures finishes { Finishes D.view ledger.old.disk ledger.new.disk
-        (scene_of ledger.old (moment ledger.old.state now)) ledger.new.state
+        (batch_start_of ledger.old (moment ledger.old.state now)) ledger.new.state
         (due_in ledger.new)
         (C.view children.old) (C.view children.new) (reports_of batches.new) result }
     ensures full { result ≡ TurnEnd.BookFull

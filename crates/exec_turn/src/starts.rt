@@ -6,7 +6,7 @@ ghost use Rattle.ocf_types.specs.declared.outcome.StartFault.{StartFault};
 ghost use Rattle.ocf_types.specs.declared.reply.Notice.{Notice};
 ghost use Rattle.child_model.specs.Children.{after_start, live_limit};
 ghost use Rattle.child_model.specs.MayStart.{IsLaunch};
-ghost use Rattle.exec_journal.specs.Journal.{Settled, journal_disk};
+ghost use Rattle.exec_journal.specs.Journal.{InSync, journal_disk};
 ghost use Rattle.exec_turn.specs.Buffers.{GrowsInRoom};
 ghost use Rattle.exec_turn.specs.Actives.{notice_of, result_of};
 ghost use Rattle.exec_turn.specs.Launches.{AllLaunch, IsOfOne, all_starting, what_starts};
@@ -31,7 +31,7 @@ fn start_one<D: Disk + Drop, C: Children, A: Grows>(
     batch: &mut Vec<Event<A>, A>,
     notices: &mut Vec<Notice, A>,
 )
-    requires settled { Settled journal.now (D.view (journal_disk journal.now)) state.now.state }
+    requires settled { InSync journal.now (D.view (journal_disk journal.now)) state.now.state }
     requires launches { IsLaunch (C.view children.old).site state.now.state start.now.launch }
     requires of_one { IsOfOne start.now }
     requires rising { (C.view children.old).last_run < start.now.running.run }
@@ -72,7 +72,7 @@ pub(crate) fn start_all<D: Disk + Drop, C: Children, A: Grows>(
     batch: &mut Vec<Event<A>, A>,
     notices: &mut Vec<Notice, A>,
 )
-    requires settled { Settled journal.now (D.view (journal_disk journal.now)) state.now.state }
+    requires settled { InSync journal.now (D.view (journal_disk journal.now)) state.now.state }
     requires launches { AllLaunch (C.view children.old).site state.now.state starts.now }
     requires of_one { AllByRecursion IsOfOne starts.now }
     requires rising { Rising (C.view children.old).last_run (all_starting starts.now) }

@@ -13,7 +13,7 @@ use Rattle.ocf_types.specs.declared.reply.TurnEnd.TheVariants as turn_end
 use Rattle.disk_model.specs.View.{View}
 use Rattle.exec_ledger.specs.Commands.{Obeys}
 use Rattle.exec_ledger.specs.Replies.{MemoryOnlyIf}
-use Rattle.exec_ledger.specs.Scenes.{scene}
+use Rattle.exec_ledger.specs.BatchStarts.{batch_start}
 use Rattle.exec_ledger.specs.Together.{disk_each, failed, batch_replies}
 use Rattle.exec_ledger.proofs.Recording.{no_memory}
 use Rattle.exec_turn.specs.Turn.{IsTurn}
@@ -65,7 +65,7 @@ module _ {D : Type 0} (view : D → View) where
       let reported : reply.Turn takes.end ≡ reply.Turn turn_end.Memory = sym takes.replies ∙ lacks in
       let same : takes.end ≡ turn_end.Memory = cc in
       let t = takes.takes.turns in
-      (subst (λ (e : TurnEnd). IsTurn e (scene x.state (due_in x) x.position (moment x.state now) x.refuses) t.effects y.reported) same
+      (subst (λ (e : TurnEnd). IsTurn e (batch_start x.state (due_in x) x.position (moment x.state now) x.refuses) t.effects y.reported) same
       t.does).0.picked.1 refl
 
   taken : (b : Bool) (i : Input) (x y : ExecutorView D) (r : Reply) (d : Effects) → TakesWhile b view i x y r d → LacksMemory (Took i r)

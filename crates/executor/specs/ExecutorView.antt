@@ -8,7 +8,7 @@ use Rattle.ocf_env.specs.Places.{SiteView}
 use Rattle.child_model.specs.Children.{Admits, ChildrenView}
 use Rattle.exec_journal.specs.Position.{Position}
 use Rattle.exec_journal.specs.Reserve.{HasReserve}
-use Rattle.exec_journal.specs.Settled.{IsSettled}
+use Rattle.exec_journal.specs.InSync.{IsInSync}
 use Rattle.exec_state.specs.Store.{Monitors, due_of}
 use Rattle.exec_turn.specs.Turns.{ChildrenMatch}
 use Rattle.exec_ledger.specs.LedgerView.{LedgerView}
@@ -69,7 +69,7 @@ due_in x = due_of x.monitors
 -- Its journal is settled at its state, its reserve holds the results of what runs and a boot, the agent processes of all running
 -- actions live, and its children admit its site.
 pub record ExecutorKeeps {D : Type 0} (view : D → View) (x : ExecutorView D) : Type 0 where
-  pub journal : (view x.disk).honest → IsSettled x.position x.state (view x.disk)
+  pub journal : (view x.disk).honest → IsInSync x.position x.state (view x.disk)
   pub room : HasReserve x.position.tail x.state
   pub matched : ChildrenMatch x.state x.children
   pub admits : Admits x.children.site x.site

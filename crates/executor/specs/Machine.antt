@@ -21,7 +21,7 @@ use Rattle.exec_journal.specs.Position.{Position}
 use Rattle.exec_journal.specs.Batches.{IsTooLong}
 use Rattle.exec_ledger.specs.LedgerView.{While}
 use Rattle.exec_ledger.specs.Pieces.{Effects, followed_by, no_effects, batch_effects}
-use Rattle.exec_ledger.specs.Scenes.{due_after_all, scene}
+use Rattle.exec_ledger.specs.BatchStarts.{due_after_all, batch_start}
 use Rattle.exec_ledger.specs.Together.{Answered, failed}
 use Rattle.exec_turn.specs.Turn.{IsFinish, IsTurn, TurnKind}
 use Rattle.executor.specs.Incarnations.{Abandoned, Cleared, Exchange, Finished, Batch, Tidied, Took}
@@ -99,7 +99,7 @@ TakesOne l now c r m n did = TakesAll l now (c ∷ []) (r ∷ []) m n did
 -- A turn of a kind at a moment, for which the book has to take this many answers for each resource.
 pub record MovesTurn (kind : TurnKind) (each : ℕ) (end : TurnEnd) (at : ℕ) (l : Label) (m n : Machine) (did : Effects) : Type 0 where
   -- the answers of agent processes make its events and its notices
-  pub turns : kind end (scene m.state m.due l.position at m.refuses) did l.notices
+  pub turns : kind end (batch_start m.state m.due l.position at m.refuses) did l.notices
   pub answers : l.answers ≡ did.entries
   pub goes_on : n ≡ record (after_events m did.events) { is_open = n.is_open }
   -- nothing is done exactly when the book lacks capacity, and a disk fault alone closes the machine

@@ -12,9 +12,9 @@ use Rattle.ocf_types.specs.declared.reply.TurnEnd.{TurnEnd}
 use Rattle.ocf_types.specs.declared.reply.TurnEnd.TheVariants as turn_end
 use Rattle.disk_model.specs.View.{View}
 use Rattle.exec_ledger.specs.LedgerView.{While}
-use Rattle.exec_ledger.specs.Pieces.{Leaves}
+use Rattle.exec_ledger.specs.Pieces.{CrashCondition}
 pub use Rattle.exec_ledger.specs.Pieces.{Effects, followed_by, no_effects}
-use Rattle.exec_ledger.specs.Scenes.{due_after_all}
+use Rattle.exec_ledger.specs.BatchStarts.{due_after_all}
 use Rattle.executor.specs.Commands.{ServesOpen}
 use Rattle.exec_ledger.specs.Replies.{event_effects}
 use Rattle.executor.specs.ExecutorView.{ExecutorView, due_in}
@@ -76,7 +76,7 @@ Session view old (i ∷ is) [] new effects = ⊥
 -- Calls of an open executor with these effects: from one view of it to another.
 pub record Leads {D : Type 0} (view : D → View) (old new : ExecutorView D) (effects : Effects) : Type 0 where
   -- the state, the crash condition, and that no agent was spawned without its synced begin
-  pub crash : Leaves view old.disk new.disk old.state new.state effects
+  pub crash : CrashCondition view old.disk new.disk old.state new.state effects
   pub book : new.children.book ≡ old.children.book ++ effects.entries
   -- the log of all answers ever got the same entries
   pub log : new.children.log ≡ old.children.log ++ effects.entries

@@ -6,7 +6,7 @@ use Rattle.ocf_types.specs.declared.reply.TurnEnd.TheVariants.{BookFull, Closed,
 use Rattle.disk_model.specs.View.{View}
 use Rattle.child_model.specs.Children.{emptied, given_up}
 use Rattle.exec_ledger.specs.LedgerView.{While}
-use Rattle.exec_ledger.specs.Scenes.{scene}
+use Rattle.exec_ledger.specs.BatchStarts.{batch_start}
 use Rattle.exec_turn.specs.Turn.{IsFinish, IsTurn, TurnKind}
 use Rattle.exec_turn.specs.Turns.{TurnsAs}
 use Rattle.executor.specs.ExecutorView.{ExecutorView, due_in}
@@ -15,7 +15,7 @@ use Rattle.executor.specs.ExecutorView.{ExecutorView, due_in}
 -- of it to another.
 pub record MakesTurn {D : Type 0} (kind : TurnKind) (entries : ℕ) (view : D → View) (now : ℕ) (old new : ExecutorView D) (end : TurnEnd) : Type 0 where
   pub turns : TurnsAs kind view old.disk new.disk
-      (scene old.state (due_in old) old.position (moment old.state now) old.refuses) new.state (due_in new) old.children new.children new.reported end
+      (batch_start old.state (due_in old) old.position (moment old.state now) old.refuses) new.state (due_in new) old.children new.children new.reported end
   -- its site, its allocator and the report of its opening stay
   pub site : new.site ≡ old.site
   pub allocator : new.refuses ≡ old.refuses

@@ -6,7 +6,7 @@ use Rattle.ocf_types.specs.State.{after_all}
 use Rattle.ocf_types.specs.declared.reply.TurnEnd.{TurnEnd}
 use Rattle.disk_model.specs.View.{Lawful, View}
 use Rattle.exec_ledger.specs.Laws.{of_closed, of_open}
-use Rattle.exec_ledger.specs.Pieces.{Effects, Leaves, followed_by, no_effects, batch_effects}
+use Rattle.exec_ledger.specs.Pieces.{Effects, CrashCondition, followed_by, no_effects, batch_effects}
 use Rattle.executor.specs.CallLaws.{followed_by_assoc, followed_by_none}
 use Rattle.executor.specs.Incarnations.{Abandoned, Calls, Cleared, Does, Exchange, Finished, Batch, Took, Tidied}
 use Rattle.executor.specs.FinishCalls.{FinishedWhile}
@@ -61,7 +61,7 @@ module _ {D : Type 0} (view : D → View) where
 
   -- a batch has the crash condition of any call
   batch_going : (o : Bool) (x y : ExecutorView D) (es : List Event) → y.is_open ≡ o
-      → Leaves view x.disk y.disk x.state (after_all x.state (batch_effects o es).events) (batch_effects o es)
+      → CrashCondition view x.disk y.disk x.state (after_all x.state (batch_effects o es).events) (batch_effects o es)
       → y.state ≡ after_all x.state es → Onward view x y (batch_effects o es)
   batch_going true x y es is_open leaves state = record { crash = leaves; state = λ _. state; whole = λ _. refl }
   batch_going false x y es closed leaves state = record {
@@ -110,7 +110,7 @@ module _ {D : Type 0} (view : D → View) where
     taken_more false w x y e a d closed does so_far =
         let none = (does_nothing e x y d closed does).1 in
         subst (λ (b : Effects). Onward view w y b) (sym (followed_by_none a) ∙ ap (followed_by a) (sym none.nothing)) (record {
-          crash = subst (λ (k : D). Leaves view w.disk k w.state (after_all w.state a.events) a) (sym none.disk) so_far.crash;
+          crash = subst (λ (k : D). CrashCondition view w.disk k w.state (after_all w.state a.events) a) (sym none.disk) so_far.crash;
           state = λ bad. absurd (false≢true (sym none.is_closed ∙ bad));
           whole = λ bad. absurd (false≢true (sym none.is_closed ∙ bad));
         })

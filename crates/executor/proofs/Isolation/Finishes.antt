@@ -11,7 +11,7 @@ use Rattle.child_model.specs.declared.answer.Entry.{Entry}
 use Rattle.exec_ledger.specs.Actives.{active}
 use Rattle.exec_ledger.specs.Laws.{same_entries, same_events}
 use Rattle.exec_ledger.specs.Pieces.{Effects}
-use Rattle.exec_ledger.specs.Scenes.{due_after_all, scene}
+use Rattle.exec_ledger.specs.BatchStarts.{due_after_all, batch_start}
 use Rattle.exec_turn.specs.Polls.{Polled, polls, results}
 use Rattle.exec_turn.specs.Turn.{EachPolled, IsFinish, OnlyResults}
 use Rattle.executor.specs.Isolated.{Isolated, IsolatedPoll, cut, running_in}
@@ -26,7 +26,7 @@ use Rattle.executor.proofs.Isolation.Turns.{AreApart, clock_after, ends_at, own_
 -- A turn that begins nothing ended done, at the moment that was handed in.
 pub record FinishDone {D : Type 0} (now : ℕ) (old new : ExecutorView D) (effects : Effects) : Type 0 where
   pub polled : List Polled
-  pub each_polled : EachPolled (scene old.state (due_in old) old.position (cut now) old.refuses) polled
+  pub each_polled : EachPolled (batch_start old.state (due_in old) old.position (cut now) old.refuses) polled
   pub entries : effects.entries ≡ polls (cut now) polled
   pub events : effects.events ≡ results (cut now) polled
   pub state : new.state ≡ after_all old.state effects.events
@@ -36,7 +36,7 @@ pub finish_done : {D : Type 0} (view : D → View) (now : ℕ) (old new : Execut
     → old.state.clock ≤ cut now → end ≡ Done → FinishDone now old new takes.turns.effects
 finish_done view now old new end takes clock is_done =
     let turns = takes.turns in
-    let found = λ (at : ℕ). scene old.state (due_in old) old.position at old.refuses in
+    let found = λ (at : ℕ). batch_start old.state (due_in old) old.position at old.refuses in
     let raw : OnlyResults (found (moment old.state now)) turns.effects new.reported =
     subst (λ (e : TurnEnd). IsFinish e (found (moment old.state now)) turns.effects new.reported) is_done turns.does in
     let only : OnlyResults (found (cut now)) turns.effects new.reported =

@@ -16,7 +16,7 @@ use Rattle.ocf_types.specs.declared.refusal.Refusal.TheVariants as refusal
 use Rattle.ocf_types.specs.declared.reply.ReplyOf.TheVariants.{Refused}
 use Rattle.ocf_types.specs.RegistryLaws.{none_is, passed}
 use Rattle.disk_model.specs.View.{View}
-use Rattle.exec_ledger.specs.Scenes.{due_after_all}
+use Rattle.exec_ledger.specs.BatchStarts.{due_after_all}
 use Rattle.exec_ledger.specs.Commands.{Obeys, Records}
 use Rattle.executor.specs.Projections.{IsPlain, commanded}
 use Rattle.exec_ledger.specs.Replies.{IsReplyTo, KeepsRunning, acknowledged, recorded}

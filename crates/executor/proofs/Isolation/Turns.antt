@@ -27,7 +27,7 @@ use Rattle.exec_turn.specs.Picks.{ArePicks, begin_of, begins}
 use Rattle.exec_turn.specs.Polls.{IsPoll, Polled, polls, results}
 use Rattle.exec_turn.specs.Starts.{Started, refusals, starts}
 use Rattle.exec_turn.specs.Turn.{IsTurn, TurnReport, Whole}
-use Rattle.exec_ledger.specs.Scenes.{due_after_all, scene}
+use Rattle.exec_ledger.specs.BatchStarts.{due_after_all, batch_start}
 use Rattle.executor.specs.Projections.{IsPlain, events_of}
 use Rattle.exec_ledger.specs.Laws.{same_entries, same_events}
 use Rattle.exec_ledger.specs.Pieces.{Effects}
@@ -95,7 +95,7 @@ own_polls mine id at y s ps each bytes apart runs resource =
 -- A turn that ended done, at the moment that was handed in.
 pub record TurnDone {D : Type 0} (now : ℕ) (old new : ExecutorView D) (given : Reply) (effects : Effects) : Type 0 where
   pub done : given ≡ reply.Turn Done
-  pub t : TurnReport Done (scene old.state (due_in old) old.position (cut now) old.refuses)
+  pub t : TurnReport Done (batch_start old.state (due_in old) old.position (cut now) old.refuses)
   pub entries : effects.entries ≡ polls (cut now) t.polled ++ starts t.clock t.started
   pub events : effects.events ≡ results (cut now) t.polled ++ (begins (cut now) t.begun ++ refusals (cut now) t.started)
   pub state : new.state ≡ after_all old.state effects.events
@@ -107,11 +107,11 @@ pub turn_done : {D : Type 0} (view : D → View) (now : ℕ) (old new : Executor
 turn_done {D} view now old new given effects clock plain takes =
     let turns = takes.takes.turns in
     let is_done : takes.end ≡ Done = subst IsPlain takes.replies plain in
-    let raw : Whole Done (scene old.state (due_in old) old.position (moment old.state now) old.refuses) turns.effects new.reported =
+    let raw : Whole Done (batch_start old.state (due_in old) old.position (moment old.state now) old.refuses) turns.effects new.reported =
     subst (λ (e : TurnEnd). IsTurn e
-    (scene old.state (due_in old) old.position (moment old.state now) old.refuses) turns.effects new.reported) is_done turns.does in
-    let whole : Whole Done (scene old.state (due_in old) old.position (cut now) old.refuses) turns.effects new.reported =
-    subst (λ (at : ℕ). Whole Done (scene old.state (due_in old) old.position at old.refuses) turns.effects new.reported)
+    (batch_start old.state (due_in old) old.position (moment old.state now) old.refuses) turns.effects new.reported) is_done turns.does in
+    let whole : Whole Done (batch_start old.state (due_in old) old.position (cut now) old.refuses) turns.effects new.reported =
+    subst (λ (at : ℕ). Whole Done (batch_start old.state (due_in old) old.position at old.refuses) turns.effects new.reported)
     (moment_is old.state now clock) raw in
     let batch : effects.events ≡ turns.effects.events = same_events takes.does in record {
       done = takes.replies ∙ ap (λ (e : TurnEnd). reply.Turn e) is_done;

@@ -26,7 +26,7 @@ use Rattle.executor.specs.FinishCalls.{FinishedWhile}
 use Rattle.executor.specs.BatchCalls.{TakesBatch}
 use Rattle.exec_ledger.specs.Laws.{of_open, same_entries}
 use Rattle.exec_ledger.specs.Pieces.{Effects, no_effects, batch_effects}
-use Rattle.exec_ledger.specs.Scenes.{due_after_all}
+use Rattle.exec_ledger.specs.BatchStarts.{due_after_all}
 use Rattle.executor.specs.SeenIncarnations.{label_in, labels}
 use Rattle.executor.specs.Sessions.{TakesATurn, TakesRequest, command_effects}
 use Rattle.exec_ledger.specs.LedgerView.{LedgerView, due_in as held_due}

@@ -20,7 +20,7 @@ use Rattle.exec_ledger.specs.Actives.{Active}
 use Rattle.exec_ledger.specs.Boots.{booted}
 use Rattle.exec_ledger.specs.Pieces.{Effects, HasBegin, is_begin}
 use Rattle.exec_ledger.specs.Replies.{acknowledged}
-use Rattle.exec_ledger.specs.Scenes.{Scene, scene}
+use Rattle.exec_ledger.specs.BatchStarts.{BatchStart, batch_start}
 use Rattle.exec_ledger.specs.Together.{Adds, Answered, disk_each, failed, is_kept}
 use Rattle.exec_turn.specs.Actives.{notice_of, result_of}
 use Rattle.exec_turn.specs.Picks.{begins}
@@ -136,7 +136,7 @@ moved : (s : State) (ns ms : List Notice) (es fs : List Event) → ns ≡ ms →
 moved s ns ms es fs same same2 h =
     subst (λ (l : List Notice). AllRecorded s (map Ended l) es) (sym same) (subst (AllRecorded s (map Ended ms)) (sym same2) h)
 
-whole_recorded : (end : TurnEnd) (x : Scene) (did : Effects) (reported : List Notice) → Whole end x did reported
+whole_recorded : (end : TurnEnd) (x : BatchStart) (did : Effects) (reported : List Notice) → Whole end x did reported
     → AllRecorded x.state (map Ended reported) did.events
 whole_recorded end x did reported (t, is, ns) =
     let s = x.state in
@@ -148,7 +148,7 @@ whole_recorded end x did reported (t, is, ns) =
     (begun_recorded s x.at t.polled t.begun)
     (each_recorded (after_all s early) x.at (λ a. a.what) (λ a. refused_end a.answer) t.started)))
 
-turn_recorded : (end : TurnEnd) (x : Scene) (did : Effects) (reported : List Notice) → IsTurn end x did reported
+turn_recorded : (end : TurnEnd) (x : BatchStart) (did : Effects) (reported : List Notice) → IsTurn end x did reported
     → AllRecorded x.state (map Ended reported) did.events
 turn_recorded turn_end.Closed x did reported none = absurd none
 turn_recorded turn_end.BookFull x did reported (is, ns) = moved x.state reported [] did.events [] ns (same_events is) tt
@@ -163,7 +163,7 @@ turn_recorded turn_end.Disk x did reported (inr (inr (end, t, is, ns))) =
     moved x.state reported (result_notices x.at t.polled) did.events (results x.at t.polled ++ begins x.at t.begun) ns (same_events is)
     (begun_recorded x.state x.at t.polled t.begun)
 
-finish_recorded : (end : TurnEnd) (x : Scene) (did : Effects) (reported : List Notice) → IsFinish end x did reported
+finish_recorded : (end : TurnEnd) (x : BatchStart) (did : Effects) (reported : List Notice) → IsFinish end x did reported
     → AllRecorded x.state (map Ended reported) did.events
 finish_recorded turn_end.Done x did reported (ps, _, is, ns) =
     moved x.state reported (result_notices x.at ps) did.events (results x.at ps) ns (same_events is) (results_recorded x.state x.at ps)
@@ -185,11 +185,11 @@ open_recorded (Took (input.Request now (asked.Question q)) r) l m n did h = unno
 open_recorded (Took (input.Request now (asked.Command c)) r) l m n did h =
     unnoticed m.state (acknowledgements now (c ∷ []) (r ∷ [])) l.notices did.events h.0.1 (one_taken l now c r m n did h.1)
 open_recorded (Took (input.Turn now) r) l m n did (end, replies, t) =
-    turn_recorded end (scene m.state m.due l.position (moment m.state now) m.refuses) did l.notices t.turns
+    turn_recorded end (batch_start m.state m.due l.position (moment m.state now) m.refuses) did l.notices t.turns
 open_recorded (Batch now cs rs) l m n did h =
     unnoticed m.state (acknowledgements now cs rs) l.notices did.events h.0.1 (takes_recorded l now cs rs m n did h.1)
 open_recorded (Finished now end) l m n did t =
-    finish_recorded end (scene m.state m.due l.position (moment m.state now) m.refuses) did l.notices t.turns
+    finish_recorded end (batch_start m.state m.due l.position (moment m.state now) m.refuses) did l.notices t.turns
 open_recorded _ l m n did h = unnoticed m.state [] l.notices did.events h.0.1 tt
 
 closed_claims : (e : Exchange) (ns : List Notice) → AnswersClosed e → ns ≡ [] → acknowledged_in e ++ map Ended ns ≡ []

@@ -17,7 +17,7 @@ use Rattle.child_model.specs.declared.answer.Poll.{Poll}
 use Rattle.child_model.specs.declared.answer.Poll.TheVariants as poll
 use Rattle.exec_journal.specs.Position.{first_position}
 use Rattle.exec_ledger.specs.Actives.{active}
-use Rattle.exec_ledger.specs.Scenes.{Scene, scene}
+use Rattle.exec_ledger.specs.BatchStarts.{BatchStart, batch_start}
 use Rattle.exec_turn.specs.Picks.{begin_of, begins as begins_at}
 use Rattle.exec_turn.specs.Polls.{Polled, entries_of, polls, result_notices, results}
 use Rattle.exec_turn.specs.Starts.{Started, refusal_notices, refusals, starts}
@@ -69,10 +69,10 @@ waiting = record { is_open = true; state = after_all empty (registered ∷ asked
 -- the answers in a turn that ends done
 done_so : (answers : List Entry) (room : ℕ) (notices : List Notice) (m n : Machine) (did : Effects)
     → MovesWhile true (turned turn_end.Done answers room notices) m n did
-    → (x : Scene) × (x.state ≡ m.state) × (answers ≡ did.entries) × Whole turn_end.Done x did notices
+    → (x : BatchStart) × (x.state ≡ m.state) × (answers ≡ did.entries) × Whole turn_end.Done x did notices
 done_so answers room notices m n did ((end, is, t), memory) =
     let same : end ≡ turn_end.Done = (let reported : reply.Turn turn_end.Done ≡ reply.Turn end = is in cc) in
-    let x : Scene = scene m.state m.due first_position (moment m.state 10) m.refuses in
+    let x : BatchStart = batch_start m.state m.due first_position (moment m.state 10) m.refuses in
     (x, refl, t.answers, subst (λ (e : TurnEnd). IsTurn e x did notices) same t.turns)
 
 -- a notice that no answer gives

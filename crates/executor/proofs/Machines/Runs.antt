@@ -24,7 +24,7 @@ use Rattle.ocf_types.specs.declared.reply.TurnEnd.{TurnEnd}
 use Rattle.ocf_types.specs.declared.reply.TurnEnd.TheVariants as turn_end
 use Rattle.ocf_types.specs.declared.reply.Notice.{Notice}
 use Rattle.exec_ledger.specs.Actives.{Active, active}
-use Rattle.exec_ledger.specs.Scenes.{Scene, following, scene}
+use Rattle.exec_ledger.specs.BatchStarts.{BatchStart, following, batch_start}
 use Rattle.exec_turn.specs.Picks.{ArePicks, begins}
 use Rattle.exec_turn.specs.Polls.{Polled, ending, ends_of, results}
 use Rattle.exec_turn.specs.Starts.{Started, refusals, refused_end}
@@ -96,7 +96,7 @@ results_follow at s ps each fine =
     (subst (IsDistinct bytes_eq) (ap ids_of (sym each) ∙ map-map (λ (a : Active). a.id) (λ (p : Polled). p.who) ps) all.1)
 
 -- picks, and a prefix of them
-picks_so : (end : TurnEnd) (x : Scene) (bs : List Active) → PickedAt end x bs
+picks_so : (end : TurnEnd) (x : BatchStart) (bs : List Active) → PickedAt end x bs
     → (out : List Active) × ArePicks x.due x.at x.state.next_run x.state.resources (bs ++ out) × (x.state.next_run + length bs ≤ num_max)
 picks_so turn_end.Done x bs p =
     ([], subst (ArePicks x.due x.at x.state.next_run x.state.resources) (sym (append-nil bs)) p.0.0, p.0.1.runs)
@@ -107,7 +107,7 @@ picks_so turn_end.Closed x bs p = absurd p.0.0
 picks_so turn_end.BookFull x bs p = absurd p.0.0
 picks_so turn_end.Disk x bs p = absurd p.0.0
 
-begun_so : (end : TurnEnd) (x : Scene) (bs : List Active) → PickedAt end x bs → Fine x.state → BegunSo x.state x.at bs
+begun_so : (end : TurnEnd) (x : BatchStart) (bs : List Active) → PickedAt end x bs → Fine x.state → BegunSo x.state x.at bs
 begun_so end x bs picked fine =
     let p = picks_so end x bs picked in
     begins_follow x.due x.at x.state.next_run x.state.resources bs p.0 p.1 fine.apart x.state refl p.2
@@ -120,7 +120,7 @@ refusals_follow at s bs xs each runs apart =
     (each_unmap (RunsHere s) (λ x. x.what) xs (subst (AllByRecursion (RunsHere s)) (sym each) runs))
     (subst (IsDistinct bytes_eq) (ap ids_of (sym each) ∙ map-map (λ (a : Active). a.id) (λ (x : Started). x.what) xs) apart)
 
-two_follow : (end : TurnEnd) (x : Scene) (ps : List Polled) (bs : List Active) → EachPolled x ps
+two_follow : (end : TurnEnd) (x : BatchStart) (ps : List Polled) (bs : List Active) → EachPolled x ps
     → PickedAt end (following x (results x.at ps)) bs
     → Fine x.state → Follow x.state (results x.at ps ++ begins x.at bs)
 two_follow end x ps bs polled picked fine =
@@ -128,7 +128,7 @@ two_follow end x ps bs polled picked fine =
     follow_both x.state (results x.at ps) (begins x.at bs) one
     (begun_so end (following x (results x.at ps)) bs picked (fine_on x.state (results x.at ps) one fine)).follow
 
-three_follow : (end : TurnEnd) (x : Scene) (t : TurnReport end x) → Fine x.state
+three_follow : (end : TurnEnd) (x : BatchStart) (t : TurnReport end x) → Fine x.state
     → Follow x.state (results x.at t.polled ++ begins x.at t.begun ++ refusals x.at t.started)
 three_follow end x t fine =
     let es = results x.at t.polled in
@@ -158,12 +158,12 @@ some_pending s es fs events pending is rest follow = record {
   whole = λ none. absurd (none refl);
 }
 
-whole_follows : (end : TurnEnd) (x : Scene) (did : Effects) (reported : List Notice) → Whole end x did reported
+whole_follows : (end : TurnEnd) (x : BatchStart) (did : Effects) (reported : List Notice) → Whole end x did reported
     → TurnFollows end x.state did.events did.pending
 whole_follows end x did reported (t, is, reported_is) =
     all_recorded end x.state _ did.events did.pending (same_events is) (same_pending is) (three_follow end x t)
 
-turn_follows : (end : TurnEnd) (x : Scene) (did : Effects) (reported : List Notice) → IsTurn end x did reported
+turn_follows : (end : TurnEnd) (x : BatchStart) (did : Effects) (reported : List Notice) → IsTurn end x did reported
     → TurnFollows end x.state did.events did.pending
 turn_follows turn_end.Closed x did reported bad = absurd bad
 turn_follows turn_end.BookFull x did reported (is, none) =
@@ -183,7 +183,7 @@ turn_follows turn_end.Disk x did reported (inr (inr (end, t, is, reported_is))) 
     (same_pending is) (three_follow end x t)
 
 -- those of a turn that begins nothing
-finish_follows : (end : TurnEnd) (x : Scene) (did : Effects) (reported : List Notice) → IsFinish end x did reported
+finish_follows : (end : TurnEnd) (x : BatchStart) (did : Effects) (reported : List Notice) → IsFinish end x did reported
     → TurnFollows end x.state did.events did.pending
 finish_follows turn_end.Done x did reported (ps, polled, is, reported_is) =
     all_recorded turn_end.Done x.state (results x.at ps) did.events did.pending (same_events is) (same_pending is)
@@ -253,11 +253,11 @@ moves_open (Took (input.Request now (asked.Command c)) reply) l m n did opened (
 moves_open (Took (input.Request now (asked.Command c)) reply) l m n did opened (quiet, inr full) = goes_on m n [] did opened full.4 (λ fine. tt)
 moves_open (Took (input.Turn now) reply) l m n did opened (end, replies, t) =
     turn_went IsTurn 3 end (moment m.state now) l m n did opened t
-    (turn_follows end (scene m.state m.due l.position (moment m.state now) m.refuses) did l.notices t.turns)
+    (turn_follows end (batch_start m.state m.due l.position (moment m.state now) m.refuses) did l.notices t.turns)
 moves_open (Batch now cs rs) l m n did opened takes = takes_all l m n now cs rs did opened takes.1
 moves_open (Finished now end) l m n did opened t =
     turn_went IsFinish 2 end (moment m.state now) l m n did opened t
-    (finish_follows end (scene m.state m.due l.position (moment m.state now) m.refuses) did l.notices t.turns)
+    (finish_follows end (batch_start m.state m.due l.position (moment m.state now) m.refuses) did l.notices t.turns)
 moves_open (Tidied end) l m n did opened (quiet, ends) = tidied end l m n did opened ends
 moves_open Cleared l m n did opened crash = goes_on m n [] did opened crash.1 (λ fine. tt)
 moves_open Abandoned l m n did opened fails = went_wrong m n [] [] did opened fails.1.0 fails.1.1 (λ fine. tt)

@@ -17,7 +17,7 @@ use Rattle.exec_ledger.specs.Actives.{Active}
 use Rattle.exec_ledger.specs.Laws.{asked_one}
 use Rattle.exec_ledger.specs.Pieces.{Effects, HasBegin, no_effects}
 use Rattle.exec_ledger.specs.Replies.{acknowledged}
-use Rattle.exec_ledger.specs.Scenes.{scene}
+use Rattle.exec_ledger.specs.BatchStarts.{batch_start}
 use Rattle.exec_turn.specs.Picks.{begins as begins_at}
 use Rattle.exec_turn.specs.Turn.{TurnReport}
 use Rattle.executor.specs.Incarnations.{Took}
@@ -91,7 +91,7 @@ module _ (p : Position) (fits : IsTooLong p.tail (begins_at 10 (begun ∷ [])) �
     λ bad. absurd (cc),
   )
 
-  abbrev reported : TurnReport turn_end.Done (scene with_action.state with_action.due p 10 false)
+  abbrev reported : TurnReport turn_end.Done (batch_start with_action.state with_action.due p 10 false)
   reported = record {
     polled = [];
     begun = begun ∷ [];

@@ -17,7 +17,7 @@ use Rattle.exec_journal.specs.Found.{FoundAs, IsToWrite, JournalAt}
 use Rattle.exec_journal.specs.Opening.{FailsToOpen, Opens, OpensAt, OpensLike}
 use Rattle.exec_journal.specs.Position.{Position}
 use Rattle.exec_journal.specs.Reserve.{AllHaveReserve, HasReserve, PairHasReserve}
-use Rattle.exec_journal.specs.Settled.{IsSettled}
+use Rattle.exec_journal.specs.InSync.{IsInSync}
 use Rattle.two_parts.specs.declared.damage.Damage.{Damage}
 use Rattle.exec_journal.specs.declared.fault.JournalFault.{JournalFault}
 use Rattle.exec_journal.specs.declared.fault.JournalFault.TheVariants as journal
@@ -236,9 +236,9 @@ module _ {D : Type 0} (view : D → View) (law : JournalLemmas) (once : (c : Ima
           over = record { is_open = is_open; children = given; reported = sends ∙ over.reported; rising = rising };
           sound = λ _. record {
             journal =
-                λ h. subst (λ p. IsSettled p final.state (view final.disk)) (sym place)
-                (subst (λ (s : State). IsSettled new.position s (view final.disk)) (sym state)
-                (subst (λ (d : D). IsSettled new.position new.state (view d)) (sym disk) (boots.settled (honest_new h))));
+                λ h. subst (λ p. IsInSync p final.state (view final.disk)) (sym place)
+                (subst (λ (s : State). IsInSync new.position s (view final.disk)) (sym state)
+                (subst (λ (d : D). IsInSync new.position new.state (view d)) (sym disk) (boots.settled (honest_new h))));
             room = λ busy. absurd (true≢false (sym busy ∙ quiet_now));
             matched = subst (λ (v : ChildrenView). ChildrenMatch final.state v) (sym given) (quiet_matched final.state from quiet_now rising);
             admits = subst (λ (v : ChildrenView). Admits v.site final.site) (sym given) admits;

@@ -10,7 +10,7 @@ use Rattle.ocf_types.specs.declared.reply.ReplyOf.TheVariants.{Refused}
 use Rattle.ocf_types.specs.declared.reply.TurnEnd.{TurnEnd}
 use Rattle.disk_model.specs.View.{View, Lawful}
 use Rattle.child_model.specs.declared.answer.Entry.{Entry}
-use Rattle.exec_ledger.specs.Scenes.{due_after_all}
+use Rattle.exec_ledger.specs.BatchStarts.{due_after_all}
 use Rattle.executor.specs.Sessions.{Input, Session, TakesWhile, request_effects, Leads, Sits, TakesOpen, command_effects}
 use Rattle.executor.specs.ExecutorView.{OnlyLedgerChanges, ExecutorView, due_in, ledger_of, ExecutorInvariant, ExecutorKeeps}
 use Rattle.ocf_types.specs.Answer.{event_of}
@@ -20,7 +20,7 @@ use Rattle.disk_model.specs.Laws.{left_now, started}
 use Rattle.child_model.specs.Children.{ChildrenView}
 use Rattle.exec_journal.specs.Reserve.{PairHasReserve}
 use Rattle.exec_ledger.specs.Laws.{JournalLemmas, due_after_all-append, joined, settled_leaves, settles, whole as no_call}
-use Rattle.exec_ledger.specs.Pieces.{Effects, Leaves, followed_by, no_effects}
+use Rattle.exec_ledger.specs.Pieces.{Effects, CrashCondition, followed_by, no_effects}
 use Rattle.exec_ledger.specs.Commands.{Obeys}
 use Rattle.executor.specs.Commands.{ServesOpen}
 use Rattle.exec_ledger.specs.Replies.{pending}
@@ -70,15 +70,15 @@ leads_start view law x lawful keeps = record {
 -- The effects of calls, even where the children's book was emptied: from one view of an executor to another. An executor that a disk
 -- fault closed may have gone on to a state that is not recorded.
 pub record Onward {D : Type 0} (view : D → View) (old new : ExecutorView D) (effects : Effects) : Type 0 where
-  pub crash : Leaves view old.disk new.disk old.state (after_all old.state effects.events) effects
+  pub crash : CrashCondition view old.disk new.disk old.state (after_all old.state effects.events) effects
   pub state : new.is_open ≡ true → new.state ≡ after_all old.state effects.events
   pub whole : new.is_open ≡ true → effects.pending ≡ []
 
 -- where the state is the one that is recorded
 pub onward_at : {D : Type 0} (view : D → View) (x y : ExecutorView D) (d : Effects)
-    → Leaves view x.disk y.disk x.state y.state d → (y.is_open ≡ true → d.pending ≡ []) → Onward view x y d
+    → CrashCondition view x.disk y.disk x.state y.state d → (y.is_open ≡ true → d.pending ≡ []) → Onward view x y d
 onward_at view x y d leaves whole = record {
-  crash = subst (λ (t : State). Leaves view x.disk y.disk x.state t d) leaves.state leaves;
+  crash = subst (λ (t : State). CrashCondition view x.disk y.disk x.state t d) leaves.state leaves;
   state = λ _. leaves.state;
   whole = whole;
 }
@@ -92,7 +92,7 @@ pub leads_still : {D : Type 0} (view : D → View) (w x : ExecutorView D) (a : E
 leads_still view w x a lawful is_open so_far = record {
   crash = no_call view x.disk x.state lawful
       (settles view w.disk x.disk w.state x.state a (so_far.whole is_open)
-      (subst (λ (s : State). Leaves view w.disk x.disk w.state s a) (sym (so_far.state is_open)) so_far.crash))
+      (subst (λ (s : State). CrashCondition view w.disk x.disk w.state s a) (sym (so_far.state is_open)) so_far.crash))
       (started (view x.disk) PairHasReserve (left_now (view w.disk) (view x.disk) PairHasReserve so_far.crash.reserved lawful) lawful);
   book = sym (append-nil x.children.book);
   log = sym (append-nil x.children.log);
@@ -158,11 +158,11 @@ onward_joined view x y z a b is_open one two =
     let nothing : a.pending ≡ [] = one.whole is_open in
     let t : State = after_all x.state a.events in
     let all : after_all x.state (a.events ++ b.events) ≡ after_all t b.events = after_all-append x.state a.events b.events in
-    let later : Leaves view y.disk z.disk t (after_all t b.events) b =
-    subst (λ (s : State). Leaves view y.disk z.disk s (after_all s b.events) b) (one.state is_open) two.crash in
+    let later : CrashCondition view y.disk z.disk t (after_all t b.events) b =
+    subst (λ (s : State). CrashCondition view y.disk z.disk s (after_all s b.events) b) (one.state is_open) two.crash in
     record {
       crash =
-          subst (λ (s : State). Leaves view x.disk z.disk x.state s (followed_by a b)) (sym all)
+          subst (λ (s : State). CrashCondition view x.disk z.disk x.state s (followed_by a b)) (sym all)
           (joined view x.disk y.disk z.disk x.state t (after_all t b.events) a b nothing one.crash later);
       state = λ still. two.state still ∙ ap (λ (s : State). after_all s b.events) (one.state is_open) ∙ sym all;
       whole = λ still. ap (λ (p : List Event). p ++ b.pending) nothing ∙ two.whole still;
@@ -175,7 +175,7 @@ leads_joined view x y z a b is_open one two =
     let reached : z.state ≡ after_all x.state (a.events ++ b.events) = two.crash.state
     ∙ ap (λ (s : State). after_all s b.events) one.crash.state ∙ sym (after_all-append x.state a.events b.events) in record {
       crash =
-          subst (λ (s : State). Leaves view x.disk z.disk x.state s (followed_by a b)) (sym reached) on.crash;
+          subst (λ (s : State). CrashCondition view x.disk z.disk x.state s (followed_by a b)) (sym reached) on.crash;
       book = two.book ∙ ap (λ (es : List Entry). es ++ b.entries) one.book ∙ append_assoc x.children.book a.entries b.entries;
       log = two.log ∙ ap (λ (es : List Entry). es ++ b.entries) one.log ∙ append_assoc x.children.log a.entries b.entries;
       site = two.site ∙ one.site;

@@ -3,17 +3,17 @@ use Rattle.executor.specs.ExecutorView.{ExecutorView}
 use Rattle.exec_client.proofs.Growing.{abandoned_holds, all_still_hold}
 use Rattle.exec_client.specs.MaySend.{IsBacked}
 use Rattle.exec_session.specs.Rules.{rules_of}
-use Rattle.exec_session.specs.Spots.{Position}
+use Rattle.exec_session.specs.SessionViews.{SessionPosition}
 use Rattle.exec_session.proofs.BreakLemmas.{ends_from}
 use Rattle.exec_session.proofs.session.run_lines.Goals as goal
 
 pub answer_lines-ended-requires : goal.answer_lines-ended-requires
 answer_lines-ended-requires g c =
-    let place = c.new-session.ensures.place in record {
+    let point = c.new-session.ensures.point in record {
       clear = c.new-session.ensures.clear;
       none = c.new-session.ensures.none;
-      «open» = ap (λ (w : Position _). w.at.executor.is_open) place ∙ c.requires.fresh.2;
-      opening_report = ap (λ (w : Position _). w.at.executor.opening_report) place ∙ c.requires.opening_report;
+      «open» = ap (λ (w : SessionPosition _). w.at.executor.is_open) point ∙ c.requires.fresh.2;
+      opening_report = ap (λ (w : SessionPosition _). w.at.executor.opening_report) point ∙ c.requires.opening_report;
     }
 
 pub returns-clause-ends : goal.returns-clause-ends
@@ -24,7 +24,7 @@ returns-clause-ends g c =
     let (edge, executor) = c.into_parts-edge.result in record {
       last = executor;
       ends =
-          ends_from view source rules _ _ _ _ _ c.answer_lines-ended.result c.new-session.ensures.place
+          ends_from view source rules _ _ _ _ _ c.answer_lines-ended.result c.new-session.ensures.point
           (sym c.into_parts-edge.ensures.parts) c.answer_lines-ended.ensures.ends;
       disk_is = c.close-disk.ensures.disk ∙ ap (λ (x : ExecutorView g.row.D.Denot). x.disk) c.abandon.ensures.abandoned;
       children_are = c.close-disk.ensures.children ∙ ap (λ (x : ExecutorView g.row.D.Denot). x.children) c.abandon.ensures.abandoned;
@@ -37,8 +37,8 @@ returns-clause-reported g c =
     let last = c.abandon.new.self in
     let holds = all_still_hold view edge.client_view executor last c.into_parts-edge.ensures.holds
     (abandoned_holds view executor last c.abandon.ensures.abandoned) in
-    let opened = ap (λ (w : Position _). w.at.client_view.opened) c.into_parts-edge.ensures.parts ∙ c.answer_lines-ended.ensures.lasts.opened
-    ∙ ap (λ (w : Position _). w.at.client_view.opened) c.new-session.ensures.place ∙ c.requires.fresh.0 in
+    let opened = ap (λ (w : SessionPosition _). w.at.client_view.opened) c.into_parts-edge.ensures.parts ∙ c.answer_lines-ended.ensures.lasts.opened
+    ∙ ap (λ (w : SessionPosition _). w.at.client_view.opened) c.new-session.ensures.point ∙ c.requires.fresh.0 in
     record {
       last = last;
       holds = subst (λ (o : ExecutorView g.row.D.Denot). IsBacked view o last edge.client_view.reported) opened holds;

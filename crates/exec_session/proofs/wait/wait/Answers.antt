@@ -1,5 +1,5 @@
 use Rattle.std.proofs.Common.{inl, refl}
-use Rattle.exec_session.specs.Spots.{paused, position}
+use Rattle.exec_session.specs.SessionViews.{paused, session_position}
 use Rattle.exec_session.specs.Waiting.{still}
 use Rattle.exec_session.proofs.RoundLemmas.{position_is, waits_rest}
 use Rattle.exec_session.proofs.wait.wait.Goals as goal
@@ -10,5 +10,5 @@ returns-then-holds-clause-waits g c =
     let since = c.pauses.new.pause.since in
     let moment = c.pauses.new.pause.moment in
     let (micros, short, same) = c.pauses.ensures.paused in
-    let m = position (paused old.at micros) old.left in
+    let m = session_position (paused old.at micros) old.left in
     (m, waits_rest since moment old old m micros (inl short) still refl, position_is c.pauses.new.self _ old.left same c.pauses.ensures.left)

@@ -4,7 +4,7 @@ use Rattle.ocf_types.specs.State.{State}
 use Rattle.ocf_types.specs.declared.reply.Notice.{Notice}
 use Rattle.ocf_types.specs.declared.reply.TurnEnd.TheVariants as turn_end
 use Rattle.exec_ledger.specs.Laws.{settled_found, settled_reserved, whole}
-use Rattle.exec_ledger.specs.Scenes.{scene_of}
+use Rattle.exec_ledger.specs.BatchStarts.{batch_start_of}
 use Rattle.exec_ledger.specs.LedgerView.{due_in}
 use Rattle.exec_turn.specs.Turn.{IsFinish}
 use Rattle.exec_turn.specs.Turns.{Finishes, reports_of}
@@ -19,7 +19,7 @@ returns-then-room-len-clause-finishes g c =
     let found = settled_found c.lemma_journal_holds.ensures.found h.position h.state v kept.journal in
     let lawful = g.met.D.Disk.lawful h.disk in
     let from = g.C.Children.view c.args.children.now in
-    let x = scene_of h (moment h.state c.args.now) in
+    let x = batch_start_of h (moment h.state c.args.now) in
     subst (λ (l : List Notice). Finishes g.D.Disk.view h.disk h.disk x h.state (due_in h) from from l turn_end.BookFull)
     (sym c.clear.ensures.items)
     (book_full IsFinish g.D.Disk.view h.disk x from (refl, refl) (whole g.D.Disk.view h.disk h.state lawful found
@@ -29,7 +29,7 @@ pub returns-in-Ok-clause-finishes : goal.returns-in-Ok-clause-finishes
 returns-in-Ok-clause-finishes g c =
     let h = c.args.ledger.now in
     let at = c.moment-at.ensures ∙ ap (λ (s : State). moment s c.args.now) c.state-state.ensures.state in
-    subst (λ m. Finishes g.D.Disk.view h.disk c.record_polls.new.ledger.disk (scene_of h m) c.record_polls.new.ledger.state
+    subst (λ m. Finishes g.D.Disk.view h.disk c.record_polls.new.ledger.disk (batch_start_of h m) c.record_polls.new.ledger.state
     (due_in c.record_polls.new.ledger) (g.C.Children.view c.args.children.now) (g.C.Children.view c.record_polls.new.children)
     (reports_of c.record_polls.new.batches) turn_end.Done) at
     (finish_done c.in-Ok.ensures.polled)
@@ -38,7 +38,7 @@ pub returns-in-Err-clause-finishes : goal.returns-in-Err-clause-finishes
 returns-in-Err-clause-finishes g c =
     let h = c.args.ledger.now in
     let at = c.moment-at.ensures ∙ ap (λ (s : State). moment s c.args.now) c.state-state.ensures.state in
-    subst (λ m. Finishes g.D.Disk.view h.disk c.record_polls.new.ledger.disk (scene_of h m) c.record_polls.new.ledger.state
+    subst (λ m. Finishes g.D.Disk.view h.disk c.record_polls.new.ledger.disk (batch_start_of h m) c.record_polls.new.ledger.state
     (due_in c.record_polls.new.ledger) (g.C.Children.view c.args.children.now) (g.C.Children.view c.record_polls.new.children)
     (reports_of c.record_polls.new.batches) turn_end.Disk) at
     (finish_failed c.in-Err.ensures.polled)

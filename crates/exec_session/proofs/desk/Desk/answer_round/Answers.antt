@@ -36,12 +36,12 @@ returns-then-answered-clause-takes g c = record {
       let kept = line_bytes it.pending.buffer in
       let new = c.answer_held.new.self in
       come_more view source rules p own 1 64 commands None kept new (omega arith)
-      (held_answered view source rules p own c.requires.way 0 (may_serve c.args.context.now.way 0 c.requires.way (omega arith)) commands
+      (held_answered view source rules p own c.requires.mode 0 (may_serve c.args.context.now.mode 0 c.requires.mode (omega arith)) commands
       it.pending.held c.in-Some.line kept it.worker new c.requires.none c.in-Some.is c.in_ok-answered.ensures.keeps.1 come
       (subst (λ (b : Bool). AnswersHeld {E = Failed} view source rules c.in-Some.line it.worker.at new.at (Ok b)) c.if-answered.true
       c.in_ok-answered.ensures.answers)
-      (subst (λ (x : ExecutorView _). MayGoOn c.args.context.now.way x) (sym c.in_ok-answered.ensures.stays)
-      (go_open c.args.context.now.way it.worker.at.executor c.requires.«open»)));
+      (subst (λ (x : ExecutorView _). MayGoOn c.args.context.now.mode x) (sym c.in_ok-answered.ensures.stays)
+      (go_open c.args.context.now.mode it.worker.at.executor c.requires.«open»)));
 }
 
 pub returns-else-answered-clause-takes : goal.returns-else-answered-clause-takes

@@ -11,7 +11,7 @@ use Rattle.exec_session.proofs.desk.Desk.answer_waiting.Goals as goal
 pub answer_rest-requires : goal.answer_rest-requires
 answer_rest-requires g c =
     let it = c.take_waiting.new.self in
-    record { «open» = open_while c.args.context.now.way (midway it.worker it.pending) c.in_ok-waited.ensures.waits }
+    record { «open» = open_while c.args.context.now.mode (midway it.worker it.pending) c.in_ok-waited.ensures.waits }
 
 pub returns-clause-polled : goal.returns-clause-polled
 returns-clause-polled g c =
@@ -36,7 +36,7 @@ returns-clause-takes g c = record {
       λ p own come.
       let it = c.take_waiting.new.self in
       let more : c.in_ok-waited.waited ≡ More = search (rules, c.ne.ensures, c.if-ne.false) in
-      c.answer_rest.ensures.takes p own 63 (may_serve c.args.context.now.way 63 c.requires.way (omega arith))
+      c.answer_rest.ensures.takes p own 63 (may_serve c.args.context.now.mode 63 c.requires.mode (omega arith))
       (subst (ComesOrEnds g.D.Disk.view (g.M.Metadata.gives c.args.context.now.metadata.now) (rules_of c.args.context.now) p own 64
       (midway it.worker it.pending)) more (c.in_ok-waited.ensures.takes.comes p own come));
 }

@@ -24,7 +24,7 @@ returns-clause-takes g c = λ p own most may finds.
 pub returns-clause-waits : goal.returns-clause-waits
 returns-clause-waits g c =
     let new = c.answer_rest.new.self in
-    none_waits c.args.context.now.way (midway new.worker new.pending) c.answer_rest.ensures.none
+    none_waits c.args.context.now.mode (midway new.worker new.pending) c.answer_rest.ensures.none
     (λ _. c.answer_rest.ensures.held ∙ c.requires.between.free)
 
 pub returns-clause-there : goal.returns-clause-there

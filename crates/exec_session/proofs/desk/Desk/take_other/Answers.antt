@@ -25,7 +25,7 @@ returns-then-ne g c = record {
             let new = c.answer_gathered.new in
             step_ends view source held p own most (λ n few. may n (omega (arith, few))) (waiting old.pending.gathered) (waiting new.gathered)
             old.pending.held (line_bytes old.pending.buffer) c.args.found old.worker new.self c.next_step-step.result
-            (open_while c.args.context.now.way (midway old.worker old.pending) c.requires.waits) finds c.in_ok-answer_gathered.ensures.answers.done
+            (open_while c.args.context.now.mode (midway old.worker old.pending) c.requires.waits) finds c.in_ok-answer_gathered.ensures.answers.done
             (search (rules, c.ne.ensures, c.if-ne.true)) c.next_step-step.ensures;
       };
 }
@@ -47,9 +47,9 @@ returns g c = record {
             let middle = c.answer_gathered.new in
             let new = c.answer_found.new.self in
             let more : c.next_step-step.result ≡ More = search (rules, c.ne.ensures, c.if-ne.false) in
-            let goes_on = subst (IsTaken held.way middle.self.at.executor false) more c.next_step-step.ensures in
+            let goes_on = subst (IsTaken held.mode middle.self.at.executor false) more c.next_step-step.ensures in
             let answered = found_answered view source held p own most (λ n few. may n (omega (arith, few))) (waiting old.pending.gathered)
-            c.args.found old.worker middle.self (open_while c.args.context.now.way (midway old.worker old.pending) c.requires.waits)
+            c.args.found old.worker middle.self (open_while c.args.context.now.mode (midway old.worker old.pending) c.requires.waits)
             c.in_ok-answer_gathered.ensures.answers.keeps.1 finds c.in_ok-answer_gathered.ensures.answers.done goes_on.1 in
             found_taken view source held p own Failed most may (waiting middle.gathered) old.pending.held (line_bytes old.pending.buffer) c.args.found
             middle.self new c.in_ok-has_ended.has_ended c.next_step.result c.in_ok-answer_gathered.ensures.none c.requires.between.free
@@ -70,7 +70,7 @@ returns-in_err-answer_gathered g c = record {
             comes_err _ _ _ _ own _ _ c.from_residual.result c.from_residual.ensures.0
             (found_batch_breaks g.D.Disk.view (g.M.Metadata.gives c.args.context.now.metadata.now) (rules_of c.args.context.now) p own most
             (waiting old.pending.gathered) c.args.found old.worker c.answer_gathered.new.self.at
-            (open_while c.args.context.now.way (midway old.worker old.pending) c.requires.waits) finds
+            (open_while c.args.context.now.mode (midway old.worker old.pending) c.requires.waits) finds
             c.in_err-answer_gathered.ensures.answers.breaks c.in_err-answer_gathered.ensures.answers.cause);
       };
 }
@@ -91,9 +91,9 @@ returns-in_err-has_ended g c = record {
             let old = c.args.self.now in
             let middle = c.answer_gathered.new in
             let more : c.next_step-step.result ≡ More = search (rules, c.ne.ensures, c.if-ne.false) in
-            let goes_on = subst (IsTaken held.way middle.self.at.executor false) more c.next_step-step.ensures in
+            let goes_on = subst (IsTaken held.mode middle.self.at.executor false) more c.next_step-step.ensures in
             let answered = found_answered view source held p own most (λ n few. may n (omega (arith, few))) (waiting old.pending.gathered)
-            c.args.found old.worker middle.self (open_while c.args.context.now.way (midway old.worker old.pending) c.requires.waits)
+            c.args.found old.worker middle.self (open_while c.args.context.now.mode (midway old.worker old.pending) c.requires.waits)
             c.in_ok-answer_gathered.ensures.answers.keeps.1 finds c.in_ok-answer_gathered.ensures.answers.done goes_on.1 in
             comes_err _ _ _ _ own _ _ c.from_residual-in_err-has_ended.result c.from_residual-in_err-has_ended.ensures.0
             (found_breaks view source held p own most c.args.found middle.self c.answer_found.new.self.at _

@@ -3,7 +3,7 @@ use Rattle.exec_lines.specs.Buffer.{line_bytes}
 use Rattle.exec_trace.specs.declared.event.IoEvent.TheVariants.{Peeked, Read}
 use Rattle.exec_session.specs.Gathered.{waiting}
 use Rattle.exec_session.specs.Rules.{rules_of}
-use Rattle.exec_session.specs.Spots.{Position, Spot}
+use Rattle.exec_session.specs.SessionViews.{SessionPosition, SessionView}
 use Rattle.exec_session.specs.Waiting.{HasFound}
 use Rattle.exec_session.specs.declared.lines.Found.{Found}
 use Rattle.exec_session.proofs.LastLemmas.{lasts_both, lasts_event, lasts_noted, one_read, read_then}
@@ -22,10 +22,10 @@ returns-in_default-clause-takes g c = λ p own most may come.
     let held = old.pending.held in
     let kept = line_bytes old.pending.buffer in
     let kept' = line_bytes c.read.new.buffer in
-    let place' = c.read.new.self in
+    let point' = c.read.new.self in
     let mid = mid_before held c.requires.free come.left kept old.worker.left come.mid in
-    c.answer_rest.ensures.takes p own most may (come_more view source rules p own most (most + 1) commands held kept' place' (omega arith)
-    (read_part view source rules p own most commands held kept kept' old.worker place' c.requires.free c.requires.there
+    c.answer_rest.ensures.takes p own most may (come_more view source rules p own most (most + 1) commands held kept' point' (omega arith)
+    (read_part view source rules p own most commands held kept kept' old.worker point' c.requires.free c.requires.there
     c.in_ok-next.ensures.noted come
     (at_none c.in_ok-next.field-0 _ _ c.in_default.is (c.in_ok-next.ensures.gathers come.left mid))))
 
@@ -38,19 +38,19 @@ returns-in-Ok-clause-takes g c = λ p own most may come.
     let commands = waiting old.pending.gathered in
     let held = old.pending.held in
     let kept = line_bytes old.pending.buffer in
-    let place' = c.read.new.self in
+    let point' = c.read.new.self in
     let mid = mid_before held c.requires.free come.left kept old.worker.left come.mid in
     let next = at_some c.in_ok-next.field-0 c.in-Some.next _ _ c.in-Some.is (c.in_ok-next.ensures.gathers come.left mid) in
     let read = c.found_in-found.result.0 in
     let found = c.note_found.new.found in
-    let reads = noted_reads g.T.Client.refuses rules.way come.left place'.left read found
-    (c.found_in-found.ensures.found come.left place'.left next) c.note_found.ensures.found in
-    let finds = found_next view source rules p own most commands held kept old.worker place' found c.requires.free
+    let reads = noted_reads g.T.Client.refuses rules.mode come.left point'.left read found
+    (c.found_in-found.ensures.found come.left point'.left next) c.note_found.ensures.found in
+    let finds = found_next view source rules p own most commands held kept old.worker point' found c.requires.free
     c.requires.there c.in_ok-next.ensures.noted come reads in
     c.answer_rest-in-Ok.ensures.takes p own most may
     (found_held view source rules p own most commands (Some c.in-Ok.held) (line_bytes c.clear.new.self) c.in-Ok.held found
     c.note_found.new.self c.in-Ok.ensures.held refl c.clear.ensures
-    (subst (λ (w : Position _). HasFound view source rules p own most commands found w) (sym c.note_found.ensures.same) finds))
+    (subst (λ (w : SessionPosition _). HasFound view source rules p own most commands found w) (sym c.note_found.ensures.same) finds))
 
 pub returns-clause-takes : goal.returns-clause-takes
 returns-clause-takes g c = λ p own most may come.
@@ -61,21 +61,21 @@ returns-clause-takes g c = λ p own most may come.
     let commands = waiting old.pending.gathered in
     let held = old.pending.held in
     let kept = line_bytes old.pending.buffer in
-    let place' = c.read.new.self in
+    let point' = c.read.new.self in
     let mid = mid_before held c.requires.free come.left kept old.worker.left come.mid in
     let next = at_some c.in_ok-next.field-0 c.in-Some.next _ _ c.in-Some.is (c.in_ok-next.ensures.gathers come.left mid) in
     let read = c.found_in-found.result.0 in
     let found = c.note_found.new.found in
-    let reads = noted_reads g.T.Client.refuses rules.way come.left place'.left read found
-    (c.found_in-found.ensures.found come.left place'.left next) c.note_found.ensures.found in
-    let finds = found_next view source rules p own most commands held kept old.worker place' found c.requires.free
+    let reads = noted_reads g.T.Client.refuses rules.mode come.left point'.left read found
+    (c.found_in-found.ensures.found come.left point'.left next) c.note_found.ensures.found in
+    let finds = found_next view source rules p own most commands held kept old.worker point' found c.requires.free
     c.requires.there c.in_ok-next.ensures.noted come reads in
     let at_note = c.note_found.new.self in
-    let finds' = subst (λ (w : Position _). HasFound view source rules p own most commands found w) (sym c.note_found.ensures.same) finds in
+    let finds' = subst (λ (w : SessionPosition _). HasFound view source rules p own most commands found w) (sym c.note_found.ensures.same) finds in
     c.take_found.ensures.takes.comes p own most may
     (found_looked view source rules p own most commands c.in-Err.other at_note c.has_line-has_next.new.self (Peeked c.has_line-has_next.result) (
       old.worker.at.events,
-      ap (λ (w : Position _). w.at.events) c.note_found.ensures.same ∙ ap (λ (s : Spot _). s.events) c.in_ok-next.ensures.noted,
+      ap (λ (w : SessionPosition _). w.at.events) c.note_found.ensures.same ∙ ap (λ (s : SessionView _). s.events) c.in_ok-next.ensures.noted,
     )
     c.has_line-has_next.ensures.noted
     (subst (λ (f : Found). HasFound view source rules p own most commands f at_note) (sym c.in-Err.ensures.same) finds'))
@@ -101,7 +101,7 @@ pub returns-in-Ok-clause-reads : goal.returns-in-Ok-clause-reads
 returns-in-Ok-clause-reads g c =
     let old = c.args.self.now.worker.at in
     let at_note = c.note_found.new.self.at in
-    let is_read = ap (λ (w : Position _). w.at) c.note_found.ensures.same ∙ c.in_ok-next.ensures.noted in
+    let is_read = ap (λ (w : SessionPosition _). w.at) c.note_found.ensures.same ∙ c.in_ok-next.ensures.noted in
     read_then old at_note c.answer_rest-in-Ok.new.self.worker.at (one_read old at_note true is_read) c.answer_rest-in-Ok.ensures.lasts
 
 pub returns-clause-reads : goal.returns-clause-reads
@@ -110,7 +110,7 @@ returns-clause-reads g c =
     let read = c.note_found.new.self in
     let polled = c.has_line-has_next.new.self in
     let new = c.take_found.new.self.worker.at in
-    let is_read = ap (λ (w : Position _). w.at) c.note_found.ensures.same ∙ c.in_ok-next.ensures.noted in
+    let is_read = ap (λ (w : SessionPosition _). w.at) c.note_found.ensures.same ∙ c.in_ok-next.ensures.noted in
     read_then old read.at new (one_read old read.at true is_read)
     (lasts_both read.at polled.at new (lasts_noted read polled (Peeked c.has_line-has_next.result) c.has_line-has_next.ensures.noted)
     c.take_found.ensures.takes.lasts)
@@ -121,7 +121,7 @@ returns-clause-lasts g c =
     let read = c.note_found.new.self in
     let polled = c.has_line-has_next.new.self in
     let new = c.take_found.new.self.worker.at in
-    let is_read = ap (λ (w : Position _). w.at) c.note_found.ensures.same ∙ c.in_ok-next.ensures.noted in
+    let is_read = ap (λ (w : SessionPosition _). w.at) c.note_found.ensures.same ∙ c.in_ok-next.ensures.noted in
     lasts_both old read.at new (lasts_event old read.at (Read true) is_read)
     (lasts_both read.at polled.at new (lasts_noted read polled (Peeked c.has_line-has_next.result) c.has_line-has_next.ensures.noted)
     c.take_found.ensures.takes.lasts)

@@ -12,7 +12,7 @@ use Rattle.exec_session.proofs.desk.Desk.take_waiting.Goals as goal
 
 pub loop-reads-init : goal.loop-reads-init
 loop-reads-init g c = record {
-  way = c.requires.way;
+  mode = c.requires.mode;
   waits = c.requires.waits;
   lasts = lasts_same c.args.self.now.worker.at c.args.self.now.worker.at refl;
   reads = omega arith;
@@ -39,7 +39,7 @@ returns-clause-polled g c = λ _.
 
 pub returns-then-not-may_read-clause-waits : goal.returns-then-not-may_read-clause-waits
 returns-then-not-may_read-clause-waits g c =
-    wait_looked c.args.context.now.way c.loop-reads.self.worker c.may_read.new.worker c.loop-reads.self.pending c.may_read.ensures.looks
+    wait_looked c.args.context.now.mode c.loop-reads.self.worker c.may_read.new.worker c.loop-reads.self.pending c.may_read.ensures.looks
     c.loop-reads.invariant.waits
 
 pub take_read-requires : goal.take_read-requires
@@ -47,7 +47,7 @@ take_read-requires g c = record {
   free = c.may_read.ensures.free (search rules);
   there = λ _. c.may_read.ensures.there (search rules);
   waits =
-      wait_looked c.args.context.now.way c.loop-reads.self.worker c.may_read.new.worker c.loop-reads.self.pending
+      wait_looked c.args.context.now.mode c.loop-reads.self.worker c.may_read.new.worker c.loop-reads.self.pending
       c.may_read.ensures.looks c.loop-reads.invariant.waits;
 }
 
@@ -58,7 +58,7 @@ loop-reads-preserved g c =
     let n = c.loop-reads._reads in
     let more : c.in_ok-taken.taken ≡ More = search (rules, c.ne.ensures, c.if-ne.false) in
     record {
-      way = c.loop-reads.invariant.way;
+      mode = c.loop-reads.invariant.mode;
       waits = c.in_ok-taken.ensures.waits;
       lasts =
           lasts_both c.args.self.now.worker.at it.worker.at new.worker.at c.loop-reads.invariant.lasts
@@ -75,9 +75,9 @@ loop-reads-preserved g c =
           subst (ComesOrEnds g.D.Disk.view (g.M.Metadata.gives c.args.context.now.metadata.now) (rules_of c.args.context.now) p own (n + 1)
           (midway new.worker new.pending)) more
           (c.in_ok-taken.ensures.takes p own n
-          (may_serve c.args.context.now.way n c.loop-reads.invariant.way (omega (arith, c.loop-reads-test.true)))
+          (may_serve c.args.context.now.mode n c.loop-reads.invariant.mode (omega (arith, c.loop-reads-test.true)))
           (looked_once _ _ _ p own n (waiting it.pending.gathered) it.pending.held (line_bytes it.pending.buffer) it.worker
-          c.may_read.new.worker c.loop-reads.invariant.way c.may_read.ensures.looks (c.loop-reads.invariant.come p own come)));
+          c.may_read.new.worker c.loop-reads.invariant.mode c.may_read.ensures.looks (c.loop-reads.invariant.come p own come)));
     }
 
 pub returns-then-not-may_read-clause-takes : goal.returns-then-not-may_read-clause-takes
@@ -89,7 +89,7 @@ returns-then-not-may_read-clause-takes g c = record {
       λ p own come.
       let it = c.loop-reads.self in
       looked_once _ _ _ p own 64 (waiting it.pending.gathered) it.pending.held (line_bytes it.pending.buffer) it.worker
-      c.may_read.new.worker c.loop-reads.invariant.way c.may_read.ensures.looks
+      c.may_read.new.worker c.loop-reads.invariant.mode c.may_read.ensures.looks
       (come_more _ _ _ p own c.loop-reads._reads 64 (waiting it.pending.gathered) it.pending.held (line_bytes it.pending.buffer) it.worker
       (omega (arith, c.loop-reads-test.true)) (c.loop-reads.invariant.come p own come));
 }
@@ -109,9 +109,9 @@ returns-then-ne-clause-takes g c = record {
       (waiting new.pending.gathered) new.pending.held (line_bytes new.pending.buffer) new.worker c.in_ok-taken.taken
       (omega (arith, c.loop-reads-test.true))
       (c.in_ok-taken.ensures.takes p own n
-      (may_serve c.args.context.now.way n c.loop-reads.invariant.way (omega (arith, c.loop-reads-test.true)))
+      (may_serve c.args.context.now.mode n c.loop-reads.invariant.mode (omega (arith, c.loop-reads-test.true)))
       (looked_once _ _ _ p own n (waiting it.pending.gathered) it.pending.held (line_bytes it.pending.buffer) it.worker
-      c.may_read.new.worker c.loop-reads.invariant.way c.may_read.ensures.looks (c.loop-reads.invariant.come p own come)));
+      c.may_read.new.worker c.loop-reads.invariant.mode c.may_read.ensures.looks (c.loop-reads.invariant.come p own come)));
 }
 
 pub returns-clause-takes : goal.returns-clause-takes
@@ -135,7 +135,7 @@ returns-in_err-taken-clause-takes g c = record {
       let it = c.loop-reads.self in
       let n = c.loop-reads._reads in
       comes_err _ _ _ _ own _ _ c.from_residual.result c.from_residual.ensures.0 (c.in_err-taken.ensures.takes p own n
-      (may_serve c.args.context.now.way n c.loop-reads.invariant.way (omega (arith, c.loop-reads-test.true)))
+      (may_serve c.args.context.now.mode n c.loop-reads.invariant.mode (omega (arith, c.loop-reads-test.true)))
       (looked_once _ _ _ p own n (waiting it.pending.gathered) it.pending.held (line_bytes it.pending.buffer) it.worker
-      c.may_read.new.worker c.loop-reads.invariant.way c.may_read.ensures.looks (c.loop-reads.invariant.come p own come)));
+      c.may_read.new.worker c.loop-reads.invariant.mode c.may_read.ensures.looks (c.loop-reads.invariant.come p own come)));
 }

@@ -2,18 +2,18 @@ use Rattle.std.proofs.Common.{◌≡◌, ◌≤◌, ◌+◌}
 use Rattle.exec_session.specs.Polls.{reads_in}
 use Rattle.exec_session.specs.Runs.{OwnTurn}
 use Rattle.exec_session.specs.Rules.{rules_of}
-use Rattle.exec_session.specs.Spots.{Lasts, Position}
+use Rattle.exec_session.specs.SessionViews.{Lasts, SessionPosition}
 use Rattle.exec_session.specs.Waiting.{HasCome, MayWait, midway}
-use Rattle.exec_session.specs.declared.context.Way.TheVariants.{Serve}
+use Rattle.exec_session.specs.declared.context.Mode.TheVariants.{Serve}
 use Rattle.exec_session.proofs.desk.Desk.take_waiting.Given as goal
 
 abbrev pub invariant-loop-reads : goal.invariant-loop-reads
 invariant-loop-reads g l = record {
-  way : l.context.way ≡ Serve;
-  waits : MayWait l.context.way (midway l.self.worker l.self.pending);
+  mode : l.context.mode ≡ Serve;
+  waits : MayWait l.context.mode (midway l.self.worker l.self.pending);
   lasts : Lasts l.fn.self.worker.at l.self.worker.at;
   reads : reads_in l.fn.self.worker.at.events + l._reads ≤ reads_in l.self.worker.at.events;
-  come : (p : Position g.row.D.Denot) (own : OwnTurn)
+  come : (p : SessionPosition g.row.D.Denot) (own : OwnTurn)
       → HasCome g.D.Disk.view (g.M.Metadata.gives l.context.metadata.now) (rules_of l.context) p own 0
       (midway l.fn.self.worker l.fn.self.pending)
       → HasCome g.D.Disk.view (g.M.Metadata.gives l.context.metadata.now) (rules_of l.context) p own l._reads

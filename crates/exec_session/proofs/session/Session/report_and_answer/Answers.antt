@@ -3,7 +3,7 @@ use Rattle.exec_lines.proofs.PieceLemmas.{on_err}
 use Rattle.exec_session.specs.Breaks.{BreaksOff, after_ready, in_ready, in_report}
 use Rattle.exec_session.specs.Rules.{rules_of}
 use Rattle.exec_session.specs.Runs.{Finishes}
-use Rattle.exec_session.specs.Spots.{Position}
+use Rattle.exec_session.specs.SessionViews.{SessionPosition}
 use Rattle.exec_session.proofs.LastLemmas.{lasts_both}
 use Rattle.exec_session.proofs.ReadyLemmas.{ready_still}
 use Rattle.exec_session.proofs.RoundLemmas.{position_is}
@@ -16,7 +16,7 @@ returns-clause-runs g c = record {
   begun = c.send_ready.new.self.at;
   ready = c.in_ok-send_ready.ensures.reported.done;
   lines =
-      subst (λ (w : Position _). Finishes g.D.Disk.view (g.M.Metadata.gives c.args.context.now.metadata.now) (rules_of c.args.context.now)
+      subst (λ (w : SessionPosition _). Finishes g.D.Disk.view (g.M.Metadata.gives c.args.context.now.metadata.now) (rules_of c.args.context.now)
       w c.answer_all.new.self.desk.worker)
       (position_is c.send_ready.new.self c.send_ready.new.self.at c.args.self.now.desk.worker.left refl
       (c.in_ok-send_ready.ensures.reported.keeps.1 ∙ c.in_ok-send_report.ensures.reported.keeps.1)) c.in_ok-answer_all.ensures.ends;
@@ -36,7 +36,7 @@ returns-in_err-answer_all-clause-breaks g c =
     on_err c.from_residual-in_err-answer_all.result _
     (after_ready c.send_report.new.self.at c.send_ready.new.self.at c.in_ok-send_report.ensures.reported.done
     c.in_ok-send_ready.ensures.reported.done
-    (subst (λ (w : Position _). BreaksOff g.D.Disk.view (g.M.Metadata.gives c.args.context.now.metadata.now) (rules_of c.args.context.now)
+    (subst (λ (w : SessionPosition _). BreaksOff g.D.Disk.view (g.M.Metadata.gives c.args.context.now.metadata.now) (rules_of c.args.context.now)
     w c.answer_all.new.self.desk.worker.at)
     (position_is c.send_ready.new.self c.send_ready.new.self.at c.args.self.now.desk.worker.left refl
     (c.in_ok-send_ready.ensures.reported.keeps.1 ∙ c.in_ok-send_report.ensures.reported.keeps.1)) c.in_err-answer_all.ensures.ends))
@@ -49,7 +49,7 @@ send_ready-requires g c =
 pub answer_all-requires-clause-open : goal.answer_all-requires-clause-open
 answer_all-requires-clause-open g c =
     let (m, one, two) = c.in_ok-send_report.ensures.reported.done in
-    let still = ready_still c.args.context.now.way c.args.context.now.form c.send_report.new.self.at c.send_ready.new.self.at
+    let still = ready_still c.args.context.now.mode c.args.context.now.form c.send_report.new.self.at c.send_ready.new.self.at
     c.in_ok-send_ready.ensures.reported.done in
     ap (λ x. x.is_open) (still ∙ two.executor ∙ one.executor) ∙ c.requires.«open»
 

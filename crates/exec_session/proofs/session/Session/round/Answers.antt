@@ -26,7 +26,7 @@ returns-in-Run g c = record {
         begins =
             let new = c.take_read.new.self in
             if_ok _ _ c.take_read.result
-            (λ taken there more. session_begins c.args.context.now.way (midway new.worker new.pending) c.in-Run.is c.take_read.ensures.waits (there more))
+            (λ taken there more. session_begins c.args.context.now.mode (midway new.worker new.pending) c.in-Run.is c.take_read.ensures.waits (there more))
             c.take_read.ensures.there;
         goes =
             λ p come.
@@ -37,6 +37,6 @@ returns-in-Run g c = record {
             old.pause.since old.own (come.most + 1) (midway new.worker new.pending) c.take_read.result
             (since_later come.own old.pause.since old.own (held_lines old.desk.pending.held) (held_lines new.pending.held) old.desk.worker.at new.worker.at same
             c.take_read.ensures.lasts come.since)
-            (c.take_read.ensures.takes p come.own come.most (may_run c.args.context.now.way come.most c.in-Run.is) come.come);
+            (c.take_read.ensures.takes p come.own come.most (may_run c.args.context.now.mode come.most c.in-Run.is) come.come);
       };
 }

@@ -9,7 +9,7 @@ use Rattle.exec_session.specs.Gathered.{waiting}
 use Rattle.exec_session.specs.Held.{held_lines}
 use Rattle.exec_session.specs.Rules.{rules_of}
 use Rattle.exec_session.specs.Runs.{MakesOwnTurn, turned as turned_at}
-use Rattle.exec_session.specs.Spots.{Position}
+use Rattle.exec_session.specs.SessionViews.{SessionPosition}
 use Rattle.exec_session.specs.Pausing.{IsQuietSince}
 use Rattle.exec_session.specs.Waiting.{ComesOrEnds, Waits, midway}
 use Rattle.exec_session.specs.declared.lines.Taken.TheVariants.{Closed, Leaves, More}
@@ -20,8 +20,8 @@ use Rattle.exec_session.proofs.session.Session.serve_round.Goals as goal
 
 pub answer_round-requires : goal.answer_round-requires
 answer_round-requires g c =
-    let (is_open, none) = c.requires.begins.serves c.requires.way in record {
-      way = c.requires.way;
+    let (is_open, none) = c.requires.begins.serves c.requires.mode in record {
+      mode = c.requires.mode;
       «open» = is_open;
       none = none;
     }
@@ -36,7 +36,7 @@ returns-then-ne g c = record {
       round_ends g.D.Disk.view (g.M.Metadata.gives c.args.context.now.metadata.now) (rules_of c.args.context.now) p come.own Failed old.pause.since old.own 64
       (midway new.worker new.pending) c.in_ok-taken.taken (search (rules, c.ne.ensures, c.if-ne.true))
       (c.in_ok-taken.ensures.takes.comes p come.own
-      (round_begins _ _ _ p old.pause.since old.own (midway old.desk.worker old.desk.pending) c.requires.way come)));
+      (round_begins _ _ _ p old.pause.since old.own (midway old.desk.worker old.desk.pending) c.requires.mode come)));
 }
 
 pub returns-in_err-taken : goal.returns-in_err-taken
@@ -46,7 +46,7 @@ returns-in_err-taken g c = record {
       (λ p come.
       let old = c.args.self.now in
       c.in_err-taken.ensures.takes.comes p come.own
-      (round_begins _ _ _ p old.pause.since old.own (midway old.desk.worker old.desk.pending) c.requires.way come));
+      (round_begins _ _ _ p old.pause.since old.own (midway old.desk.worker old.desk.pending) c.requires.mode come));
 }
 
 pub returns-then-is_leaving : goal.returns-then-is_leaving
@@ -62,8 +62,8 @@ returns-then-is_leaving g c = record {
       let more : c.in_ok-taken.taken ≡ More = search (rules, c.ne.ensures, c.if-ne.false) in
       let so_far = subst (ComesOrEnds view source held p come.own 64 (midway new.worker new.pending)) more
       (c.in_ok-taken.ensures.takes.comes p come.own
-      (round_begins view source held p old.pause.since old.own (midway old.desk.worker old.desk.pending) c.requires.way come)) in
-      come_leave view source held p come.own c.requires.way 64 (waiting new.pending.gathered) new.pending.held
+      (round_begins view source held p old.pause.since old.own (midway old.desk.worker old.desk.pending) c.requires.mode come)) in
+      come_leave view source held p come.own c.requires.mode 64 (waiting new.pending.gathered) new.pending.held
       (line_bytes new.pending.buffer) new.worker (c.in_ok-taken.ensures.none more) (c.is_leaving.ensures.leaves c.if-is_leaving.true) so_far);
 }
 
@@ -82,8 +82,8 @@ returns-in_err-end g c = record {
       let more : c.in_ok-taken.taken ≡ More = search (rules, c.ne.ensures, c.if-ne.false) in
       let so_far = subst (ComesOrEnds view source held p come.own 64 (midway it.worker it.pending)) more
       (c.in_ok-taken.ensures.takes.comes p come.own
-      (round_begins view source held p old.pause.since old.own (midway old.desk.worker old.desk.pending) c.requires.way come)) in
-      turn_breaks view source held p come.own c.requires.way 64 (waiting it.pending.gathered) it.pending.held
+      (round_begins view source held p old.pause.since old.own (midway old.desk.worker old.desk.pending) c.requires.mode come)) in
+      turn_breaks view source held p come.own c.requires.mode 64 (waiting it.pending.gathered) it.pending.held
       (line_bytes it.pending.buffer) it.worker new.at (c.in_ok-taken.ensures.none more) (
         c.is_leaving.ensures.rests c.if-is_leaving.false,
         looked_since come.own old.pause.since old.own (held_lines old.desk.pending.held) (held_lines it.pending.held) old.desk.worker.at it.worker.at come.since
@@ -108,8 +108,8 @@ returns-then-not-is_open g c = record {
       let more : c.in_ok-taken.taken ≡ More = search (rules, c.ne.ensures, c.if-ne.false) in
       let so_far = subst (ComesOrEnds view source held p come.own 64 (midway it.worker it.pending)) more
       (c.in_ok-taken.ensures.takes.comes p come.own
-      (round_begins view source held p old.pause.since old.own (midway old.desk.worker old.desk.pending) c.requires.way come)) in
-      turn_closes view source held p come.own c.requires.way 64 (waiting it.pending.gathered) it.pending.held
+      (round_begins view source held p old.pause.since old.own (midway old.desk.worker old.desk.pending) c.requires.mode come)) in
+      turn_closes view source held p come.own c.requires.mode 64 (waiting it.pending.gathered) it.pending.held
       (line_bytes it.pending.buffer) it.worker new c.make_own_turn.new.pause.moment c.make_own_turn.new.pause.moment c.in_ok-end.end
       (c.in_ok-taken.ensures.none more) so_far (
         (
@@ -159,7 +159,7 @@ returns-then-wait g c = record {
             let moment = c.make_own_turn.new.pause.moment in
             let (m, waited, same) = c.if-wait.ensures.waits in
             let waits = subst (λ (n : ℕ). Waits since n turned m) c.if-wait.ensures.moment waited in
-            serve_begins c.args.context.now.way (midway c.wait.new.worker it.pending) c.requires.way
+            serve_begins c.args.context.now.mode (midway c.wait.new.worker it.pending) c.requires.mode
             (ap (λ (x : ExecutorView _). x.is_open)
             (waits_executor since moment turned c.wait.new.worker (waits_more since moment turned m c.wait.new.worker (Asked true) waits refl same))
             ∙ sym c.if-not-is_open.ensures.value) (c.in_ok-taken.ensures.none more);
@@ -179,10 +179,10 @@ returns-then-wait g c = record {
             let kept = line_bytes it.pending.buffer in
             let so_far = subst (ComesOrEnds view source held p come.own 64 (midway it.worker it.pending)) more
             (c.in_ok-taken.ensures.takes.comes p come.own
-            (round_begins view source held p old.pause.since old.own (midway old.desk.worker old.desk.pending) c.requires.way come)) in
+            (round_begins view source held p old.pause.since old.own (midway old.desk.worker old.desk.pending) c.requires.mode come)) in
             let moment = c.make_own_turn.new.pause.moment in
             let since = c.wait.new.pause.since in
-            let made = turn_made view source held p come.own c.requires.way 64 commands it.pending.held kept it.worker turned moment since end none
+            let made = turn_made view source held p come.own c.requires.mode 64 commands it.pending.held kept it.worker turned moment since end none
             c.in_ok-end.ensures.made.keeps.1 so_far (
               (
                 rests,
@@ -238,10 +238,10 @@ returns-else-wait g c = record {
             let kept = line_bytes it.pending.buffer in
             let so_far = subst (ComesOrEnds view source held p come.own 64 (midway it.worker it.pending)) more
             (c.in_ok-taken.ensures.takes.comes p come.own
-            (round_begins view source held p old.pause.since old.own (midway old.desk.worker old.desk.pending) c.requires.way come)) in
+            (round_begins view source held p old.pause.since old.own (midway old.desk.worker old.desk.pending) c.requires.mode come)) in
             let moment = c.make_own_turn.new.pause.moment in
             let since = c.wait.new.pause.since in
-            let made = turn_made view source held p come.own c.requires.way 64 commands it.pending.held kept it.worker turned moment since end none
+            let made = turn_made view source held p come.own c.requires.mode 64 commands it.pending.held kept it.worker turned moment since end none
             c.in_ok-end.ensures.made.keeps.1 so_far (
               (
                 rests,
@@ -257,7 +257,7 @@ returns-else-wait g c = record {
             let (m, waited, same) = c.if-wait.ensures.waits in
             let waits = subst (λ (n : ℕ). Waits since n turned m) c.if-wait.ensures.moment waited in
             event_breaks view source held p last 0 commands it.pending.held kept m c.wait.new.worker.at (Asked false) refl
-            (ap (λ (w : Position _). w.at) same)
+            (ap (λ (w : SessionPosition _). w.at) same)
             (waits_come view source held p last 0 commands it.pending.held kept turned m none rests waits made);
       };
 }

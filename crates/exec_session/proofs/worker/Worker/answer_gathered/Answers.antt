@@ -6,7 +6,7 @@ use Rattle.exec_client.specs.MaySend.{MayAnswer, IsBacked}
 use Rattle.exec_client.specs.SentItem.{answered}
 use Rattle.exec_client.proofs.Growing.{both_hold, may_send}
 use Rattle.exec_session.specs.Gathered.{waiting}
-use Rattle.exec_session.specs.Spots.{SendsAll, SendsPart, spot}
+use Rattle.exec_session.specs.SessionViews.{SendsAll, SendsPart, session_view}
 use Rattle.exec_session.proofs.EventLemmas.{both_keep, err_map, ok_map, here_keeps, send_cause, send_keeps, sends, sends_part, was_noted}
 use Rattle.exec_session.proofs.SendLemmas.{after_sent}
 use Rattle.exec_session.proofs.WorkerLemmas.{all_answered, none_answered, open_noted, batch_broken, some_waits, together_heard}
@@ -60,9 +60,9 @@ returns-clause-answers g c = record {
       let new = c.send.new.self in
       let now = c.now-moment.result in
       let commands = waiting c.args.gathered.now in
-      all_answered view _ c.send.result commands c.args.self.now.at (spot y new.client_view new.events) (some_waits _ (sym c.is_empty.ensures ∙ c.if-is_empty.false))
+      all_answered view _ c.send.result commands c.args.self.now.at (session_view y new.client_view new.events) (some_waits _ (sym c.is_empty.ensures ∙ c.if-is_empty.false))
       (ok_map c.send.result _ _
-      (λ sends_all. together_heard (SendsAll form) view _ now commands x y e c.args.self.now c.now-moment.new.self (spot y new.client_view new.events) _
+      (λ sends_all. together_heard (SendsAll form) view _ now commands x y e c.args.self.now c.now-moment.new.self (session_view y new.client_view new.events) _
       c.now-moment.ensures.noted c.self.view_is refl
       (record {
         middle = c.make_room.new.executor;
@@ -70,7 +70,7 @@ returns-clause-answers g c = record {
         takes = c.serve_gathered.ensures.takes;
         fails = c.serve_gathered.ensures.fails;
       })
-      (subst (λ (rs : List Reply). SendsAll form (spot y e.client_view e.events) (spot y new.client_view new.events) (map answered rs)) c.replies.ensures sends_all))
+      (subst (λ (rs : List Reply). SendsAll form (session_view y e.client_view e.events) (session_view y new.client_view new.events) (map answered rs)) c.replies.ensures sends_all))
       (sends form _ y e new c.send.result c.send.ensures.receives c.send.ensures.noted));
   breaks =
       let view = g.D.Disk.view in
@@ -81,9 +81,9 @@ returns-clause-answers g c = record {
       let new = c.send.new.self in
       let now = c.now-moment.result in
       let commands = waiting c.args.gathered.now in
-      batch_broken view _ c.send.result commands c.args.self.now.at (spot y new.client_view new.events) (some_waits _ (sym c.is_empty.ensures ∙ c.if-is_empty.false))
+      batch_broken view _ c.send.result commands c.args.self.now.at (session_view y new.client_view new.events) (some_waits _ (sym c.is_empty.ensures ∙ c.if-is_empty.false))
       (err_map c.send.result _ _
-      (λ sends_all. together_heard (SendsPart form) view _ now commands x y e c.args.self.now c.now-moment.new.self (spot y new.client_view new.events) _
+      (λ sends_all. together_heard (SendsPart form) view _ now commands x y e c.args.self.now c.now-moment.new.self (session_view y new.client_view new.events) _
       c.now-moment.ensures.noted c.self.view_is refl
       (record {
         middle = c.make_room.new.executor;
@@ -91,7 +91,7 @@ returns-clause-answers g c = record {
         takes = c.serve_gathered.ensures.takes;
         fails = c.serve_gathered.ensures.fails;
       })
-      (subst (λ (rs : List Reply). SendsPart form (spot y e.client_view e.events) (spot y new.client_view new.events) (map answered rs)) c.replies.ensures sends_all))
+      (subst (λ (rs : List Reply). SendsPart form (session_view y e.client_view e.events) (session_view y new.client_view new.events) (map answered rs)) c.replies.ensures sends_all))
       (sends_part form _ y e new c.send.result c.send.ensures.breaks c.send.ensures.noted));
   cause = send_cause c.args.context.now.form [] c.serve_gathered.new.executor c.self.inside.edge c.send.new.self c.send.result c.send.ensures.noted;
 }

@@ -2,7 +2,7 @@ use Rattle.std.proofs.Common.{Ok, subst, sym}
 use Rattle.exec_session.specs.Held.{asks}
 use Rattle.exec_session.specs.Progress.{Answers, AnswersSo}
 use Rattle.exec_session.specs.Rules.{rules_of}
-use Rattle.exec_session.specs.Spots.{SendsAll, SendsPart}
+use Rattle.exec_session.specs.SessionViews.{SendsAll, SendsPart}
 use Rattle.exec_session.specs.declared.held.Held.{Held}
 use Rattle.exec_session.proofs.HeldLemmas.{answered_held, held_err}
 use Rattle.exec_session.proofs.worker.Worker.answer_held.Goals as goal

@@ -2,7 +2,7 @@ use Rattle.std.proofs.Common.{[], ◌∷◌}
 use Rattle.std.specs.Prelude.{is_ok}
 use Rattle.exec_client.specs.SentItem.{answered}
 use Rattle.exec_client.proofs.Growing.{both_hold, may_send}
-use Rattle.exec_session.specs.Spots.{SendsAll, SendsPart, spot}
+use Rattle.exec_session.specs.SessionViews.{SendsAll, SendsPart, session_view}
 use Rattle.exec_session.proofs.AnswerLemmas.{request_answered}
 use Rattle.exec_session.proofs.EventLemmas.{both_keep, err_map, ok_map, send_cause, send_keeps, sends, sends_part, was_noted}
 use Rattle.exec_session.proofs.SendLemmas.{after_sent}
@@ -49,7 +49,7 @@ returns g c = record {
             let new = c.send.new.self in
             ok_map c.send.result _ _
             (λ sends_all. request_answered view _ _ (SendsAll form) c.now-now.result c.args.request c.self.inside.executor c.make_room.new.executor y e
-            c.args.self.now c.now-now.new.self (spot y new.client_view new.events) c.request_reply.result c.now-now.ensures.noted c.self.view_is
+            c.args.self.now c.now-now.new.self (session_view y new.client_view new.events) c.request_reply.result c.now-now.ensures.noted c.self.view_is
             c.requires.«open» c.make_room.ensures.makes c.request_reply.ensures.serves c.request_reply.ensures.fails c.request_reply.ensures.closes sends_all)
             (sends form _ y e new c.send.result c.send.ensures.receives c.send.ensures.noted);
         breaks =
@@ -60,7 +60,7 @@ returns g c = record {
             let new = c.send.new.self in
             err_map c.send.result _ _
             (λ sends_all. request_answered view _ _ (SendsPart form) c.now-now.result c.args.request c.self.inside.executor c.make_room.new.executor y e
-            c.args.self.now c.now-now.new.self (spot y new.client_view new.events) c.request_reply.result c.now-now.ensures.noted c.self.view_is
+            c.args.self.now c.now-now.new.self (session_view y new.client_view new.events) c.request_reply.result c.now-now.ensures.noted c.self.view_is
             c.requires.«open» c.make_room.ensures.makes c.request_reply.ensures.serves c.request_reply.ensures.fails c.request_reply.ensures.closes sends_all)
             (sends_part form _ y e new c.send.result c.send.ensures.breaks c.send.ensures.noted);
         cause = send_cause c.args.context.now.form [] c.request_reply.new.executor c.self.inside.edge c.send.new.self c.send.result c.send.ensures.noted;

@@ -2,7 +2,7 @@ use Rattle.std.proofs.Common.{◌≡◌, ◌≤◌, true, length, Some}
 use Rattle.exec_trace.specs.Events.{last_shown}
 use Rattle.exec_session.specs.Drains.{GoesOn}
 use Rattle.exec_session.specs.Rules.{rules_of}
-use Rattle.exec_session.specs.Spots.{Keeps}
+use Rattle.exec_session.specs.SessionViews.{Keeps}
 use Rattle.exec_session.proofs.worker.Worker.drain.Given as goal
 
 abbrev pub invariant-loop-turns : goal.invariant-loop-turns

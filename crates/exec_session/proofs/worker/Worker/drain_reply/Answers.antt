@@ -1,6 +1,6 @@
 use Rattle.std.proofs.Common.{ap, ◌∙◌}
 use Rattle.exec_trace.specs.Events.{last_shown}
-use Rattle.exec_session.specs.Spots.{Position}
+use Rattle.exec_session.specs.SessionViews.{SessionPosition}
 use Rattle.exec_session.proofs.AnswerLemmas.{drain_breaks_for, drains_for}
 use Rattle.exec_session.proofs.EventLemmas.{both_keep, shown_last, was_noted}
 use Rattle.exec_session.proofs.StepLemmas.{step_to_fails}
@@ -8,9 +8,9 @@ use Rattle.exec_session.proofs.worker.Worker.drain_reply.Goals as goal
 
 pub drain-requires : goal.drain-requires
 drain-requires g c = record {
-  «open» = ap (λ (P : Position _). P.at.executor.is_open) c.now-start.ensures.noted ∙ c.requires.«open»;
+  «open» = ap (λ (P : SessionPosition _). P.at.executor.is_open) c.now-start.ensures.noted ∙ c.requires.«open»;
   shown =
-      ap (λ (P : Position _). last_shown P.at.events) c.now-start.ensures.noted
+      ap (λ (P : SessionPosition _). last_shown P.at.events) c.now-start.ensures.noted
       ∙ shown_last c.args.self.now.at.events c.now-start.result;
 }
 

@@ -4,7 +4,7 @@ use Rattle.exec_client.specs.MaySend.{IsBacked}
 use Rattle.exec_client.specs.SentItem.{SentItem}
 use Rattle.executor.specs.TurnCalls.{with_empty_book}
 use Rattle.exec_client.proofs.Growing.{may_send}
-use Rattle.exec_session.specs.Spots.{SendsAll, SendsPart, spot}
+use Rattle.exec_session.specs.SessionViews.{SendsAll, SendsPart, session_view}
 use Rattle.exec_session.proofs.EventLemmas.{both_keep, err_map, ok_map, send_cause, send_keeps, sends, sends_part, was_noted}
 use Rattle.exec_session.proofs.LeaveLemmas.{finish_taken, finish_sent}
 use Rattle.exec_session.proofs.SendLemmas.{after_sent}
@@ -61,9 +61,9 @@ returns g c = record {
             let takes = finish_taken view now old c.clear_book.new.self last c.finish.result c.clear_book.ensures.cleared is_open
             c.finish.ensures.finishes in
             ok_map c.send.result _ _
-            (λ sends_all. finish_heard (SendsAll form) view now old last e c.args.self.now c.now-now.new.self (spot last new.client_view new.events) c.finish.result
+            (λ sends_all. finish_heard (SendsAll form) view now old last e c.args.self.now c.now-now.new.self (session_view last new.client_view new.events) c.finish.result
             c.now-now.ensures.noted c.self.view_is refl takes
-            (subst (λ (items : List SentItem). SendsAll form (spot last e.client_view e.events) (spot last new.client_view new.events) items)
+            (subst (λ (items : List SentItem). SendsAll form (session_view last e.client_view e.events) (session_view last new.client_view new.events) items)
             c.of_executor-turn.ensures.items sends_all))
             (sends form _ last e new c.send.result c.send.ensures.receives c.send.ensures.noted);
         breaks =
@@ -78,9 +78,9 @@ returns g c = record {
             let takes = finish_taken view now old c.clear_book.new.self last c.finish.result c.clear_book.ensures.cleared is_open
             c.finish.ensures.finishes in
             err_map c.send.result _ _
-            (λ sends_all. finish_heard (SendsPart form) view now old last e c.args.self.now c.now-now.new.self (spot last new.client_view new.events) c.finish.result
+            (λ sends_all. finish_heard (SendsPart form) view now old last e c.args.self.now c.now-now.new.self (session_view last new.client_view new.events) c.finish.result
             c.now-now.ensures.noted c.self.view_is refl takes
-            (subst (λ (items : List SentItem). SendsPart form (spot last e.client_view e.events) (spot last new.client_view new.events) items)
+            (subst (λ (items : List SentItem). SendsPart form (session_view last e.client_view e.events) (session_view last new.client_view new.events) items)
             c.of_executor-turn.ensures.items sends_all))
             (sends_part form _ last e new c.send.result c.send.ensures.breaks c.send.ensures.noted);
         cause = send_cause c.args.context.now.form [] c.finish.new.self c.self.inside.edge c.send.new.self c.send.result c.send.ensures.noted;

@@ -1,7 +1,7 @@
 use Rattle.std.proofs.Common.{◌≡◌, ◌≤◌, true, length}
 use Rattle.exec_session.specs.Leaving.{WindsDown}
 use Rattle.exec_session.specs.Rules.{rules_of}
-use Rattle.exec_session.specs.Spots.{Keeps}
+use Rattle.exec_session.specs.SessionViews.{Keeps}
 use Rattle.exec_session.proofs.worker.Worker.leave.Given as goal
 
 abbrev pub invariant-loop-turns : goal.invariant-loop-turns

@@ -5,7 +5,7 @@ use Rattle.executor.specs.TurnCalls.{TurnsWhile}
 use Rattle.exec_client.specs.MaySend.{IsBacked}
 use Rattle.exec_client.specs.SentItem.{SentItem}
 use Rattle.exec_client.proofs.Growing.{all_still_hold, may_send}
-use Rattle.exec_session.specs.Spots.{Position, SendsAll, SendsPart, spot}
+use Rattle.exec_session.specs.SessionViews.{SessionPosition, SendsAll, SendsPart, session_view}
 use Rattle.exec_session.proofs.EventLemmas.{moved_keeps, send_keeps, unsent}
 use Rattle.exec_session.proofs.StepLemmas.{step_to_fails}
 use Rattle.exec_session.proofs.SendLemmas.{after_sent, cleared_room, turn_after_room}
@@ -16,7 +16,7 @@ pub make_room-requires : goal.make_room-requires
 make_room-requires g c = record {
   «open» =
       subst (λ (y : ExecutorView _). y.is_open ≡ true) (sym c.clear_book.ensures.cleared)
-      (parts (λ (P : Position _). P.at.executor.is_open ≡ true) c.self.inside.executor c.self.inside.edge c.args.self.now c.self.view_is
+      (parts (λ (P : SessionPosition _). P.at.executor.is_open ≡ true) c.self.inside.executor c.self.inside.edge c.args.self.now c.self.view_is
       c.requires.«open»);
 }
 
@@ -101,10 +101,10 @@ returns g c = record {
             let new = c.send.new.self in
             let form = c.args.context.now.form in
             turn_heard (SendsAll form) view _ c.args.now c.self.inside.executor c.clear_book.new.self middle last e c.args.self.now
-            (spot last new.client_view new.events) c.turn-end.result c.self.view_is c.requires.shown c.clear_book.ensures.cleared
+            (session_view last new.client_view new.events) c.turn-end.result c.self.view_is c.requires.shown c.clear_book.ensures.cleared
             c.make_room.ensures.makes is_open refl
             (subst (λ b. TurnsWhile b view c.args.now middle last c.turn-end.result) is_open c.turn-end.ensures.turns)
-            (subst (λ (items : List SentItem). SendsAll form (spot last e.client_view e.events) (spot last new.client_view new.events) items)
+            (subst (λ (items : List SentItem). SendsAll form (session_view last e.client_view e.events) (session_view last new.client_view new.events) items)
             c.of_executor-turn.ensures.items
             (record { executor = refl; receives = c.in_ok-send.ensures.receives; events = c.in_ok-send.ensures.noted }));
         breaks = tt;
@@ -128,10 +128,10 @@ returns-in_err-send g c = record {
       ) (
         c.turn-end.result,
         turn_heard (SendsPart form) view _ c.args.now c.self.inside.executor c.clear_book.new.self middle last e c.args.self.now
-            (spot last new.client_view new.events) c.turn-end.result c.self.view_is c.requires.shown c.clear_book.ensures.cleared
+            (session_view last new.client_view new.events) c.turn-end.result c.self.view_is c.requires.shown c.clear_book.ensures.cleared
             c.make_room.ensures.makes is_open refl
             (subst (λ b. TurnsWhile b view c.args.now middle last c.turn-end.result) is_open c.turn-end.ensures.turns)
-            (subst (λ (items : List SentItem). SendsPart form (spot last e.client_view e.events) (spot last new.client_view new.events) items)
+            (subst (λ (items : List SentItem). SendsPart form (session_view last e.client_view e.events) (session_view last new.client_view new.events) items)
             c.of_executor-turn.ensures.items
             (record { executor = refl; receives = c.in_err-send.ensures.breaks; events = c.in_err-send.ensures.noted })),
       ) (unsent c.self.inside.edge.events c.send.new.self.events c.in_err-send.ensures.noted);

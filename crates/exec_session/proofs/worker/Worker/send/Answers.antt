@@ -3,7 +3,7 @@ use Rattle.std.specs.Prelude.{is_ok}
 use Rattle.exec_client.specs.MaySend.{IsOfView, IsBacked}
 use Rattle.exec_client.specs.SentItem.{sent_in}
 use Rattle.exec_client.proofs.Growing.{may_send}
-use Rattle.exec_session.specs.Spots.{Position, SendsAll, SendsPart, at_of}
+use Rattle.exec_session.specs.SessionViews.{SessionPosition, SendsAll, SendsPart, at_of}
 use Rattle.exec_session.proofs.EventLemmas.{send_cause, send_keeps, sends, sends_part}
 use Rattle.exec_session.proofs.SendLemmas.{after_sent}
 use Rattle.exec_session.proofs.WorkerLemmas.{parts, whole}
@@ -18,8 +18,8 @@ send-requires g c =
     let items = sent_in c.args.what.now in record {
       may_send =
           may_send view e.client_view x x _ c.self.invariant
-          (parts (λ (P : Position _). IsBacked view P.at.executor P.at.executor items) x e p c.self.view_is c.requires.holds)
-          (parts (λ (P : Position _). IsOfView P.at.executor c.args.what.now) x e p c.self.view_is c.requires.says);
+          (parts (λ (P : SessionPosition _). IsBacked view P.at.executor P.at.executor items) x e p c.self.view_is c.requires.holds)
+          (parts (λ (P : SessionPosition _). IsOfView P.at.executor c.args.what.now) x e p c.self.view_is c.requires.says);
     }
 
 pub invariant_of-self : goal.invariant_of-self
@@ -29,7 +29,7 @@ invariant_of-self g c =
     let e = c.self.inside.edge in
     let items = sent_in c.args.what.now in
     after_sent view e.client_view c.send.new.self.client_view x x items c.self.invariant
-    (parts (λ (P : Position _). IsBacked view P.at.executor P.at.executor items) x e c.args.self.now c.self.view_is c.requires.holds)
+    (parts (λ (P : SessionPosition _). IsBacked view P.at.executor P.at.executor items) x e c.args.self.now c.self.view_is c.requires.holds)
     c.send.ensures.reported
 
 pub returns : goal.returns
@@ -45,14 +45,14 @@ returns g c = record {
             let e = c.self.inside.edge in
             let new = c.send.new.self in
             let items = sent_in c.args.what.now in
-            whole (λ (P : Position _). OnOk c.send.result (SendsAll c.args.form P.at (at_of x new).at items)) x e c.args.self.now c.self.view_is
+            whole (λ (P : SessionPosition _). OnOk c.send.result (SendsAll c.args.form P.at (at_of x new).at items)) x e c.args.self.now c.self.view_is
             (sends c.args.form items x e new c.send.result c.send.ensures.receives c.send.ensures.noted);
         breaks =
             let x = c.self.inside.executor in
             let e = c.self.inside.edge in
             let new = c.send.new.self in
             let items = sent_in c.args.what.now in
-            whole (λ (P : Position _). OnErr c.send.result (SendsPart c.args.form P.at (at_of x new).at items)) x e c.args.self.now c.self.view_is
+            whole (λ (P : SessionPosition _). OnErr c.send.result (SendsPart c.args.form P.at (at_of x new).at items)) x e c.args.self.now c.self.view_is
             (sends_part c.args.form items x e new c.send.result c.send.ensures.breaks c.send.ensures.noted);
         cause =
             send_cause c.args.form (sent_in c.args.what.now) c.self.inside.executor c.self.inside.edge c.send.new.self c.send.result

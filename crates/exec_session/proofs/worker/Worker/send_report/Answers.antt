@@ -2,7 +2,7 @@ use Rattle.std.proofs.Common.{◌≡◌, inl, inr, List, map, sym, ap, subst, �
 use Rattle.ocf_types.specs.declared.reply.Notice.{Notice}
 use Rattle.executor.specs.Reports.{ReportView}
 use Rattle.exec_client.specs.SentItem.{Reported}
-use Rattle.exec_session.specs.Spots.{SendsAll, SendsPart}
+use Rattle.exec_session.specs.SessionViews.{SendsAll, SendsPart}
 use Rattle.exec_session.proofs.StepLemmas.{step_after, step_fails}
 use Rattle.exec_session.proofs.SendLemmas.{reported_hold}
 use Rattle.exec_session.proofs.worker.Worker.send_report.Goals as goal

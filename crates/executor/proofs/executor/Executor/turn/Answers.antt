@@ -3,7 +3,7 @@ use Rattle.ocf_types.specs.declared.reply.TurnEnd.{TurnEnd}
 use Rattle.ocf_types.specs.Answer.{moment}
 use Rattle.child_model.specs.Children.{Admits}
 use Rattle.exec_ledger.specs.Laws.{while_open}
-use Rattle.exec_ledger.specs.Scenes.{scene_of}
+use Rattle.exec_ledger.specs.BatchStarts.{batch_start_of}
 use Rattle.exec_turn.specs.Turn.{IsTurn}
 use Rattle.exec_turn.specs.Turns.{reports_of}
 use Rattle.executor.specs.Reports.{reported_of}
@@ -41,7 +41,7 @@ returns g c =
       full = turn.full;
       unchanged = λ is.
           let same = turn.unchanged is in
-          let none = (subst (λ (end : TurnEnd). IsTurn end (scene_of e.ledger (moment e.ledger.state c.args.now)) turn.turns.effects y.reported) is
+          let none = (subst (λ (end : TurnEnd). IsTurn end (batch_start_of e.ledger (moment e.ledger.state c.args.now)) turn.turns.effects y.reported) is
           turn.turns.does).1 in
           λ i. executor_view (same.0 i) (g.C.Children.view (same.1 i)) e.site (none i) (reported_of e.opening_report);
       closes = turn.closes;

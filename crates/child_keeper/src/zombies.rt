@@ -12,29 +12,29 @@ use std::alloc::{AllocError, Allocator};
 use std::collections::VecDeque;
 use std::process::OpenProcess;
 
-/// Killed agents that were not reaped yet, oldest first. One that has ended stays a zombie until `sweep` reaps it.
+/// Killed agents that were not reaped yet, oldest first. One that has ended stays a zombie until `reap` reaps it.
 #[derive(Drop)]
-pub struct Dying<P: OpenProcess + Drop, A: Allocator> {
+pub struct Zombies<P: OpenProcess + Drop, A: Allocator> {
     pub agents: VecDeque<Agent<P>, A>,
     pub ghost room: { live_limit ≤ deque_capacity agents },
     pub ghost few: { deque_len agents ≤ live_limit },
 }
 
-impl<P: OpenProcess + Drop, A: Grows> Dying<P, A> {
+impl<P: OpenProcess + Drop, A: Grows> Zombies<P, A> {
     /// An empty list with the capacity for as many as may live. It fails only where memory is refused.
-    pub fn new(alloc: A) -> Result<Dying<P, A>, AllocError>
+    pub fn new(alloc: A) -> Result<Zombies<P, A>, AllocError>
         ensures none { IfOk result (λ d. deque_items d.agents ≡ []) }
         ensures memory { OnErr result (IsTrue A.refuses) }
     {
         // TRUSTED: a deque grows its own memory.
         let agents = A::library_growth(VecDeque::with_capacity(alloc, LIVE_LIMIT))?;
-        Ok(Dying { agents })
+        Ok(Zombies { agents })
     }
 }
 
-impl<P: OpenProcess + Drop, A: Allocator> Dying<P, A> {
+impl<P: OpenProcess + Drop, A: Allocator> Zombies<P, A> {
     /// Reaps and removes each agent that has ended. It never waits.
-    pub fn sweep(&mut self)
+    pub fn reap(&mut self)
         ensures fewer { deque_len self.new.agents ≤ deque_len self.old.agents }
     {
         self.agents.retain_mut(|agent| still_runs(&mut agent.child));
@@ -50,7 +50,7 @@ impl<P: OpenProcess + Drop, A: Allocator> Dying<P, A> {
         ensures room { deque_len self.new.agents < LIVE_LIMIT }
     {
         if self.agents.len() >= LIVE_LIMIT {
-            self.sweep();
+            self.reap();
         }
         if self.agents.len() >= LIVE_LIMIT {
             drop(self.agents.pop_front());
