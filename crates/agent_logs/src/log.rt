@@ -18,7 +18,7 @@ const SILENCE: u64 = 60;
 
 // A destination of agents' output.
 #[derive(Drop)]
-enum Place {
+enum Destination {
     // The standard error of this program.
     Errors(OwnedFd),
     // A file for all resources.
@@ -31,7 +31,7 @@ enum Place {
 #[derive(Drop)]
 struct Kept {
     alloc: Global,
-    place: Place,
+    destination: Destination,
     // When a failure of the log was last reported, by the monotonic clock.
     told: Cell<Option<Duration>>,
 }
@@ -84,10 +84,10 @@ fn write_line(mut file: &File, line: &[u8]) -> io::Result<()> {
 }
 
 impl Kept {
-    fn at(alloc: Global, place: Place) -> Kept {
+    fn at(alloc: Global, destination: Destination) -> Kept {
         Kept {
             alloc,
-            place,
+            destination,
             told: Cell::new(None),
         }
     }
@@ -113,8 +113,8 @@ impl Kept {
             return;
         }
         let id = str::from_utf8(id.as_bytes()).unwrap_or_default();
-        let _ = match &self.place {
-            Place::Directory(directory) => {
+        let _ = match &self.destination {
+            Destination::Directory(directory) => {
                 rt.eprintln(format_args!("ocfexec: log {directory}/{id}.log: {error}"))
             }
             _ => rt.eprintln(format_args!("ocfexec: log of agents: {error}")),
@@ -123,8 +123,8 @@ impl Kept {
 
     // The stamp of a line that is written now, with the id if the log is one of all resources.
     fn stamp<'a>(&self, rt: &impl Clock, id: &'a RscId) -> Stamp<'a> {
-        let id = match &self.place {
-            Place::Directory(_) => None,
+        let id = match &self.destination {
+            Destination::Directory(_) => None,
             _ => Some(id),
         };
         Stamp {
@@ -167,16 +167,16 @@ impl Kept {
 
     // Writes the line of a begin, and returns the streams of the agent.
     fn begin<R: Clock + Eprint>(&self, rt: &R, id: &RscId, line: &[u8]) -> io::Result<Streams> {
-        match &self.place {
-            Place::Errors(stream) => {
+        match &self.destination {
+            Destination::Errors(stream) => {
                 self.say(rt, line);
                 Streams::of_stream(stream)
             }
-            Place::File(file) => {
+            Destination::File(file) => {
                 self.write(rt, id, file, line);
                 Streams::of_file(file)
             }
-            Place::Directory(directory) => match self.open(rt, directory, id, line) {
+            Destination::Directory(directory) => match self.open(rt, directory, id, line) {
                 Some(file) => Streams::of_file(&file),
                 None => Ok(Streams::none()),
             },
@@ -185,10 +185,10 @@ impl Kept {
 
     // Writes the line of an end.
     fn end<R: Clock + Eprint>(&self, rt: &R, id: &RscId, line: &[u8]) {
-        match &self.place {
-            Place::Errors(_) => self.say(rt, line),
-            Place::File(file) => self.write(rt, id, file, line),
-            Place::Directory(directory) => drop(self.open(rt, directory, id, line)),
+        match &self.destination {
+            Destination::Errors(_) => self.say(rt, line),
+            Destination::File(file) => self.write(rt, id, file, line),
+            Destination::Directory(directory) => drop(self.open(rt, directory, id, line)),
         }
     }
 }
@@ -199,9 +199,9 @@ impl Log {
         Log { kept: None }
     }
 
-    fn at(alloc: Global, place: Place) -> Log {
+    fn at(alloc: Global, destination: Destination) -> Log {
         Log {
-            kept: Some(Kept::at(alloc, place)),
+            kept: Some(Kept::at(alloc, destination)),
         }
     }
 
@@ -210,17 +210,17 @@ impl Log {
     /// more descriptors.
     pub fn to_errors(alloc: Global, stream: &impl AsFd) -> io::Result<Log> {
         let stream = stream.as_fd().try_clone_to_owned()?;
-        Ok(Log::at(alloc, Place::Errors(stream)))
+        Ok(Log::at(alloc, Destination::Errors(stream)))
     }
 
     /// All agents write to this file, by a descriptor above those of the standard streams.
     pub fn to_file(alloc: Global, file: &File) -> io::Result<Log> {
-        Ok(Log::at(alloc, Place::File(file.try_clone()?)))
+        Ok(Log::at(alloc, Destination::File(file.try_clone()?)))
     }
 
     /// Each agent writes to the log of its resource in this directory.
     pub fn to_directory(alloc: Global, directory: LogDirectory) -> Log {
-        Log::at(alloc, Place::Directory(directory))
+        Log::at(alloc, Destination::Directory(directory))
     }
 
     /// Writes the line of a run that begins, and returns the streams of its agent. If the log of a resource cannot be opened, that is

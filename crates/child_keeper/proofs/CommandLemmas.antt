@@ -5,7 +5,7 @@ use Rattle.std.proofs.Common.{ap, arith, inl, inr, refl, subst, sym, ◌∙◌}
 use Rattle.std.proofs.lemmas.Slice.Eq.{bytes_eq-Decides}
 use Rattle.ocf_types.specs.Laws.{before_differs, before_trans, both}
 use Rattle.ocf_types.specs.Params.{is_after, is_before}
-use Rattle.ocf_env.specs.Places.{Pair}
+use Rattle.ocf_env.specs.Locations.{Pair}
 use Rattle.ocf_env.specs.Variables.{are_ascending_after}
 
 -- the value of a name that comes before all others does not change

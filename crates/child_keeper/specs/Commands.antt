@@ -2,7 +2,7 @@
 use Rattle.std.specs.Prelude.{◌≡◌, ℕ, List, codes, Option, Some, None, true}
 use Rattle.std.specs.Process.{clears_env, command_args, command_dir, command_program, command_var, var_after}
 use Rattle.std.specs.declared.process.command.Command.{Command}
-use Rattle.ocf_env.specs.Places.{Call, Pair}
+use Rattle.ocf_env.specs.Locations.{Call, Pair}
 
 -- the value of a variable in a command that has these pairs and no other variables
 abbrev pub given : List Pair → List ℕ → Option (Option (List ℕ))

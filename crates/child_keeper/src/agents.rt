@@ -75,13 +75,13 @@ impl<P: OpenProcess + Drop, A: Allocator> Agents<P, A> {
     }
 
     // The index of the agent process of a run.
-    fn place(&self, run: RunId) -> usize
+    fn index(&self, run: RunId) -> usize
         requires lives { Contains (runs_of self.now.agents.items) run }
         ensures within { result < vec_len self.now.agents }
         ensures found { slice_get (runs_of self.now.agents.items) result ≡ Some run }
     {
         match self.first(run) {
-            Some(place) => place,
+            Some(index) => index,
             None => unreachable!(),
         }
     }
@@ -92,8 +92,8 @@ impl<P: OpenProcess + Drop, A: Allocator> Agents<P, A> {
         ensures stay { runs_of self.new.agents.items ≡ runs_of self.old.agents.items }
         ensures others { others_of run self.new.agents.items ≡ others_of run self.old.agents.items }
     {
-        let place = self.place(run);
-        self.agents[place].child.try_wait()
+        let index = self.index(run);
+        self.agents[index].child.try_wait()
     }
 
     /// Removes the agent process of a run and returns it.
@@ -105,8 +105,8 @@ impl<P: OpenProcess + Drop, A: Allocator> Agents<P, A> {
         ensures run { result.run ≡ run }
         ensures others { self.new.agents.items ≡ others_of run self.old.agents.items }
     {
-        let place = self.place(run);
-        let agent = self.agents.remove(place);
+        let index = self.index(run);
+        let agent = self.agents.remove(index);
         self.agents.retain(|other| other.run.get() != run.get());
         agent
     }

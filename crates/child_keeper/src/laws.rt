@@ -1,6 +1,6 @@
 //! Lemmas about commands and metadata, each the contract of a function that does nothing.
 ghost use Rattle.std.specs.Prelude.{◌≡◌, ◌↔◌, ℕ, List, Contains, IsTrue, Some};
-ghost use Rattle.ocf_env.specs.Places.{Pair};
+ghost use Rattle.ocf_env.specs.Locations.{Pair};
 ghost use Rattle.ocf_env.specs.Variables.{are_ascending};
 ghost use Rattle.child_keeper.specs.Commands.{given};
 ghost use Rattle.child_keeper.specs.MetaChildren.{AskedView, GoesOn, IsWholeAnswer};

@@ -8,7 +8,7 @@ use Rattle.exec_journal.specs.Journal.{InSync}
 use Rattle.exec_journal.specs.declared.journal.Journal.{Journal}
 use Rattle.ocf_env.specs.Instances.{registration_of}
 use Rattle.ocf_env.specs.Invocations.{IsInvocation}
-use Rattle.ocf_env.specs.Places.{Call, SiteView}
+use Rattle.ocf_env.specs.Locations.{Call, SiteView}
 use Rattle.ocf_env.specs.declared.launches.LaunchOf.{LaunchOf}
 use Rattle.child_model.specs.Children.{Admits}
 

@@ -8,7 +8,7 @@ use std::alloc::Global;
 const VERSION_AT: usize = 5;
 
 // The index of a cause's count.
-fn place_of(cause: Cause) -> usize {
+fn index_of(cause: Cause) -> usize {
     match cause {
         Cause::Cut => 1,
         Cause::Magic => 2,
@@ -28,22 +28,22 @@ fn may_stand(damage: &Damage) -> bool {
 }
 
 // Opens a journal on this part with a byte set to another value. Returns the index of the count of what is found.
-fn found(alloc: Global, journal: &[u8], place: usize, byte: u8) -> Option<usize> {
+fn found(alloc: Global, journal: &[u8], index: usize, byte: u8) -> Option<usize> {
     let mut part = journal.to_vec(alloc).ok()?;
-    *part.get_mut(place)? = byte;
+    *part.get_mut(index)? = byte;
     match found_on(alloc, disk_with(alloc, part.as_slice(), &[])?) {
         Ok(_) => Some(0),
-        Err(JournalFault::Damaged(damage)) if may_stand(&damage) => Some(place_of(damage.cause)),
+        Err(JournalFault::Damaged(damage)) if may_stand(&damage) => Some(index_of(damage.cause)),
         Err(_) => None,
     }
 }
 
 // Counts the openings with each other byte at an offset, by a state or each cause of damage.
-fn count(alloc: Global, journal: &[u8], place: usize, counts: &mut [u32; 10]) -> Option<()> {
-    let byte = *journal.get(place)?;
+fn count(alloc: Global, journal: &[u8], index: usize, counts: &mut [u32; 10]) -> Option<()> {
+    let byte = *journal.get(index)?;
     for other in 0..=255 {
         if other != byte {
-            let counter = counts.get_mut(found(alloc, journal, place, other)?)?;
+            let counter = counts.get_mut(found(alloc, journal, index, other)?)?;
             *counter = counter.saturating_add(1);
         }
     }
@@ -52,8 +52,8 @@ fn count(alloc: Global, journal: &[u8], place: usize, counts: &mut [u32; 10]) ->
 
 fn counts(alloc: Global, journal: &[u8]) -> Option<[u32; 10]> {
     let mut counts = [0; 10];
-    for place in 0..journal.len() {
-        count(alloc, journal, place, &mut counts)?;
+    for index in 0..journal.len() {
+        count(alloc, journal, index, &mut counts)?;
     }
     Some(counts)
 }

@@ -20,42 +20,42 @@ use Rattle.exec_lines.specs.Pieces.{IsNext, Reads, answer_at}
 abbrev pub NoNewline : List ℕ → Type 0
 NoNewline = All (λ b. b ≢ 10)
 
-pub place-le : (xs : List ℕ) → position_or_len is_newline xs ≤ length xs
-place-le xs = prefix_len-le-length (λ x. not (is_newline x)) xs
+pub index-le : (xs : List ℕ) → position_or_len is_newline xs ≤ length xs
+index-le xs = prefix_len-le-length (λ x. not (is_newline x)) xs
 
 -- there is no newline before the first one
 pub none_before : (xs : List ℕ) → NoNewline (take (position_or_len is_newline xs) xs)
 none_before xs k d h e =
     let n = position_or_len is_newline xs in
-    let below : k < n = omega (arith, h, length-take-le n xs (place-le xs)) in
+    let below : k < n = omega (arith, h, length-take-le n xs (index-le xs)) in
     let miss : is_newline (get_or xs k d) ≡ false = fails_before_first is_newline xs k d below in
     let hit : is_newline (get_or xs k d) ≡ true = eq-eqb _ 10 (sym (get_or-take n xs k d below) ∙ e) in
     true≢false (sym hit ∙ miss)
 
 -- a prefix with no newline moves the first one on
-pub place-append : (xs ys : List ℕ) → NoNewline xs → position_or_len is_newline (xs ++ ys) ≡ length xs + position_or_len is_newline ys
-place-append [] ys h = sym (zero-add _)
-place-append (x ∷ xs) ys h =
+pub index-append : (xs ys : List ℕ) → NoNewline xs → position_or_len is_newline (xs ++ ys) ≡ length xs + position_or_len is_newline ys
+index-append [] ys h = sym (zero-add _)
+index-append (x ∷ xs) ys h =
     let more = ap (λ b. cond (not b) (1 + position_or_len is_newline (xs ++ ys)) 0) (ne_eqb x 10 (All-head (λ y. y ≢ 10) x xs h)) in
-    let rest = place-append xs ys (All-tail (λ y. y ≢ 10) x xs h) in
+    let rest = index-append xs ys (All-tail (λ y. y ≢ 10) x xs h) in
     more ∙ omega (arith, rest)
 
 pub line-ended : (d z : List ℕ) → NoNewline d → (first_line (d ++ 10 ∷ z) ≡ d) × (after_first_line (d ++ 10 ∷ z) ≡ z)
 line-ended d z h =
-    let place : position_or_len is_newline (d ++ 10 ∷ z) ≡ length d = place-append d (10 ∷ z) h ∙ omega arith in
+    let index : position_or_len is_newline (d ++ 10 ∷ z) ≡ length d = index-append d (10 ∷ z) h ∙ omega arith in
     let joined : d ++ 10 ∷ z ≡ (d ++ 10 ∷ []) ++ z = sym (append_assoc d (10 ∷ []) z) in
     let long : length d + 1 ≡ length (d ++ 10 ∷ []) = omega (arith, length-append d (10 ∷ [])) in (
-      ap (λ n. take n (d ++ 10 ∷ z)) place ∙ take-append_seam d (10 ∷ z),
-      ap (λ n. drop (n + 1) (d ++ 10 ∷ z)) place ∙ ap (drop (length d + 1)) joined ∙ ap (λ n. drop n ((d ++ 10 ∷ []) ++ z)) long
+      ap (λ n. take n (d ++ 10 ∷ z)) index ∙ take-append_seam d (10 ∷ z),
+      ap (λ n. drop (n + 1) (d ++ 10 ∷ z)) index ∙ ap (drop (length d + 1)) joined ∙ ap (λ n. drop n ((d ++ 10 ∷ []) ++ z)) long
           ∙ drop-append_seam (d ++ 10 ∷ []) z,
     )
 
 pub line-unended : (d : List ℕ) → NoNewline d → (first_line d ≡ d) × (after_first_line d ≡ [])
 line-unended d h =
-    let place : position_or_len is_newline d ≡ length d = sym (ap (position_or_len is_newline) (append-nil d)) ∙ place-append d [] h
+    let index : position_or_len is_newline d ≡ length d = sym (ap (position_or_len is_newline) (append-nil d)) ∙ index-append d [] h
     ∙ omega arith in (
-      ap (λ n. take n d) place ∙ take_all (length d) d (omega arith),
-      ap (λ n. drop (n + 1) d) place ∙ drop_of_length-le d (omega arith),
+      ap (λ n. take n d) index ∙ take_all (length d) d (omega arith),
+      ap (λ n. drop (n + 1) d) index ∙ drop_of_length-le d (omega arith),
     )
 
 -- the rest of the input began with this line, and now is what comes after the line

@@ -16,7 +16,7 @@ use Rattle.exec_lines.specs.declared.line.Piece.TheVariants.{Part, Last, Nothing
 use Rattle.exec_lines.specs.Lines.{is_newline}
 use Rattle.exec_lines.specs.Pieces.{Reads, newline_count, piece_of}
 use Rattle.ocf_types.specs.Laws.{nil_of}
-use Rattle.exec_lines.proofs.LineLemmas.{place-le}
+use Rattle.exec_lines.proofs.LineLemmas.{index-le}
 
 -- a read that failed or was interrupted took nothing
 pub reads-nothing : {E : Type 0} (a c : Option (List ℕ)) (r : Result Piece E) → Keeps a c → IfOk r (λ p. p ≡ Part) → Reads a c [] r
@@ -35,13 +35,13 @@ pub reads-shown : (E : Type 0) (a b c : Option (List ℕ)) (buffered : Option �
     → IfSome a (λ xs. StartsWith xs shown) → IfSome a (λ xs. length shown ≡ 0 → xs ≡ []) → Keeps a b
     → IfSome a (λ _. IfSome buffered (λ k. length shown ≤ k)) → DropsConsumable b c buffered (len + newline_count piece)
     → Reads {E = E} a c (take len shown) (Ok piece)
-reads-shown E a b c buffered shown len piece place is prefix end kept fits drops =
+reads-shown E a b c buffered shown len piece index is prefix end kept fits drops =
     let of = by (nat_lt len (length shown)) (length shown == 0) refl refl
     (subst (λ p. DropsConsumable b c buffered (len + newline_count p)) is drops) in
     subst (λ p. Reads {E = E} a c (take len shown) (Ok p)) (sym is) of
   where
     within : len ≤ length shown
-    within = omega (arith, place, place-le shown)
+    within = omega (arith, index, index-le shown)
 
     taken : (n k : ℕ) → n ≡ k → k ≤ length shown → DropsConsumable b c buffered n → Consumes a c (take k shown)
     taken n k same le d = (Consumes_shown a b c buffered shown k le prefix end kept fits (subst (DropsConsumable b c buffered) same d)).0
@@ -52,8 +52,8 @@ reads-shown E a b c buffered shown len piece place is prefix end kept fits drops
     by true none t w d =
         let lt : len < length shown = ltb-true _ _ t in
         let hit : get_or shown (position_or_len is_newline shown) 0 ≡ 10 = eqb-true _ _
-        (passes_at_first is_newline shown 0 (omega (arith, lt, place))) in
-        let here : get_or shown len 0 ≡ 10 = ap (λ k. get_or shown k 0) place ∙ hit in
+        (passes_at_first is_newline shown 0 (omega (arith, lt, index))) in
+        let here : get_or shown len 0 ≡ 10 = ap (λ k. get_or shown k 0) index ∙ hit in
         let more : take (len + 1) shown ≡ take len shown ++ 10 ∷ [] = take_more shown len 0 lt ∙ ap (λ y. take len shown ++ y ∷ []) here in
         subst (Consumes a c) more (taken (len + 1) (len + 1) refl (omega (arith, lt)) d)
     by false true f w d =

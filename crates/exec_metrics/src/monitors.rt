@@ -1,7 +1,7 @@
 //! The codes and ages of recurring monitors' last results.
 ghost use Rattle.std.specs.Prelude.{◌≡◌, ◌<◌, ◌++◌, length, IsTrue, OnErr, OnOk};
 ghost use Rattle.std.specs.List.{flat_map};
-ghost use Rattle.ocf_types.specs.Places.{at_place, id_at};
+ghost use Rattle.ocf_types.specs.Indexes.{at_index, id_at};
 ghost use Rattle.exec_metrics.specs.Samples.{age_of_monitor, code_of_monitor, interval_label, monitor_age, monitor_code, outcome_value};
 
 use crate::add::{add, add_number};
@@ -74,19 +74,19 @@ fn add_age(
 }
 
 /// Adds the codes of a resource's recurring monitors.
-pub fn add_codes(text: &mut Vec<u8>, state: &State, place: usize) -> Result<(), AllocError>
-    requires { place < length state.now.state.resources }
+pub fn add_codes(text: &mut Vec<u8>, state: &State, index: usize) -> Result<(), AllocError>
+    requires { index < length state.now.state.resources }
     ensures added { OnOk result (text.new.items
         ≡ text.old.items ++ flat_map
-        (code_of_monitor (id_at state.now.state place)
-        (at_place state.now.state place).history.ended)
-        (at_place state.now.state place).recurring) }
+        (code_of_monitor (id_at state.now.state index)
+        (at_index state.now.state index).history.ended)
+        (at_index state.now.state index).recurring) }
     ensures memory { OnErr result (IsTrue ⟦<Global as Grows>⟧.refuses) }
 {
-    for at in 0..state.recurring_len(place) {
-        let recur = state.recurring_at(place, at);
-        let last = last_run(state, place, recur.call);
-        add_code(text, state.id_at(place), &recur, last)?;
+    for at in 0..state.recurring_len(index) {
+        let recur = state.recurring_at(index, at);
+        let last = last_run(state, index, recur.call);
+        add_code(text, state.id_at(index), &recur, last)?;
     }
     Ok(())
 }
@@ -96,20 +96,20 @@ pub fn add_ages(
     text: &mut Vec<u8>,
     now: Moment,
     state: &State,
-    place: usize,
+    index: usize,
 ) -> Result<(), AllocError>
-    requires { place < length state.now.state.resources }
+    requires { index < length state.now.state.resources }
     ensures added { OnOk result (text.new.items
         ≡ text.old.items ++ flat_map
-        (age_of_monitor now (id_at state.now.state place)
-        (at_place state.now.state place).history.ended)
-        (at_place state.now.state place).recurring) }
+        (age_of_monitor now (id_at state.now.state index)
+        (at_index state.now.state index).history.ended)
+        (at_index state.now.state index).recurring) }
     ensures memory { OnErr result (IsTrue ⟦<Global as Grows>⟧.refuses) }
 {
-    for at in 0..state.recurring_len(place) {
-        let recur = state.recurring_at(place, at);
-        let seconds = age(now, last_run(state, place, recur.call));
-        add_age(text, state.id_at(place), &recur, seconds)?;
+    for at in 0..state.recurring_len(index) {
+        let recur = state.recurring_at(index, at);
+        let seconds = age(now, last_run(state, index, recur.call));
+        add_age(text, state.id_at(index), &recur, seconds)?;
     }
     Ok(())
 }

@@ -1,6 +1,6 @@
 //! The codes and ages of results.
 ghost use Rattle.std.specs.Prelude.{◌≡◌, ◌<◌, ◌++◌, length, IsTrue, OnErr, OnOk};
-ghost use Rattle.ocf_types.specs.Places.{at_place};
+ghost use Rattle.ocf_types.specs.Indexes.{at_index};
 ghost use Rattle.exec_metrics.specs.Samples.{age, age_sample, code_labels, code_sample, last_result};
 
 use crate::family::Family;
@@ -23,15 +23,15 @@ pub fn age(now: Moment, found: Option<Ended>) -> Option<u64>
 }
 
 /// The last result in a resource's history.
-pub fn last_result(state: &State, place: usize) -> Option<Ended>
-    requires { place < length state.now.state.resources }
-    ensures { result ≡ last_result (at_place state.now.state place).history.ended }
+pub fn last_result(state: &State, index: usize) -> Option<Ended>
+    requires { index < length state.now.state.resources }
+    ensures { result ≡ last_result (at_index state.now.state index).history.ended }
 {
-    let results = state.ended_len(place);
+    let results = state.ended_len(index);
     if results == 0 {
         None
     } else {
-        Some(state.ended_at(place, results - 1))
+        Some(state.ended_at(index, results - 1))
     }
 }
 

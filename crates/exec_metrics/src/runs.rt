@@ -41,8 +41,8 @@ fn add_run_samples(
         ++ flat_map (run_samples (count_at counts.now.entries) family) state.now.state.resources) }
     ensures memory { OnErr result (IsTrue ⟦<Global as Grows>⟧.refuses) }
 {
-    for place in 0..state.len() {
-        let id = state.id_at(place);
+    for index in 0..state.len() {
+        let id = state.id_at(index);
         add_run_sample(text, family, id, count_of(counts, id))?;
     }
     Ok(())

@@ -1,7 +1,7 @@
 //! The whole text, family after family.
 ghost use Rattle.std.specs.Prelude.{◌≡◌, ◌<◌, ◌++◌, length, IfOk, IsTrue, OnErr, OnOk};
 ghost use Rattle.std.specs.List.{flat_map};
-ghost use Rattle.ocf_types.specs.Places.{entry_at};
+ghost use Rattle.ocf_types.specs.Indexes.{entry_at};
 ghost use Rattle.exec_metrics.specs.Metrics.{bare, counts_text, failures_text, journal_text, last_text, metrics_text, monitors_text, of_each, results_text, single, size_text, states_text};
 ghost use Rattle.exec_metrics.specs.Samples.{samples};
 ghost use Rattle.run_counts.specs.Counts.{count_at};
@@ -32,29 +32,29 @@ pub struct Taken {
 // The index of a resource, and the family of its samples.
 #[derive(Clone, Copy)]
 struct Row {
-    place: usize,
+    index: usize,
     family: Family,
 }
 
 // Adds the samples of a resource in a family.
 fn add_samples(text: &mut Vec<u8>, now: Moment, state: &State, row: Row) -> Result<(), AllocError>
-    requires { row.place < length state.now.state.resources }
+    requires { row.index < length state.now.state.resources }
     ensures added { OnOk result (text.new.items
-        ≡ text.old.items ++ samples now row.family (entry_at state.now.state row.place)) }
+        ≡ text.old.items ++ samples now row.family (entry_at state.now.state row.index)) }
     ensures memory { OnErr result (IsTrue ⟦<Global as Grows>⟧.refuses) }
 {
-    let Row { place, family } = row;
-    let id = state.id_at(place);
+    let Row { index, family } = row;
+    let id = state.id_at(index);
     match family {
-        Family::State => add_states(text, id, condition_of(state, place)),
-        Family::Queued => add_plain(text, family, id, state.queue_len(place) as u64),
-        Family::Running => add_plain(text, family, id, bit(state.running_at(place).is_some())),
-        Family::LastCode => add_code(text, family, id, last_result(state, place)),
-        Family::LastAge => add_age(text, family, id, age(now, last_result(state, place))),
-        Family::FailureCode => add_code(text, family, id, state.failed_at(place)),
-        Family::FailureAge => add_age(text, family, id, age(now, state.failed_at(place))),
-        Family::MonitorCode => add_codes(text, state, place),
-        Family::MonitorAge => add_ages(text, now, state, place),
+        Family::State => add_states(text, id, condition_of(state, index)),
+        Family::Queued => add_plain(text, family, id, state.queue_len(index) as u64),
+        Family::Running => add_plain(text, family, id, bit(state.running_at(index).is_some())),
+        Family::LastCode => add_code(text, family, id, last_result(state, index)),
+        Family::LastAge => add_age(text, family, id, age(now, last_result(state, index))),
+        Family::FailureCode => add_code(text, family, id, state.failed_at(index)),
+        Family::FailureAge => add_age(text, family, id, age(now, state.failed_at(index))),
+        Family::MonitorCode => add_codes(text, state, index),
+        Family::MonitorAge => add_ages(text, now, state, index),
         Family::Epoch | Family::Bytes | Family::Calls | Family::Runs | Family::Resources => Ok(()),
         Family::ResourceRuns | Family::ResourceFailures => Ok(()),
     }
@@ -71,8 +71,8 @@ fn add_resources(
         ≡ text.old.items ++ flat_map (samples now family) state.now.state.resources) }
     ensures memory { OnErr result (IsTrue ⟦<Global as Grows>⟧.refuses) }
 {
-    for place in 0..state.len() {
-        add_samples(text, now, state, Row { place, family })?;
+    for index in 0..state.len() {
+        add_samples(text, now, state, Row { index, family })?;
     }
     Ok(())
 }

@@ -3,7 +3,7 @@ use Rattle.std.proofs.Common.{◌∙◌}
 use Rattle.std.specs.Process.{SameDir, SameEnv, SameProgramAndArgs}
 use Rattle.std.specs.declared.process.command.Command.{Command}
 use Rattle.child_keeper.specs.Commands.{Asks}
-use Rattle.ocf_env.specs.Places.{Call, SiteView}
+use Rattle.ocf_env.specs.Locations.{Call, SiteView}
 use Rattle.exec_once.specs.Calls.{AsksForCall, IsCallFor}
 use Rattle.exec_once.specs.declared.call.OnceCall.{OnceCall}
 

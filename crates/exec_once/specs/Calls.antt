@@ -3,7 +3,7 @@ use Rattle.std.specs.Prelude.{◌≡◌, ◌↔◌, ℕ, List, Contains, IsTrue,
 use Rattle.std.specs.declared.process.command.Command.{Command}
 use Rattle.ocf_types.specs.Kinds.{Registration}
 use Rattle.ocf_env.specs.Invocations.{IsInvocation}
-use Rattle.ocf_env.specs.Places.{Call, SiteView}
+use Rattle.ocf_env.specs.Locations.{Call, SiteView}
 use Rattle.ocf_env.specs.Programs.{agent_path, arguments_at, program_at}
 use Rattle.ocf_env.specs.Variables.{IsAgentVariable, are_ascending}
 use Rattle.child_keeper.specs.Commands.{Asks}

@@ -12,7 +12,7 @@ use Rattle.exec_options.specs.App.{ocfexec_app}
 use Rattle.exec_options.specs.Faults.{Flawed, HasFaultKind, HasOnceFlaw, HasPlacedFlaw, IsFault, OnceFlawed, OrphansFlaw, RootFlaw}
 use Rattle.exec_options.specs.Faults.{SinceFlaw, TidyAtFlaw, TimeoutFlaw, Unnamed}
 use Rattle.exec_options.specs.Subcommands.{once_word, subcommand_word}
-use Rattle.exec_options.specs.Words.{place_in, AsksFor, IsJournalWanted, IsOnceWanted}
+use Rattle.exec_options.specs.Words.{location_in, AsksFor, IsJournalWanted, IsOnceWanted}
 use Rattle.exec_options.specs.declared.words.Wanted.{Wanted}
 use Rattle.ocf_types.specs.Laws.{some_is}
 use Rattle.exec_options.proofs.AppLemmas.{both_parts, name_in_rows}
@@ -58,7 +58,7 @@ given_once home words name rows (wanted.Once o) named is read = record {
 }
 
 shown : (home : Option Text) (words : List Text) (name : Text) (rows : List Row) (s : Subcommand) (P : List Row → Type 0)
-    → subcommand_of ocfexec_app words ≡ Some (name, rows) → name ≡ subcommand_word s → is_some (place_in s home rows) ≡ true → P rows
+    → subcommand_of ocfexec_app words ≡ Some (name, rows) → name ≡ subcommand_word s → is_some (location_in s home rows) ≡ true → P rows
     → Flawed home words P
 shown home words name rows s P named is placed flaw = record {
   subcommand = s;

@@ -50,15 +50,15 @@ abbrev pub default_timeout : Text
 default_timeout = codes "20000"
 
 -- the options for where the journal is kept
-abbrev pub with_place_app : App → App
-with_place_app a =
+abbrev pub with_location_app : App → App
+with_location_app a =
     let a₁ = with_rule a (text_rule (codes "journal")) in
     with_rule a₁ (flag_rule (codes "memory"))
 
 -- these options, whether root opens a journal that other users can write, and when the journal is tidied
 abbrev pub with_journal_app : App → App
 with_journal_app a =
-    let a₁ = with_place_app a in
+    let a₁ = with_location_app a in
     let a₂ = with_rule a₁ (flag_rule (codes "any-owner")) in
     with_rule a₂ (text_rule_or (codes "tidy-at") default_tidy_at)
 
@@ -123,16 +123,16 @@ abbrev pub serve_app : App
 serve_app = with_options_app (new_app (codes "serve"))
 
 abbrev pub show_app : App
-show_app = with_place_app (new_app (codes "show"))
+show_app = with_location_app (new_app (codes "show"))
 
 abbrev pub status_app : App
-status_app = with_status_app (with_place_app (new_app (codes "status")))
+status_app = with_status_app (with_location_app (new_app (codes "status")))
 
 abbrev pub log_app : App
-log_app = with_log_app (with_place_app (new_app (codes "log")))
+log_app = with_log_app (with_location_app (new_app (codes "log")))
 
 abbrev pub metrics_app : App
-metrics_app = with_place_app (new_app (codes "metrics"))
+metrics_app = with_location_app (new_app (codes "metrics"))
 
 abbrev pub once_app : App
 once_app = with_site_app (with_call_app (new_app (codes "once")))

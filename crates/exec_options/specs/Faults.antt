@@ -10,7 +10,7 @@ use Rattle.exec_options.specs.declared.fault.WordsFault.TheVariants.{Help, Usage
 use Rattle.exec_options.specs.App.{ocfexec_app}
 use Rattle.ocf_types.specs.Limits.{part_limit}
 use Rattle.exec_options.specs.Subcommands.{once_word, subcommand_word}
-use Rattle.exec_options.specs.Words.{IsNumberTo, IsTimeout, Names, is_absolute, longest_wait, orphans_text, place_in, root_text, tidy_text}
+use Rattle.exec_options.specs.Words.{IsNumberTo, IsTimeout, Names, is_absolute, longest_wait, orphans_text, location_in, root_text, tidy_text}
 use Rattle.exec_options.specs.Words.{timeout_text}
 
 -- help or the version was asked for; it is no mistake
@@ -34,7 +34,7 @@ pub record Flawed (named : Option Text) (words : List Text) (flaw : List Row →
   pub subcommand : Subcommand
   pub rows : List Row
   pub names : Names words (subcommand_word subcommand) rows
-  pub placed : is_some (place_in subcommand named rows) ≡ true
+  pub placed : is_some (location_in subcommand named rows) ≡ true
   pub has_flaw : flaw rows
 
 -- the arguments name an action that is run once, and their rows have this flaw
@@ -48,7 +48,7 @@ pub record Unplaced (named : Option Text) (words : List Text) : Type 0 where
   pub subcommand : Subcommand
   pub rows : List Row
   pub names : Names words (subcommand_word subcommand) rows
-  pub none : place_in subcommand named rows ≡ None
+  pub none : location_in subcommand named rows ≡ None
 
 -- the arguments name no subcommand that has a journal
 abbrev pub Unnamed : List Text → Type 0
@@ -85,8 +85,8 @@ HasFlaw rows _ = ⊥
 
 -- the same, or that the journal is not named
 abbrev pub HasPlacedFlaw : Subcommand → Option Text → List Row → WordsFault → Type 0
-HasPlacedFlaw s named rows Choice = place_in s named rows ≡ None
-HasPlacedFlaw s named rows fault = (is_some (place_in s named rows) ≡ true) × HasFlaw rows fault
+HasPlacedFlaw s named rows Choice = location_in s named rows ≡ None
+HasPlacedFlaw s named rows fault = (is_some (location_in s named rows) ≡ true) × HasFlaw rows fault
 
 -- the flaw that a fault reports of an action that is run once
 abbrev pub HasOnceFlaw : List Row → WordsFault → Type 0

@@ -37,16 +37,16 @@ default_folder s named = if is_query s then Some (unwrap_or named package_folder
 
 -- where the journal is kept: a directory, or `Some None` for memory, from the text of `--journal` and whether `--memory` is given; `None`
 -- if both are given, or neither and there is no default
-abbrev pub place_of : Option Text → Option Text → Bool → Option (Option Text)
-place_of default (Some folder) true = None
-place_of default (Some folder) false = Some (Some folder)
-place_of default None true = Some None
-place_of default None false = option_map Some default
+abbrev pub location_of : Option Text → Option Text → Bool → Option (Option Text)
+location_of default (Some folder) true = None
+location_of default (Some folder) false = Some (Some folder)
+location_of default None true = Some None
+location_of default None false = option_map Some default
 
 -- where the journal is kept by the rows of a subcommand, if the environment names the directory `named`
-abbrev pub place_in : Subcommand → Option Text → List Row → Option (Option Text)
-place_in s named rows =
-    place_of (default_folder s named) (first_of (codes "journal") rows) (is_true_text (first_of (codes "memory") rows))
+abbrev pub location_in : Subcommand → Option Text → List Row → Option (Option Text)
+location_in s named rows =
+    location_of (default_folder s named) (first_of (codes "journal") rows) (is_true_text (first_of (codes "memory") rows))
 
 -- the texts of `--tidy-at`, `--orphans`, `--root` and `--timeout`, or their defaults
 abbrev pub tidy_text : List Row → Text
@@ -86,7 +86,7 @@ is_absolute [] = false
 
 -- the journal of these options is where the rows of the subcommand say, if the environment names the directory `named`
 abbrev pub IsPlacedAt : Option Text → List Row → Options → Type 0
-IsPlacedAt named rows o = place_in o.subcommand named rows ≡ Some (folder_of o.journal)
+IsPlacedAt named rows o = location_in o.subcommand named rows ≡ Some (folder_of o.journal)
 
 -- the other options are those of a subcommand's rows, with the defaults for absent ones
 pub record IsReadFrom (rows : List Row) (o : Options) : Type 0 where

@@ -3,7 +3,7 @@ ghost use Rattle.std.specs.Prelude.{◌≡◌, false, IfOk, codes};
 ghost use Rattle.clap.specs.Words.{app_of, rule_of, new_app};
 ghost use Rattle.clap.specs.declared.builder.command.Command.TheViews.{out-Command};
 ghost use Rattle.exec_options.specs.App.{text_rule, text_rule_or, flag_rule, word_rule, words_rule, needed_rule};
-ghost use Rattle.exec_options.specs.App.{with_agent_app, with_call_app, with_journal_app, with_log_app, with_options_app, with_place_app, with_site_app, with_status_app};
+ghost use Rattle.exec_options.specs.App.{with_agent_app, with_call_app, with_journal_app, with_log_app, with_options_app, with_location_app, with_site_app, with_status_app};
 ghost use Rattle.exec_options.specs.App.{top_app, run_app, serve_app, show_app, status_app, log_app, metrics_app, once_app, ocfexec_app};
 
 use crate::texts;
@@ -85,8 +85,8 @@ fn words<'a>(alloc: Global, id: &'a str, value: &'a str, help: &'a str) -> Arg<'
     word(alloc, id, value, help).action(ArgAction::Append)
 }
 
-fn with_place_options<'a>(alloc: Global, command: Command<'a>) -> Result<Command<'a>, AllocError>
-    ensures app { IfOk result (λ r. app_of r ≡ with_place_app (app_of command.entry)) }
+fn with_location_options<'a>(alloc: Global, command: Command<'a>) -> Result<Command<'a>, AllocError>
+    ensures app { IfOk result (λ r. app_of r ≡ with_location_app (app_of command.entry)) }
     ensures local { IfOk result
         (λ r. (out-Command r).has_globals ≡ (out-Command command.entry).has_globals) }
 {
@@ -108,7 +108,7 @@ fn with_journal_options<'a>(alloc: Global, command: Command<'a>) -> Result<Comma
     ensures local { IfOk result
         (λ r. (out-Command r).has_globals ≡ (out-Command command.entry).has_globals) }
 {
-    let command = with_place_options(alloc, command)?;
+    let command = with_location_options(alloc, command)?;
     let command = command.arg(flag(
         alloc,
         "any-owner",
@@ -351,7 +351,7 @@ fn show<'a>(alloc: Global) -> Result<Command<'a>, AllocError>
         "Prints what a journal holds, as JSON lines: its resources, and each one's state and history",
         texts::SHOW,
     );
-    with_place_options(alloc, command)
+    with_location_options(alloc, command)
 }
 
 fn status<'a>(alloc: Global) -> Result<Command<'a>, AllocError>
@@ -364,7 +364,7 @@ fn status<'a>(alloc: Global) -> Result<Command<'a>, AllocError>
         "Prints the state of the resources as a table",
         texts::STATUS,
     );
-    let command = with_place_options(alloc, command)?;
+    let command = with_location_options(alloc, command)?;
     with_status_options(alloc, command)
 }
 
@@ -378,7 +378,7 @@ fn log<'a>(alloc: Global) -> Result<Command<'a>, AllocError>
         "Prints the records of a journal, oldest first, a line each",
         texts::LOG,
     );
-    let command = with_place_options(alloc, command)?;
+    let command = with_location_options(alloc, command)?;
     with_log_options(alloc, command)
 }
 
@@ -392,7 +392,7 @@ fn metrics<'a>(alloc: Global) -> Result<Command<'a>, AllocError>
         "Prints what a journal holds, as metrics for Prometheus",
         texts::METRICS,
     );
-    with_place_options(alloc, command)
+    with_location_options(alloc, command)
 }
 
 fn once<'a>(alloc: Global) -> Result<Command<'a>, AllocError>

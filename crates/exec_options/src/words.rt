@@ -3,7 +3,7 @@ ghost use Rattle.std.specs.Prelude.{◌≡◌, ℕ, [], true, map, string_bytes,
 ghost use Rattle.clap.specs.Words.{all_of, first_of, rows_of, found_of, fault_of};
 ghost use Rattle.exec_options.specs.App.{ocfexec_app};
 ghost use Rattle.ocf_types.specs.Limits.{part_limit};
-ghost use Rattle.exec_options.specs.Words.{folder_of, is_absolute, is_true_text, longest_wait, orphans_text, place_in, default_folder, root_text, tidy_text, timeout_text};
+ghost use Rattle.exec_options.specs.Words.{folder_of, is_absolute, is_true_text, longest_wait, orphans_text, location_in, default_folder, root_text, tidy_text, timeout_text};
 ghost use Rattle.exec_options.specs.Words.{AsksFor, IsJournalWanted, IsNumberTo, IsOnceWanted, IsReadFrom, IsSince, IsTimeout};
 ghost use Rattle.exec_options.specs.Faults.{HasFlaw, HasOnceFlaw, HasPlacedFlaw, IsFault, OrphansFlaw, RootFlaw, TidyAtFlaw, TimeoutFlaw};
 
@@ -61,7 +61,7 @@ fn journal_location<'a>(
     matches: &ArgMatches<'a>,
 ) -> Option<JournalLocation<'a>>
     ensures { option_map folder_of result
-        ≡ place_in subcommand (option_map (λ s. s.now) named.entry) (rows_of (found_of matches.now)) }
+        ≡ location_in subcommand (option_map (λ s. s.now) named.entry) (rows_of (found_of matches.now)) }
 {
     match (text_of(matches, "journal"), is_set(matches, "memory")) {
         (Some(folder), false) => Some(JournalLocation::Folder(folder)),

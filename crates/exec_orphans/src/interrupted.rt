@@ -71,15 +71,15 @@ fn interrupted_at(
     alloc: Global,
     site: &Site,
     state: &State,
-    place: usize,
+    index: usize,
     running: Running,
     times: &Times<'_>,
 ) -> Result<Interrupted, AllocError>
-    requires { place < length state.now.state.resources }
+    requires { index < length state.now.state.resources }
 {
     Ok(Interrupted {
-        id: state.id_at(place).copied(),
-        file: agent_file(alloc, site, state.provider_at(place), state.agent_at(place))?,
+        id: state.id_at(index).copied(),
+        file: agent_file(alloc, site, state.provider_at(index), state.agent_at(index))?,
         action: running.task.action(),
         run: running.run,
         since: times.ticks_at(running.since),
@@ -95,9 +95,9 @@ pub fn all_interrupted(
     times: &Times<'_>,
 ) -> Result<Vec<Interrupted>, AllocError> {
     let mut found = Vec::new(alloc);
-    for place in 0..state.len() {
-        if let Some(running) = state.running_at(place) {
-            found.push(interrupted_at(alloc, site, state, place, running, times)?)?;
+    for index in 0..state.len() {
+        if let Some(running) = state.running_at(index) {
+            found.push(interrupted_at(alloc, site, state, index, running, times)?)?;
         }
     }
     Ok(found)

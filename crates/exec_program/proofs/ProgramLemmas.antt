@@ -21,11 +21,11 @@ use Rattle.exec_program.specs.Runs.{RunsOn}
 
 -- a session over a fresh disk in memory
 pub runs_in_memory : {F L A S R W H : Type 0} (refuses : Bool) (asked : Asked F L A S R W H) (tend : A → ChildrenView) (gives : S → Source)
-    (left : R → Option (List ℕ)) (contents : W → Option (List ℕ)) (view : F → View) (o : Options) (log : L) (place : JournalLocation)
-    (disk : RamDisk Global) (ended : Result Unit Fault) → place ≡ Memory → IsFresh (record { a = []; b = [] }) disk
+    (left : R → Option (List ℕ)) (contents : W → Option (List ℕ)) (view : F → View) (o : Options) (log : L) (location : JournalLocation)
+    (disk : RamDisk Global) (ended : Result Unit Fault) → location ≡ Memory → IsFresh (record { a = []; b = [] }) disk
     → RunsOn asked tend gives left contents view_of o log disk ended → IfErr ended (HasCause refuses)
-    → RunsAt refuses asked tend gives left contents view o log place ended
-runs_in_memory refuses asked tend gives left contents view o log place disk ended is fresh runs cause =
+    → RunsAt refuses asked tend gives left contents view o log location ended
+runs_in_memory refuses asked tend gives left contents view o log location disk ended is fresh runs cause =
     subst (λ (x : JournalLocation). RunsAt refuses asked tend gives left contents view o log x ended) (sym is) (disk, fresh, runs, cause)
 
 -- an action that was run once

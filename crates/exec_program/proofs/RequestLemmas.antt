@@ -48,7 +48,7 @@ more_found found more o holds OpenReader h = absurd h
 more_found found more o holds (OpenWriter served) h = absurd h
 more_found found more o holds (WatchPaths served) h = absurd h
 more_found found more o holds (WriteLine line) h = absurd h
-more_found found more o holds (ShowJournal given place) h = absurd h
+more_found found more o holds (ShowJournal given location) h = absurd h
 more_found found more o holds (RunOnce once) h = absurd h
 more_found found more o holds (PrintText text) h = absurd h
 

@@ -1,6 +1,6 @@
 -- The wait for what is left of interrupted actions.
 use Rattle.std.proofs.Common.{◌≡◌, ℕ, List, Some, inl, subst, sym, Bor}
-use Rattle.ocf_env.specs.Places.{SiteView}
+use Rattle.ocf_env.specs.Locations.{SiteView}
 use Rattle.ocf_types.specs.State.{State}
 use Rattle.disk_model.specs.View.{View}
 use Rattle.exec_commands.specs.declared.left.Left.{Left}
@@ -15,12 +15,12 @@ use Rattle.exec_program.specs.Waits.{WaitsAt, WaitsFor}
 
 -- a journal in a directory was read, and the program waited for what is left, at the site of the options
 pub waits_in : {F L A S R W H D : Type 0} (asked : Asked F L A S R W H) (view : D → View) (o : Options) (old under new : D) (left : List Left)
-    (place : JournalLocation) (folder : Bor (List ℕ)) (p : Position) (s : State) (site : SiteView)
-    → place ≡ Folder folder → OpensAt p s (view old) (view under) → new ≡ under → site ≡ site_of o
-    → asked.orphans folder.now o.orphans o.leave_orphans site s (Some left) → WaitsFor asked view o old new left place
-waits_in asked view o old under new left place folder p s site is found same at waited =
+    (location : JournalLocation) (folder : Bor (List ℕ)) (p : Position) (s : State) (site : SiteView)
+    → location ≡ Folder folder → OpensAt p s (view old) (view under) → new ≡ under → site ≡ site_of o
+    → asked.orphans folder.now o.orphans o.leave_orphans site s (Some left) → WaitsFor asked view o old new left location
+waits_in asked view o old under new left location folder p s site is found same at waited =
     let reads : OpensAt p s (view old) (view new) = subst (λ (d : _). OpensAt p s (view old) (view d)) (sym same) found in
     let receives : asked.orphans folder.now o.orphans o.leave_orphans (site_of o) s (Some left) =
     subst (λ (x : SiteView). asked.orphans folder.now o.orphans o.leave_orphans x s (Some left)) at waited in
-    let waits : WaitsAt asked o folder.now (view old) (view new) (Some left) = record { place = p; state = s; found = reads; waited = receives } in
+    let waits : WaitsAt asked o folder.now (view old) (view new) (Some left) = record { location = p; state = s; found = reads; waited = receives } in
     subst (λ (x : JournalLocation). WaitsFor asked view o old new left x) (sym is) (inl waits)

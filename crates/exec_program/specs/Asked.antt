@@ -1,7 +1,7 @@
 -- What the system was asked for.
 use Rattle.std.specs.Prelude.{ℕ, Bool, List, [], Option, None, Result}
 use Rattle.clap.specs.declared.error.Error.{Error}
-use Rattle.ocf_env.specs.Places.{SiteView}
+use Rattle.ocf_env.specs.Locations.{SiteView}
 use Rattle.ocf_types.specs.State.{State}
 use Rattle.child_model.specs.Children.{ChildrenView}
 use Rattle.exec_commands.specs.declared.left.Left.{Left}

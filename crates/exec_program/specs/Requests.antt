@@ -1,7 +1,7 @@
 -- What the system may be asked for: what the arguments call for, and nothing else.
 use Rattle.std.specs.Prelude.{◌≡◌, ◌⊎◌, ℕ, ⊤, Bool, true, List, Option, Some, option_map, is_some}
 use Rattle.clap.specs.declared.error.Error.{Error}
-use Rattle.ocf_env.specs.Places.{SiteView}
+use Rattle.ocf_env.specs.Locations.{SiteView}
 use Rattle.ocf_types.specs.State.{State}
 use Rattle.disk_model.specs.View.{View}
 use Rattle.exec_journal.specs.Opening.{OpensAt}
@@ -84,7 +84,7 @@ IsOfRun found asked o r = IsOfFolder found o r ⊎ (IsOfAgents asked o r ⊎ IsO
 
 -- the request of a view of a journal
 abbrev pub IsOfLook : {L : Type 0} → Options → Request L → Type 0
-IsOfLook o (ShowJournal given place) = (given ≡ o) × (folder_of o.journal ≡ place)
+IsOfLook o (ShowJournal given location) = (given ≡ o) × (folder_of o.journal ≡ location)
 IsOfLook o _ = ⊥
 
 -- the requests of a subcommand, by these options

@@ -1,6 +1,6 @@
 -- From the arguments to a session.
 use Rattle.std.specs.Prelude.{◌≡◌, ◌⊎◌, ◌||◌, ℕ, ⊤, true, List, Option, is_some, option_map, Result, Ok, Err}
-use Rattle.ocf_env.specs.Places.{SiteView}
+use Rattle.ocf_env.specs.Locations.{SiteView}
 use Rattle.exec_options.specs.Faults.{AsksForText, IsFault, IsMisused}
 use Rattle.exec_options.specs.Words.{Gives, GivesOnce, folder_of}
 use Rattle.exec_options.specs.declared.fault.WordsFault.{WordsFault}

@@ -16,9 +16,9 @@ use Rattle.exec_program.specs.Starts.{site_of}
 -- actions that run at its state, as the options say. These processes live on, or nobody reads which do.
 pub record WaitsAt {F L A S R W H : Type 0} (asked : Asked F L A S R W H) (o : Options) (folder : List ℕ) (old new : View)
     (left : Option (List Left)) : Type 0 where
-  pub place : Position
+  pub location : Position
   pub state : State
-  pub found : OpensAt place state old new
+  pub found : OpensAt location state old new
   pub waited : asked.orphans folder o.orphans o.leave_orphans (site_of o) state left
 
 -- the same, or the journal was not read

@@ -23,23 +23,23 @@ fn text(alloc: Global, text: &str) -> Result<Text, AllocError>
     Ok(Text::new(text_of(alloc, text)?))
 }
 
-fn site_at(alloc: Global, place: SitePaths) -> Result<Site, AllocError>
+fn site_at(alloc: Global, location: SitePaths) -> Result<Site, AllocError>
     ensures site { IfOk result
         (λ s. s ≡ record {
-          root = place.entry.root.now;
-          path = place.entry.path.now;
-          via = option_map (λ t. t.now) place.entry.via;
-          meta = place.entry.meta_variables;
+          root = location.entry.root.now;
+          path = location.entry.path.now;
+          via = option_map (λ t. t.now) location.entry.via;
+          meta = location.entry.meta_variables;
         }) }
     ensures memory { OnErr result (IsTrue ⟦<Global as Grows>⟧.refuses) }
 {
-    let root = text(alloc, place.root)?;
-    let path = text(alloc, place.path)?;
-    let via = match place.via {
+    let root = text(alloc, location.root)?;
+    let path = text(alloc, location.path)?;
+    let via = match location.via {
         Some(program) => Some(text(alloc, program)?),
         None => None,
     };
-    Ok(Site::new(root, path, via).with_meta(place.meta_variables))
+    Ok(Site::new(root, path, via).with_meta(location.meta_variables))
 }
 
 /// The site that the options name. It fails only where memory is refused.
@@ -47,13 +47,13 @@ pub fn site_of(alloc: Global, options: Options) -> Result<Site, AllocError>
     ensures site { IfOk result (λ s. s ≡ site_of options.entry) }
     ensures memory { OnErr result (IsTrue ⟦<Global as Grows>⟧.refuses) }
 {
-    let place = SitePaths {
+    let location = SitePaths {
         root: options.root,
         path: options.path,
         via: options.via,
         meta_variables: options.meta_variables,
     };
-    site_at(alloc, place)
+    site_at(alloc, location)
 }
 
 /// The site for one action by itself.
@@ -61,11 +61,11 @@ pub fn site_of_once(alloc: Global, options: &OnceOptions) -> Result<Site, AllocE
     ensures site { IfOk result (λ s. s ≡ once_site_of options.now) }
     ensures memory { OnErr result (IsTrue ⟦<Global as Grows>⟧.refuses) }
 {
-    let place = SitePaths {
+    let location = SitePaths {
         root: options.root,
         path: options.path,
         via: options.via,
         meta_variables: options.meta_variables,
     };
-    site_at(alloc, place)
+    site_at(alloc, location)
 }

@@ -117,20 +117,20 @@ module _ {H A : Type 0} (look : Registered H → A) where
   find_all_due-same_at (e ∷ es) (suc i) v w at is = ap (λ (xs : List (List ℕ × A)). (e.0, look e.1) ∷ xs) (find_all_due-same_at es i v w at is)
 
 -- a write at the index of an id is one at the id
-place_is : {A : Type 0} (id : List ℕ) (es : List (List ℕ × A)) (i : ℕ) (w : A) → i < length (keys_of es)
+index_is : {A : Type 0} (id : List ℕ) (es : List (List ℕ × A)) (i : ℕ) (w : A) → i < length (keys_of es)
     → bytes_eq id (get_or (keys_of es) i []) ≡ true → ((k : ℕ) → k < i → bytes_eq id (get_or (keys_of es) k []) ≡ false)
     → set_value_at es i w ≡ set_value (bytes_eq id) es w
-place_is id [] i w lt here before = refl
-place_is id (e ∷ es) zero w lt here before = let same : bytes_eq id e.0 ≡ true = here in rw same refl
-place_is {A = A} id (e ∷ es) (suc i) w lt here before =
+index_is id [] i w lt here before = refl
+index_is id (e ∷ es) zero w lt here before = let same : bytes_eq id e.0 ≡ true = here in rw same refl
+index_is {A = A} id (e ∷ es) (suc i) w lt here before =
     let other : bytes_eq id e.0 ≡ false = before 0 (omega arith) in
     rw other (ap (λ (xs : List (List ℕ × A)). e ∷ xs)
-    (place_is id es i w (omega (arith, lt)) here (λ k below. before (suc k) (omega (arith, below)))))
+    (index_is id es i w (omega (arith, lt)) here (λ k below. before (suc k) (omega (arith, below)))))
 
 pub set_value-found : {A : Type 0} (id : List ℕ) (es : List (List ℕ × A)) (i : ℕ) (w : A)
     → Some i ≡ position (bytes_eq id) (keys_of es) → set_value_at es i w ≡ set_value (bytes_eq id) es w
 set_value-found id es i w found =
-    let there = position-Some (bytes_eq id) (keys_of es) i [] (sym found) in place_is id es i w there.0 there.1 there.2
+    let there = position-Some (bytes_eq id) (keys_of es) i [] (sym found) in index_is id es i w there.0 there.1 there.2
 
 -- a change of a prefix is a change of the list if the prefix is the whole list
 pub map_over_all : {A : Type 0} (f : A → A) (xs ys : List A) (i : ℕ) → length xs ≤ i → ys ≡ map f (take i xs) ++ drop i xs → ys ≡ map f xs

@@ -1,7 +1,7 @@
 //! The pick: the action that a resource begins now.
 ghost use Rattle.std.specs.Prelude.{◌≡◌, ◌<◌, ℕ, None, IsTrue, Option, length};
 ghost use Rattle.ocf_types.specs.Due.{IsPickOf};
-ghost use Rattle.ocf_types.specs.Places.{entry_at};
+ghost use Rattle.ocf_types.specs.Indexes.{entry_at};
 ghost use Rattle.recurring.specs.Monitors.{pairs, IsFirstMoment};
 ghost use Rattle.exec_state.specs.Seen.{seen};
 ghost use Rattle.exec_state.specs.Store.{Chooses, IsChoice, all_pairs, dues, run_of_pick};
@@ -15,11 +15,11 @@ use ocf_types::{CallId, Moment, RscId, RunId, Running, StateView};
 impl<A: Grows> State<A> {
     /// The action that the resource at an index begins at that moment, as it will run under that run number: the first queued
     /// one, else the recurring monitor that is due first. `None` if an action runs, or if nothing is queued and no monitor is due.
-    pub fn pick(&self, place: usize, run: RunId, at: Moment) -> Option<Running>
-        requires { place < length self.now.state.resources }
-        ensures { Chooses (dues self.now) at run (entry_at self.now.state place) result }
+    pub fn pick(&self, index: usize, run: RunId, at: Moment) -> Option<Running>
+        requires { index < length self.now.state.resources }
+        ensures { Chooses (dues self.now) at run (entry_at self.now.state index) result }
     {
-        self.registry.entry(place).1.pick(run, at)
+        self.registry.entry(index).1.pick(run, at)
     }
 
     /// The call of the action that the resource of that id begins at that moment: that of the first queued action, else that of

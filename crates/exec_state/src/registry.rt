@@ -8,7 +8,7 @@ ghost use Rattle.indexmap.specs.IndexMap.{values, spare};
 ghost use Rattle.ocf_types.specs.Resource.{booted, history_in, is_busy};
 ghost use Rattle.ocf_types.specs.State.{at_id, others, on_history, stepped, registered};
 ghost use Rattle.ocf_types.specs.Due.{IsLeastDue};
-ghost use Rattle.ocf_types.specs.Places.{no_entry};
+ghost use Rattle.ocf_types.specs.Indexes.{no_entry};
 ghost use Rattle.ocf_types.specs.declared.layout.Layout.TheVariants.{First};
 ghost use Rattle.recurring.specs.Monitors.{all_due_at, pairs, IsFirstMoment};
 ghost use Rattle.exec_state.specs.Seen.{seen, seen_all, monitors_of, monitors_all, CanTake, FitsRoom};
@@ -150,18 +150,18 @@ impl<A: Grows> Registry<A> {
     }
 
     /// The resource at an index, and its id.
-    pub(crate) fn entry(&self, place: usize) -> (&RscId, &Registered<A>)
-        requires { place < length self.now.resources }
-        ensures id { result.0.now ≡ (slice_index_or self.now.resources place no_entry).0 }
+    pub(crate) fn entry(&self, index: usize) -> (&RscId, &Registered<A>)
+        requires { index < length self.now.resources }
+        ensures id { result.0.now ≡ (slice_index_or self.now.resources index no_entry).0 }
         ensures resource { seen result.1.now
-            ≡ (slice_index_or self.now.resources place no_entry).1 }
+            ≡ (slice_index_or self.now.resources index no_entry).1 }
         ensures by_id { lookup (bytes_eq result.0.now) self.now.resources
             ≡ Some (seen result.1.now) }
         ensures monitors { lookup (bytes_eq result.0.now) self.now.monitors
             ≡ Some (monitors_of result.1.now) }
     {
         let _len = self.resources.len();
-        match self.resources.get_index(place) {
+        match self.resources.get_index(index) {
             Some(entry) => entry,
             None => unreachable!(),
         }
@@ -242,14 +242,14 @@ impl<A: Grows> Registry<A> {
             (lookup (bytes_eq id.now) self.old.resources)) step) self.old.monitors }
     {
         self.rests_until = 0;
-        let Some(place) = self.resources.get_index_of(id) else {
+        let Some(index) = self.resources.get_index_of(id) else {
             unreachable!()
         };
-        let resource = &mut self.resources[place];
+        let resource = &mut self.resources[index];
         let may_change = resource.may_change_monitors(&step);
         resource.take_step(at, step);
         if may_change {
-            self.dues.renew_at(place, &resource.monitors);
+            self.dues.renew_at(index, &resource.monitors);
         }
     }
 
@@ -262,8 +262,8 @@ impl<A: Grows> Registry<A> {
     {
         self.rests_until = 0;
         let resources = &mut self.resources;
-        for place in 0..resources.len() {
-            let resource = &mut resources[place];
+        for index in 0..resources.len() {
+            let resource = &mut resources[index];
             resource.boot(at);
         }
     }
@@ -277,8 +277,8 @@ impl<A: Grows> Registry<A> {
     {
         self.rests_until = 0;
         let resources = &mut self.resources;
-        for place in 0..resources.len() {
-            let resource = &mut resources[place];
+        for index in 0..resources.len() {
+            let resource = &mut resources[index];
             resource.in_first();
         }
     }
@@ -292,10 +292,10 @@ impl<A: Grows> Registry<A> {
     {
         self.rests_until = 0;
         let (resources, dues) = (&mut self.resources, &mut self.dues);
-        for place in 0..resources.len() {
-            let resource = &mut resources[place];
+        for index in 0..resources.len() {
+            let resource = &mut resources[index];
             resource.restart(at);
-            let Some((id, resource)) = resources.get_index(place) else {
+            let Some((id, resource)) = resources.get_index(index) else {
                 unreachable!()
             };
             dues.renew(id, &resource.monitors);
@@ -339,8 +339,8 @@ fn rests_until<A: Grows>(resources: &Resources<A>) -> u64
         (monitors_all resources.now.entries) result }
 {
     let mut until = u64::MAX;
-    for place in 0..resources.len() {
-        let resource = &resources[place];
+    for index in 0..resources.len() {
+        let resource = &resources[index];
         let own = resource.rests_until();
         until = until.min(own);
     }

@@ -26,51 +26,51 @@ impl<A: Grows> StateView for State<A> {
         self.registry.len()
     }
 
-    fn id_at(&self, place: usize) -> &RscId {
-        self.registry.entry(place).0
+    fn id_at(&self, index: usize) -> &RscId {
+        self.registry.entry(index).0
     }
 
-    fn provider_at(&self, place: usize) -> &Provider {
-        &self.registry.entry(place).1.provider
+    fn provider_at(&self, index: usize) -> &Provider {
+        &self.registry.entry(index).1.provider
     }
 
-    fn agent_at(&self, place: usize) -> &AgentType {
-        &self.registry.entry(place).1.agent
+    fn agent_at(&self, index: usize) -> &AgentType {
+        &self.registry.entry(index).1.agent
     }
 
-    fn params_at(&self, place: usize) -> &Params<A> {
-        &self.registry.entry(place).1.params
+    fn params_at(&self, index: usize) -> &Params<A> {
+        &self.registry.entry(index).1.params
     }
 
-    fn queue_len(&self, place: usize) -> usize {
-        self.registry.entry(place).1.ops.queue_len()
+    fn queue_len(&self, index: usize) -> usize {
+        self.registry.entry(index).1.ops.queue_len()
     }
 
-    fn queued_at(&self, place: usize, at: usize) -> Op {
-        self.registry.entry(place).1.ops.queued_at(at)
+    fn queued_at(&self, index: usize, at: usize) -> Op {
+        self.registry.entry(index).1.ops.queued_at(at)
     }
 
-    fn running_at(&self, place: usize) -> Option<Running> {
-        self.registry.entry(place).1.ops.running()
+    fn running_at(&self, index: usize) -> Option<Running> {
+        self.registry.entry(index).1.ops.running()
     }
 
-    fn recurring_len(&self, place: usize) -> usize {
-        self.registry.entry(place).1.monitors.len()
+    fn recurring_len(&self, index: usize) -> usize {
+        self.registry.entry(index).1.monitors.len()
     }
 
-    fn recurring_at(&self, place: usize, at: usize) -> Recur {
-        self.registry.entry(place).1.monitors.monitor_at(at).recur
+    fn recurring_at(&self, index: usize, at: usize) -> Recur {
+        self.registry.entry(index).1.monitors.monitor_at(at).recur
     }
 
-    fn ended_len(&self, place: usize) -> usize {
-        self.registry.entry(place).1.ops.ended_len()
+    fn ended_len(&self, index: usize) -> usize {
+        self.registry.entry(index).1.ops.ended_len()
     }
 
-    fn ended_at(&self, place: usize, at: usize) -> Ended {
-        self.registry.entry(place).1.ops.ended_at(at)
+    fn ended_at(&self, index: usize, at: usize) -> Ended {
+        self.registry.entry(index).1.ops.ended_at(at)
     }
 
-    fn failed_at(&self, place: usize) -> Option<Ended> {
-        self.registry.entry(place).1.ops.failed()
+    fn failed_at(&self, index: usize) -> Option<Ended> {
+        self.registry.entry(index).1.ops.failed()
     }
 }

@@ -13,7 +13,7 @@ use Rattle.ocf_types.specs.State.{Registry, State, resource_at}
 use Rattle.ocf_types.specs.LawfulState.{IsLawfulState}
 use Rattle.ocf_types.specs.Laws.{IsBefore-trans}
 use Rattle.ocf_types.specs.RegistryLaws.{other_way, same_id}
-use Rattle.ocf_types.specs.Places.{at_place, id_at, no_entry}
+use Rattle.ocf_types.specs.Indexes.{at_index, id_at, no_entry}
 use Rattle.ocf_types.specs.declared.operation.Op.{Op}
 use Rattle.ocf_types.specs.declared.operation.Recur.{Recur}
 use Rattle.ocf_types.specs.declared.operation.Running.{Running}
@@ -37,14 +37,14 @@ own_found (e ∷ es) h = (
     following (x ∷ xs) a g = (rw (other_way e.0 x.0 a.0) g.0, following xs a.1 g.1)
 
 -- the resource at an index is that of its id
-pub found_at : (s : State) (place : ℕ) → IsLawfulState s → place < length s.resources
-    → resource_at s (id_at s place) ≡ Some (at_place s place)
-found_at s place h lt =
-    All-from_recursion (λ e. lookup (bytes_eq e.0) s.resources ≡ Some e.1) s.resources (own_found s.resources h.ids) place no_entry lt
+pub found_at : (s : State) (index : ℕ) → IsLawfulState s → index < length s.resources
+    → resource_at s (id_at s index) ≡ Some (at_index s index)
+found_at s index h lt =
+    All-from_recursion (λ e. lookup (bytes_eq e.0) s.resources ≡ Some e.1) s.resources (own_found s.resources h.ids) index no_entry lt
 
-pub found_by : (s : State) (place : ℕ) (id own : List ℕ) → IsLawfulState s → place < length s.resources → id ≡ own → own ≡ id_at s place
-    → resource_at s id ≡ Some (at_place s place)
-found_by s place id own h lt is own_is = ap (resource_at s) (is ∙ own_is) ∙ found_at s place h lt
+pub found_by : (s : State) (index : ℕ) (id own : List ℕ) → IsLawfulState s → index < length s.resources → id ≡ own → own ≡ id_at s index
+    → resource_at s id ≡ Some (at_index s index)
+found_by s index id own h lt is own_is = ap (resource_at s) (is ∙ own_is) ∙ found_at s index h lt
 
 module _ {A : Type 0} where
   pub all_cons : (P : A → Type 0) (x : A) (xs : List A) → P x → All P xs → All P (x ∷ xs)
@@ -164,25 +164,25 @@ one_pick : (due : Due) (at run : ℕ) (e : List ℕ × Resource) (chosen : Optio
 one_pick due at run e chosen (call, pick, is) = (call, [], pick, refl, sym (begun_is at run e call chosen is) ∙ sym (append-nil _))
 
 -- the picks of the resources before an index, and of the one at the index
-pub picks_more : (due : Due) (at run next : ℕ) (rs : Registry) (place : ℕ) (bs : List Active) (chosen : Option Running) → place < length rs
-    → ArePicks due at run (take place rs) bs → next ≡ run + length bs → Chooses due at next (slice_index_or rs place no_entry) chosen
-    → ArePicks due at run (take (place + 1) rs) (bs ++ active_of (slice_index_or rs place no_entry).0 chosen)
-picks_more due at run next rs place bs chosen lt before is now =
-    let e = slice_index_or rs place no_entry in
+pub picks_more : (due : Due) (at run next : ℕ) (rs : Registry) (index : ℕ) (bs : List Active) (chosen : Option Running) → index < length rs
+    → ArePicks due at run (take index rs) bs → next ≡ run + length bs → Chooses due at next (slice_index_or rs index no_entry) chosen
+    → ArePicks due at run (take (index + 1) rs) (bs ++ active_of (slice_index_or rs index no_entry).0 chosen)
+picks_more due at run next rs index bs chosen lt before is now =
+    let e = slice_index_or rs index no_entry in
     let one = subst (λ n. ArePicks due at n (e ∷ []) (active_of e.0 chosen)) is (one_pick due at next e chosen now) in
-    rw (take_more rs place no_entry lt) (picks_append due at run (take place rs) (e ∷ []) bs (active_of e.0 chosen) before one)
+    rw (take_more rs index no_entry lt) (picks_append due at run (take index rs) (e ∷ []) bs (active_of e.0 chosen) before one)
 
 -- the picks of the resources before an index, and of all others after it
-pub picks_cut : (due : Due) (at run next : ℕ) (rs : Registry) (place : ℕ) (bs : List Active) (x : Running) → place < length rs
-    → ArePicks due at run (take place rs) bs → next ≡ run + length bs → Chooses due at next (slice_index_or rs place no_entry) (Some x)
-    → (later : List Active) × ArePicks due at run rs (bs ++ record { id = (slice_index_or rs place no_entry).0; running = x } ∷ later)
-picks_cut due at run next rs place bs x lt before is now =
-    let e = slice_index_or rs place no_entry in
+pub picks_cut : (due : Due) (at run next : ℕ) (rs : Registry) (index : ℕ) (bs : List Active) (x : Running) → index < length rs
+    → ArePicks due at run (take index rs) bs → next ≡ run + length bs → Chooses due at next (slice_index_or rs index no_entry) (Some x)
+    → (later : List Active) × ArePicks due at run rs (bs ++ record { id = (slice_index_or rs index no_entry).0; running = x } ∷ later)
+picks_cut due at run next rs index bs x lt before is now =
+    let e = slice_index_or rs index no_entry in
     let a : Active = record { id = e.0; running = x } in
-    let prefix = picks_more due at run next rs place bs (Some x) lt before is now in
-    let later = some_picks due at (run + length (bs ++ a ∷ [])) (drop (place + 1) rs) in
-    let all = picks_append due at run (take (place + 1) rs) (drop (place + 1) rs) (bs ++ a ∷ []) later.0 prefix later.1 in
-    let whole : take (place + 1) rs ++ drop (place + 1) rs ≡ rs = take-append-drop (place + 1) rs in (
+    let prefix = picks_more due at run next rs index bs (Some x) lt before is now in
+    let later = some_picks due at (run + length (bs ++ a ∷ [])) (drop (index + 1) rs) in
+    let all = picks_append due at run (take (index + 1) rs) (drop (index + 1) rs) (bs ++ a ∷ []) later.0 prefix later.1 in
+    let whole : take (index + 1) rs ++ drop (index + 1) rs ≡ rs = take-append-drop (index + 1) rs in (
       later.0,
       subst (λ (l : List Active). ArePicks due at run rs l) (append_assoc bs (a ∷ []) later.0)
           (subst (λ (l : Registry). ArePicks due at run l ((bs ++ a ∷ []) ++ later.0)) whole all),

@@ -7,13 +7,13 @@ use Rattle.ocf_types.specs.Due.{Due}
 use Rattle.ocf_types.specs.Kinds.{Event, Registration}
 use Rattle.ocf_types.specs.Limits.{num_max}
 use Rattle.ocf_types.specs.Params.{ParamList}
-use Rattle.ocf_types.specs.Places.{entry_at, id_at}
+use Rattle.ocf_types.specs.Indexes.{entry_at, id_at}
 use Rattle.ocf_types.specs.Resource.{Resource}
 use Rattle.ocf_types.specs.Encoding.{encoded_event}
 use Rattle.ocf_types.specs.State.{State}
 use Rattle.ocf_types.specs.declared.operation.Running.{Running}
 use Rattle.ocf_types.specs.declared.reply.TurnEnd.TheVariants as turn_end
-use Rattle.ocf_env.specs.Places.{Call, SiteView}
+use Rattle.ocf_env.specs.Locations.{Call, SiteView}
 use Rattle.exec_journal.specs.PartPrefix.{encoded_batch}
 use Rattle.exec_journal.specs.Batches.{IsTooLong, kept_free}
 use Rattle.exec_ledger.specs.Actives.{Active}
@@ -97,30 +97,30 @@ above n m h = by (cases_lt m n)
     by (inr le) = absurd (h le)
 
 -- The picks of the resources before an index, under run numbers up to the next one.
-pub record SoFar (s : State) (due : Due) (tail at place next : ℕ) (bs : List Active) : Type 0 where
-  pub picked : ArePicks due at s.next_run (take place s.resources) bs
+pub record SoFar (s : State) (due : Due) (tail at index next : ℕ) (bs : List Active) : Type 0 where
+  pub picked : ArePicks due at s.next_run (take index s.resources) bs
   pub next_is : next ≡ s.next_run + length bs
   pub may : MayBegin s tail at bs
 
-module _ {s : State} {due : Due} {tail at place next : ℕ} {bs : List Active} (p : SoFar s due tail at place next bs)
-    (within : place < length s.resources) where
+module _ {s : State} {due : Due} {tail at index next : ℕ} {bs : List Active} (p : SoFar s due tail at index next bs)
+    (within : index < length s.resources) where
   -- the resource at the index picks nothing
-  pub nothing_here : Chooses due at next (entry_at s place) None → SoFar s due tail at (place + 1) next bs
+  pub nothing_here : Chooses due at next (entry_at s index) None → SoFar s due tail at (index + 1) next bs
   nothing_here now = record {
-    picked = subst (λ (l : List Active). ArePicks due at s.next_run (take (place + 1) s.resources) l) (append-nil bs)
-        (picks_more due at s.next_run next s.resources place bs None within p.picked p.next_is now);
+    picked = subst (λ (l : List Active). ArePicks due at s.next_run (take (index + 1) s.resources) l) (append-nil bs)
+        (picks_more due at s.next_run next s.resources index bs None within p.picked p.next_is now);
     next_is = p.next_is;
     may = p.may;
   }
 
   -- it picks an action, for which there is no run number, no space in the journal or no memory, or which begins
-  module _ {x : Running} (now : Chooses due at next (entry_at s place) (Some x)) where
+  module _ {x : Running} (now : Chooses due at next (entry_at s index) (Some x)) where
     abbrev here : Active
-    here = record { id = id_at s place; running = x }
+    here = record { id = id_at s index; running = x }
 
     cut_here : (Why : List Active → Type 0) → Why (bs ++ here ∷ []) → Cut s due at bs Why
     cut_here Why why =
-        let cut = picks_cut due at s.next_run next s.resources place bs x within p.picked p.next_is now in
+        let cut = picks_cut due at s.next_run next s.resources index bs x within p.picked p.next_is now in
         record { next = here; later = cut.0; picks = cut.1; why = why }
 
     pub spent_here : num_max < next + 1 → Picked turn_end.RunsSpent s due tail at bs
@@ -138,9 +138,9 @@ module _ {s : State} {due : Due} {tail at place next : ℕ} {bs : List Active} (
       no_memory_here fit = (cut_here (MayBegin s tail at) (may_more s tail at next size bs here p.next_is drawn size_is fit), p.may)
 
       pub begun_here : {later : ℕ} → tail + 5 + size + 1 + 32768 ≤ 8388608 → later ≡ next + 1
-          → SoFar s due tail at (place + 1) later (bs ++ here ∷ [])
+          → SoFar s due tail at (index + 1) later (bs ++ here ∷ [])
       begun_here fit later_is = record {
-        picked = picks_more due at s.next_run next s.resources place bs (Some x) within p.picked p.next_is now;
+        picked = picks_more due at s.next_run next s.resources index bs (Some x) within p.picked p.next_is now;
         next_is = omega (arith, p.next_is, longer bs here, later_is);
         may = may_more s tail at next size bs here p.next_is drawn size_is fit;
       }

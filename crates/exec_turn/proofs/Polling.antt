@@ -6,7 +6,7 @@ use Rattle.std.proofs.lemmas.List.{drop_more, length-map, map-append, take_more}
 use Rattle.std.proofs.lemmas.Map.Keys.{IsDistinct-head, IsDistinct-tail}
 use Rattle.ocf_types.specs.Laws.{each_append}
 use Rattle.ocf_types.specs.Kinds.{Event}
-use Rattle.ocf_types.specs.Places.{entry_at, no_entry}
+use Rattle.ocf_types.specs.Indexes.{entry_at, no_entry}
 use Rattle.ocf_types.specs.State.{State, after, after_all}
 use Rattle.ocf_types.specs.declared.operation.Running.{Running}
 use Rattle.ocf_types.specs.declared.outcome.RunEnd.{RunEnd}
@@ -226,16 +226,16 @@ others_distinct all rest distinct =
     distinct_second nat_eq (runs_of all) (runs_of rest) (subst (IsDistinct nat_eq) both distinct)
 
 -- the running actions of the resources up to an index, and from an index on
-pub active_more : (s : State) (place : ℕ) → place < length s.resources
-    → flat_map active_in (take (place + 1) s.resources) ≡ flat_map active_in (take place s.resources) ++ active_in (entry_at s place)
-active_more s place within =
-    ap (flat_map active_in) (take_more s.resources place no_entry within)
-    ∙ flat_map-append active_in (take place s.resources) (entry_at s place ∷ [])
-    ∙ ap (λ (l : List Active). flat_map active_in (take place s.resources) ++ l) (append-nil (active_in (entry_at s place)))
+pub active_more : (s : State) (index : ℕ) → index < length s.resources
+    → flat_map active_in (take (index + 1) s.resources) ≡ flat_map active_in (take index s.resources) ++ active_in (entry_at s index)
+active_more s index within =
+    ap (flat_map active_in) (take_more s.resources index no_entry within)
+    ∙ flat_map-append active_in (take index s.resources) (entry_at s index ∷ [])
+    ∙ ap (λ (l : List Active). flat_map active_in (take index s.resources) ++ l) (append-nil (active_in (entry_at s index)))
 
-pub active_rest : (s : State) (place : ℕ) → place < length s.resources
-    → flat_map active_in (drop place s.resources) ≡ active_in (entry_at s place) ++ flat_map active_in (drop (place + 1) s.resources)
-active_rest s place within = ap (flat_map active_in) (drop_more s.resources place no_entry within)
+pub active_rest : (s : State) (index : ℕ) → index < length s.resources
+    → flat_map active_in (drop index s.resources) ≡ active_in (entry_at s index) ++ flat_map active_in (drop (index + 1) s.resources)
+active_rest s index within = ap (flat_map active_in) (drop_more s.resources index no_entry within)
 
 -- the book's capacity after polls
 pub room_kept : (at : ℕ) (all : List Active) (old new : ChildrenView) (batch : List Event) (reported : List Notice)

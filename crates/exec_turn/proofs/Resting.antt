@@ -11,7 +11,7 @@ use Rattle.ocf_types.specs.declared.reply.TurnEnd.TheVariants as turn_end
 use Rattle.exec_state.specs.Resting.{Rests}
 use Rattle.exec_state.specs.Store.{Store, dues}
 use Rattle.exec_turn.specs.Picks.{ArePicks, Picked}
-use Rattle.ocf_env.specs.Places.{Call}
+use Rattle.ocf_env.specs.Locations.{Call}
 use Rattle.exec_turn.specs.Launches.{all_starting}
 use Rattle.exec_turn.specs.declared.picks.StartOf.{StartOf}
 use Rattle.exec_turn.proofs.Choosing.{own_found}

@@ -5,7 +5,7 @@ use Rattle.ocf_types.specs.Resource.{Resource}
 use Rattle.ocf_types.specs.State.{State, resource_at}
 use Rattle.ocf_env.specs.Instances.{registration_of}
 use Rattle.ocf_env.specs.Invocations.{IsInvocation}
-use Rattle.ocf_env.specs.Places.{Call, SiteView}
+use Rattle.ocf_env.specs.Locations.{Call, SiteView}
 use Rattle.child_model.specs.MayStart.{IsLaunch}
 use Rattle.exec_ledger.specs.Actives.{Active}
 use Rattle.exec_turn.specs.declared.picks.StartOf.{StartOf}

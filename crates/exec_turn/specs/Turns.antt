@@ -8,7 +8,7 @@ use Rattle.ocf_types.specs.declared.reply.TurnEnd.{TurnEnd}
 use Rattle.ocf_types.specs.declared.reply.TurnEnd.TheVariants as turn_end
 use Rattle.disk_model.specs.View.{Increased, View}
 use Rattle.disk_model.specs.declared.disk.DiskFault.{DiskFault}
-use Rattle.ocf_env.specs.Places.{Call}
+use Rattle.ocf_env.specs.Locations.{Call}
 use Rattle.child_model.specs.Children.{ChildrenView}
 use Rattle.exec_ledger.specs.Actives.{Active}
 use Rattle.exec_turn.specs.AgentsLive.{AgentsLive, AgentsLiveBut}

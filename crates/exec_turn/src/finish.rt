@@ -20,8 +20,8 @@ use ocf_types::{StateView, TurnEnd};
 pub fn runs_any<A: Grows>(state: &State<A>) -> bool
     ensures value { result ≡ any_running state.now.state }
 {
-    for place in 0..state.len() {
-        if state.running_at(place).is_some() {
+    for index in 0..state.len() {
+        if state.running_at(index).is_some() {
             return true;
         }
     }

@@ -5,7 +5,7 @@ ghost use Rattle.std.specs.Vec.{vec_capacity};
 ghost use Rattle.exec_journal.specs.Journal.{journal_position};
 ghost use Rattle.exec_state.specs.Store.{dues};
 ghost use Rattle.ocf_types.specs.Limits.{longest_begin};
-ghost use Rattle.ocf_types.specs.Places.{id_at};
+ghost use Rattle.ocf_types.specs.Indexes.{id_at};
 ghost use Rattle.ocf_types.specs.Encoding.{encoded_event};
 ghost use Rattle.exec_turn.specs.Launches.{IsStart, all_starting, what_starts};
 ghost use Rattle.exec_turn.specs.Picks.{Picked, begin_of, begins};
@@ -30,14 +30,14 @@ pub(crate) struct StartOf<I> {
 pub(crate) type Start<A = Global> = StartOf<Invocation<A>>;
 
 // The begin of an action of the resource at an index.
-fn begin_at<A: Grows>(state: &State<A>, place: usize, running: &Running, at: Moment) -> Event<A>
-    requires place { place < length state.now.state.resources }
+fn begin_at<A: Grows>(state: &State<A>, index: usize, running: &Running, at: Moment) -> Event<A>
+    requires index { index < length state.now.state.resources }
     ensures begin { result
-        ≡ begin_of at (record { id = id_at state.now.state place; running = running.now }) }
+        ≡ begin_of at (record { id = id_at state.now.state index; running = running.now }) }
     ensures short { length (encoded_event result) ≤ longest_begin }
 {
     lemma_lengths();
-    let id = state.id_at(place).copied();
+    let id = state.id_at(index).copied();
     let step = Step::Begin {
         call: running.call,
         run: running.run,
@@ -53,22 +53,22 @@ fn start_of<A: Grows, S: Allocator>(
     alloc: A,
     site: &Site<S>,
     state: &State<A>,
-    place: usize,
+    index: usize,
     running: Running,
 ) -> Result<Start<A>, AllocError>
-    requires place { place < length state.now.state.resources }
+    requires index { index < length state.now.state.resources }
     ensures start { IfOk result (IsStart site.now state.now.state) }
     ensures what { IfOk result
         (λ start. what_starts start
-        ≡ record { id = id_at state.now.state place; running = running }) }
+        ≡ record { id = id_at state.now.state index; running = running }) }
     ensures memory { OnErr result (IsTrue A.refuses) }
 {
     state.lemma_known();
     let instance = Instance {
-        id: state.id_at(place),
-        provider: state.provider_at(place),
-        agent: state.agent_at(place),
-        params: state.params_at(place),
+        id: state.id_at(index),
+        provider: state.provider_at(index),
+        agent: state.agent_at(index),
+        params: state.params_at(index),
     };
     let action = &running;
     let launch = launch(alloc, site, &instance, *action)?;
@@ -106,19 +106,19 @@ pub(crate) fn pick_all<D: Disk + Drop, A: Grows, S: Allocator>(
     }
     let mut run = state.next_run();
     let mut len = 0;
-    for place in 0..state.len() {
-        let Some(running) = state.pick(place, run, at) else {
+    for index in 0..state.len() {
+        let Some(running) = state.pick(index, run, at) else {
             continue;
         };
         let Some(next) = RunId::new(run.get() + 1) else {
             return TurnEnd::RunsSpent;
         };
-        let begin = begin_at(state, place, &running, at);
+        let begin = begin_at(state, index, &running, at);
         len += begin.encoded_len();
         if !journal.fits(len) {
             return TurnEnd::Full;
         }
-        let Ok(start) = start_of(alloc, site, state, place, running) else {
+        let Ok(start) = start_of(alloc, site, state, index, running) else {
             return TurnEnd::Memory;
         };
         batch.push_reserved(begin);

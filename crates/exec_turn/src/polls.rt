@@ -3,7 +3,7 @@ ghost use Rattle.std.specs.Prelude.{◌≡◌, ◌<◌, ◌≤◌, ◌+◌, ◌*
 ghost use Rattle.std.specs.List.{AllByRecursion};
 ghost use Rattle.std.specs.Vec.{vec_capacity};
 ghost use Rattle.ocf_types.specs.Kinds.{Event};
-ghost use Rattle.ocf_types.specs.Places.{entry_at};
+ghost use Rattle.ocf_types.specs.Indexes.{entry_at};
 ghost use Rattle.ocf_types.specs.declared.reply.Notice.{Notice};
 ghost use Rattle.child_model.specs.declared.answer.KillFault.{KillFault};
 ghost use Rattle.child_model.specs.declared.answer.Poll.{Poll};
@@ -53,38 +53,38 @@ fn ask<C: Children>(children: &mut C, running: &Running, at: Moment) -> Option<R
 // to the notices.
 fn poll_at<C: Children, A: Grows>(
     state: &State<A>,
-    place: usize,
+    index: usize,
     children: &mut C,
     at: Moment,
     batch: &mut Vec<Event<A>, A>,
     notices: &mut Vec<Notice, A>,
 )
-    requires place { place < length state.now.state.resources }
+    requires index { index < length state.now.state.resources }
     requires lives { AllByRecursion (λ run. Contains (C.view children.old).live run)
-        (runs_of (active_in (entry_at state.now.state place))) }
-    requires room { 2 * length (active_in (entry_at state.now.state place))
+        (runs_of (active_in (entry_at state.now.state index))) }
+    requires room { 2 * length (active_in (entry_at state.now.state index))
         ≤ (C.view children.old).room }
     requires batch_room { vec_len batch.old < vec_capacity batch.old }
     requires notice_room { vec_len notices.old < vec_capacity notices.old }
     ensures polled { (more : List Event) × (reported : List Notice)
-        × Polls at (active_in (entry_at state.now.state place)) (C.view children.old)
+        × Polls at (active_in (entry_at state.now.state index)) (C.view children.old)
         (C.view children.new) more reported
         × (batch.new.items ≡ batch.old.items ++ more)
         × (notices.new.items ≡ notices.old.items ++ reported) }
     ensures batch { GrowsInRoom 1 batch.old batch.new }
     ensures notices { GrowsInRoom 1 notices.old notices.new }
 {
-    let Some(running) = state.running_at(place) else {
+    let Some(running) = state.running_at(index) else {
         return;
     };
     let Some(end) = ask(children, &running, at) else {
         return;
     };
-    let id = state.id_at(place).copied();
+    let id = state.id_at(index).copied();
     let run = running.run;
     let change = Change::Step(id, Step::Result { run, end });
     batch.push_reserved(EventOf { at, change });
-    let id = state.id_at(place).copied();
+    let id = state.id_at(index).copied();
     let notice = run_notice(id, running, Outcome::Run(end), at);
     notices.push_reserved(notice);
 }
@@ -110,8 +110,8 @@ pub(crate) fn poll_all<C: Children, A: Grows>(
 {
     batch.clear();
     notices.clear();
-    for place in 0..state.len() {
-        poll_at(state, place, children, at, batch, notices);
+    for index in 0..state.len() {
+        poll_at(state, index, children, at, batch, notices);
     }
     children.end_killed();
 }

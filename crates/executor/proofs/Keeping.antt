@@ -9,7 +9,7 @@ use Rattle.ocf_types.specs.Boot.{any_busy}
 use Rattle.child_model.specs.Children.{ChildrenView, given_up}
 use Rattle.exec_ledger.specs.Actives.{KeepsRuns, Active, active_of, all_in, runs_of}
 use Rattle.ocf_types.specs.declared.reply.Notice.{Notice}
-use Rattle.ocf_env.specs.Places.{SiteView}
+use Rattle.ocf_env.specs.Locations.{SiteView}
 use Rattle.exec_ledger.specs.LedgerView.{LedgerView}
 use Rattle.exec_turn.specs.Turns.{ChildrenMatch}
 use Rattle.executor.specs.Reports.{ReportView}

@@ -1,6 +1,6 @@
 //! The report of an opening: the actions that a crashed executor left.
 ghost use Rattle.std.specs.Prelude.{◌≡◌, ◌++◌, ◌<◌, IfOk, IsTrue, OnErr, OnOk, length};
-ghost use Rattle.ocf_types.specs.Places.{entry_at};
+ghost use Rattle.ocf_types.specs.Indexes.{entry_at};
 ghost use Rattle.executor.specs.Interruptions.{dropped, dropped_in, interrupted, interrupted_in};
 
 use exec_state::State;
@@ -39,16 +39,16 @@ fn noted(notices: &[Notice]) -> Past<Notice>
 fn push_interrupted<A: Grows>(
     notices: &mut Vec<Notice, A>,
     state: &State<A>,
-    place: usize,
+    index: usize,
     at: Moment,
 ) -> Result<(), AllocError>
-    requires place { place < length state.now.state.resources }
+    requires index { index < length state.now.state.resources }
     ensures pushed { OnOk result (notices.new.items
-        ≡ notices.old.items ++ interrupted_in at (entry_at state.now.state place)) }
+        ≡ notices.old.items ++ interrupted_in at (entry_at state.now.state index)) }
     ensures memory { OnErr result (IsTrue A.refuses) }
 {
-    if let Some(running) = state.running_at(place) {
-        let id = state.id_at(place).copied();
+    if let Some(running) = state.running_at(index) {
+        let id = state.id_at(index).copied();
         push(notices, run_notice(id, running, Outcome::Interrupted, at))?;
     }
     Ok(())
@@ -59,17 +59,17 @@ fn push_interrupted<A: Grows>(
 fn push_dropped<A: Grows>(
     notices: &mut Vec<Notice, A>,
     state: &State<A>,
-    place: usize,
+    index: usize,
     at: Moment,
 ) -> Result<(), AllocError>
-    requires place { place < length state.now.state.resources }
+    requires index { index < length state.now.state.resources }
     ensures pushed { OnOk result (notices.new.items
-        ≡ notices.old.items ++ dropped_in at (entry_at state.now.state place)) }
+        ≡ notices.old.items ++ dropped_in at (entry_at state.now.state index)) }
     ensures memory { OnErr result (IsTrue A.refuses) }
 {
-    for i in 0..state.queue_len(place) {
-        let id = state.id_at(place).copied();
-        let notice = drop_notice(id, state.queued_at(place, i), at);
+    for i in 0..state.queue_len(index) {
+        let id = state.id_at(index).copied();
+        let notice = drop_notice(id, state.queued_at(index, i), at);
         push(notices, notice)?;
     }
     Ok(())
@@ -86,9 +86,9 @@ impl<A: Grows> Report<A> {
     {
         let mut interrupted = Vec::new(alloc);
         let mut dropped = Vec::new(alloc);
-        for place in 0..state.len() {
-            push_interrupted(&mut interrupted, state, place, at)?;
-            push_dropped(&mut dropped, state, place, at)?;
+        for index in 0..state.len() {
+            push_interrupted(&mut interrupted, state, index, at)?;
+            push_dropped(&mut dropped, state, index, at)?;
         }
         Ok(Report {
             interrupted,

@@ -7,7 +7,7 @@ use Rattle.ocf_types.specs.Kinds.{Registration}
 use Rattle.ocf_types.specs.declared.action.Check.{Check}
 use Rattle.ocf_types.specs.declared.action.Task.{Task}
 use Rattle.ocf_types.specs.declared.action.Task.TheVariants as task
-use Rattle.ocf_env.specs.Places.{SiteView, Pair}
+use Rattle.ocf_env.specs.Locations.{SiteView, Pair}
 use Rattle.ocf_env.specs.Variables.{reskey, IsAgentVariable, IsVariable, major, minor, of_provider, of_type, below_root, with_path}
 use Rattle.ocf_env.specs.Variables.{of_agent, level, instance, parameter}
 use Rattle.ocf_env.specs.Lists.{level_pairs, version_pairs, param_pairs, instance_pair, last_pairs, instance_pairs, action_pairs}

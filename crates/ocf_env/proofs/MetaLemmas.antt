@@ -9,7 +9,7 @@ use Rattle.ocf_types.specs.Params.{AreParams}
 use Rattle.ocf_types.specs.declared.operation.Running.{Running}
 use Rattle.ocf_env.specs.Lists.{interval_pair, name_pair, timeout_pair, with_meta, with_new}
 use Rattle.ocf_env.specs.MetaVariables.{IsGiven, IsMetaVariable, interval, name, timeout, own, meta}
-use Rattle.ocf_env.specs.Places.{Pair, SiteView}
+use Rattle.ocf_env.specs.Locations.{Pair, SiteView}
 use Rattle.ocf_env.specs.Variables.{IsVariable, are_ascending, parameter, reskey}
 use Rattle.ocf_env.proofs.Amongs.{Among, among, contained}
 use Rattle.ocf_env.proofs.NewLemmas.{is_named, named, new_ascends, new_cases, new_here, new_keeps, unnamed}

@@ -14,7 +14,7 @@ use Rattle.std.proofs.lemmas.Slice.Eq.{bytes_eq-Decides}
 use Rattle.ocf_types.specs.Laws.{and_true, before_trans, both, less_is}
 use Rattle.ocf_types.specs.Params.{is_before, is_after}
 use Rattle.ocf_env.specs.Lists.{with_new}
-use Rattle.ocf_env.specs.Places.{Pair}
+use Rattle.ocf_env.specs.Locations.{Pair}
 use Rattle.ocf_env.specs.Variables.{are_ascending_after}
 use Rattle.ocf_env.proofs.Amongs.{Among}
 
@@ -134,8 +134,8 @@ in_order last p (x ∷ xs) after s n =
         → are_ascending_after (Some x.0) (insert xs (lesser p.0 xs) p) ≡ true)
         → is_before x.0 p.0 ≡ true → are_ascending_after last (insert (x ∷ xs) (lesser p.0 (x ∷ xs)) p) ≡ true
     under later lt =
-        let place : lesser p.0 (x ∷ xs) ≡ suc (lesser p.0 xs) = lesser_more p.0 x xs ∙ rw lt (one_more (lesser p.0 xs)) in
-        rw place (and_true _ _ parts.0 (later lt parts.1 news.1))
+        let index : lesser p.0 (x ∷ xs) ≡ suc (lesser p.0 xs) = lesser_more p.0 x xs ∙ rw lt (one_more (lesser p.0 xs)) in
+        rw index (and_true _ _ parts.0 (later lt parts.1 news.1))
 
     equal : x.0 ≡ p.0 → ⊥
     equal e =
@@ -145,8 +145,8 @@ in_order last p (x ∷ xs) after s n =
 
     above : is_before p.0 x.0 ≡ true → are_ascending_after last (insert (x ∷ xs) (lesser p.0 (x ∷ xs)) p) ≡ true
     above gt =
-        let place : lesser p.0 (x ∷ xs) ≡ 0 = lesser_more p.0 x xs ∙ rw (not_back p.0 x.0 gt, none_lesser p.0 x.0 xs gt parts.1) refl in
-        rw place (and_true _ _ after (and_true _ _ gt parts.1))
+        let index : lesser p.0 (x ∷ xs) ≡ 0 = lesser_more p.0 x xs ∙ rw (not_back p.0 x.0 gt, none_lesser p.0 x.0 xs gt parts.1) refl in
+        rw index (and_true _ _ after (and_true _ _ gt parts.1))
 
 pub new_ascends : (p : Pair) (xs : List Pair) → are_ascending_after None xs ≡ true → are_ascending_after None (with_new p xs) ≡ true
 new_ascends p xs s = by (is_named p.0 xs) refl

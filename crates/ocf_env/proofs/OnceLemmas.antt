@@ -3,7 +3,7 @@ use Rattle.std.proofs.Common.{◌≡◌, inl, inr, ℕ, true, false, List, [], �
 use Rattle.ocf_types.specs.Params.{is_before, is_after, AreParams}
 use Rattle.ocf_types.specs.Kinds.{Registration}
 use Rattle.ocf_types.specs.declared.action.Task.{Task}
-use Rattle.ocf_env.specs.Places.{SiteView, Pair}
+use Rattle.ocf_env.specs.Locations.{SiteView, Pair}
 use Rattle.ocf_env.specs.Variables.{IsVariable, are_ascending_after}
 use Rattle.ocf_env.specs.Lists.{action_pairs}
 use Rattle.ocf_types.specs.Laws.{before_trans, both, not_before_itself}

@@ -2,7 +2,7 @@
 use Rattle.std.proofs.Common.{◌≡◌, ℕ, ◌+◌, ◌<◌, List, [], ◌∷◌, ◌++◌, length, take, get_or, refl, sym, ◌∙◌, ap, append_assoc}
 use Rattle.std.proofs.lemmas.List.{take_more, map-append}
 use Rattle.ocf_types.specs.Params.{ParamList}
-use Rattle.ocf_env.specs.Places.{Pair}
+use Rattle.ocf_env.specs.Locations.{Pair}
 use Rattle.ocf_env.specs.Variables.{reskey}
 use Rattle.ocf_env.specs.Lists.{param_pairs}
 

@@ -6,7 +6,7 @@ use Rattle.ocf_types.specs.Params.{ParamList, is_before, are_params_after, ArePa
 use Rattle.ocf_types.specs.Kinds.{Registration}
 use Rattle.ocf_types.specs.declared.action.Task.{Task}
 use Rattle.ocf_types.specs.declared.action.Task.TheVariants as task
-use Rattle.ocf_env.specs.Places.{SiteView, Pair}
+use Rattle.ocf_env.specs.Locations.{SiteView, Pair}
 use Rattle.ocf_env.specs.Variables.{reskey, are_ascending_after, are_ascending}
 use Rattle.ocf_env.specs.Lists.{param_pairs, instance_pair, last_pairs, action_pairs, meta_pairs}
 use Rattle.ocf_types.specs.Laws.{and_true, both}

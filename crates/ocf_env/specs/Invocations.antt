@@ -3,7 +3,7 @@ use Rattle.std.specs.Prelude.{◌≡◌, ◌↔◌, ℕ, List, Contains, IsTrue}
 use Rattle.ocf_types.specs.Actions.{action_of, action_word}
 use Rattle.ocf_types.specs.Kinds.{Registration}
 use Rattle.ocf_types.specs.declared.operation.Running.{Running}
-use Rattle.ocf_env.specs.Places.{Call, SiteView}
+use Rattle.ocf_env.specs.Locations.{Call, SiteView}
 use Rattle.ocf_env.specs.Programs.{agent_path, program_at, arguments_at}
 use Rattle.ocf_env.specs.MetaVariables.{IsGiven}
 use Rattle.ocf_env.specs.Variables.{are_ascending}

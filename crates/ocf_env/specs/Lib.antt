@@ -1,4 +1,4 @@
-pub mod Places
+pub mod Locations
 pub mod Programs
 pub mod Variables
 pub mod MetaVariables

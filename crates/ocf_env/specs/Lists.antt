@@ -7,7 +7,7 @@ use Rattle.ocf_types.specs.Kinds.{Registration}
 use Rattle.ocf_types.specs.declared.action.Task.{Task}
 use Rattle.ocf_types.specs.declared.action.Task.TheVariants.{Monitor}
 use Rattle.ocf_types.specs.declared.operation.Running.{Running}
-use Rattle.ocf_env.specs.Places.{SiteView, Pair}
+use Rattle.ocf_env.specs.Locations.{SiteView, Pair}
 use Rattle.ocf_env.specs.Variables.{reskey}
 
 -- OCF Resource Agent API 1.1, OCF_CHECK_LEVEL: for a monitor only

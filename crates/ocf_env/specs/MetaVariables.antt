@@ -3,7 +3,7 @@ use Rattle.std.specs.Prelude.{◌≡◌, true, ℕ, List, codes, decimal}
 use Rattle.ocf_types.specs.Actions.{action_of, action_word}
 use Rattle.ocf_types.specs.Kinds.{Registration}
 use Rattle.ocf_types.specs.declared.operation.Running.{Running}
-use Rattle.ocf_env.specs.Places.{SiteView}
+use Rattle.ocf_env.specs.Locations.{SiteView}
 use Rattle.ocf_env.specs.Variables.{IsVariable}
 
 -- The name of the action, its interval in milliseconds, which is 0 for a one-time action, and its timeout in milliseconds. Pacemaker

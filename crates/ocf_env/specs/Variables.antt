@@ -6,7 +6,7 @@ use Rattle.ocf_types.specs.Kinds.{Registration}
 use Rattle.ocf_types.specs.declared.action.Check.{Check}
 use Rattle.ocf_types.specs.declared.action.Task.{Task}
 use Rattle.ocf_types.specs.declared.action.Task.TheVariants.{Monitor}
-use Rattle.ocf_env.specs.Places.{SiteView, Pair}
+use Rattle.ocf_env.specs.Locations.{SiteView, Pair}
 
 -- the variable of a parameter: OCF Resource Agent API 1.1, OCF_RESKEY_
 abbrev pub reskey : List ℕ → List ℕ

@@ -19,7 +19,7 @@ pub struct Invocation<A: Allocator = Global> {
 }
 
 impl<A: Allocator> Model for Invocation<A> {
-    ghost use Rattle.ocf_env.specs.Places.{Call};
+    ghost use Rattle.ocf_env.specs.Locations.{Call};
 
     ghost Value = { Call };
 

@@ -5,7 +5,7 @@ ghost use Rattle.ocf_types.specs.Params.{AreParams};
 ghost use Rattle.ocf_types.specs.declared.action.Task.{Task};
 ghost use Rattle.ocf_types.specs.declared.operation.Running.{Running};
 ghost use Rattle.ocf_env.specs.MetaVariables.{IsGiven};
-ghost use Rattle.ocf_env.specs.Places.{SiteView};
+ghost use Rattle.ocf_env.specs.Locations.{SiteView};
 ghost use Rattle.ocf_env.specs.Variables.{IsVariable, reskey};
 
 /// A parameter shadows no other variable: a name that begins with OCF_RESKEY_ is a parameter's, and no name has two values.

@@ -45,10 +45,10 @@ fn add_new<A: Grows>(
     if is_there(pairs.as_slice(), name) {
         return Ok(());
     }
-    let place = lesser_names(pairs.as_slice(), name);
+    let index = lesser_names(pairs.as_slice(), name);
     let pair = (copied(alloc, name)?, copied(alloc, value)?);
     A::reserve(pairs, 1)?;
-    if pairs.insert(place, pair).is_err() {
+    if pairs.insert(index, pair).is_err() {
         unreachable!()
     }
     Ok(())

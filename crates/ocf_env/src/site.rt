@@ -16,7 +16,7 @@ pub struct Site<A: Allocator = Global> {
 }
 
 impl<A: Allocator> Model for Site<A> {
-    ghost use Rattle.ocf_env.specs.Places.{SiteView};
+    ghost use Rattle.ocf_env.specs.Locations.{SiteView};
 
     ghost Value = { SiteView };
 

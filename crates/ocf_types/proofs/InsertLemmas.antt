@@ -35,8 +35,8 @@ any_false_at test (p ∷ ps) zero e h g =
 any_false_at test (p ∷ ps) (suc n) e h g = any_false_at test ps n e (or_parts (test p) (list_any test ps) h).1 g
 
 module _ (name : List ℕ) (ps : ParamList) (sorted : are_params_after None ps ≡ true) where
-  place_of : (b : Present name ps) → slice_get ps (length (lesser name ps)) ≡ Some b.entry
-  place_of b =
+  index_of : (b : Present name ps) → slice_get ps (length (lesser name ps)) ≡ Some b.entry
+  index_of b =
       ap (λ (xs : ParamList). slice_get xs (length (lesser name ps))) b.whole ∙ get_seam (lesser name ps) (b.entry ∷ greater name ps)
 
   -- the parameter at the index of a name has this name exactly when the name is present
@@ -48,7 +48,7 @@ module _ (name : List ℕ) (ps : ParamList) (sorted : are_params_after None ps �
       present : Present name ps → bytes_eq e.0 name ≡ has_param name ps
       present b =
           let at : n ≡ length (lesser name ps) = is ∙ count_is name ps in
-          let here : Some e ≡ Some b.entry = sym g ∙ ap (λ k. slice_get ps k) at ∙ place_of b in
+          let here : Some e ≡ Some b.entry = sym g ∙ ap (λ k. slice_get ps k) at ∙ index_of b in
           let same : e ≡ b.entry = cc in
           (bytes_eq-Decides e.0 name).1 (ap (λ (x : List ℕ × List ℕ). x.0) same ∙ b.same) ∙ sym b.there
 
@@ -58,12 +58,12 @@ module _ (name : List ℕ) (ps : ParamList) (sorted : are_params_after None ps �
       present : Present name ps → false ≡ has_param name ps
       present b =
           let at : n ≡ length (lesser name ps) = is ∙ count_is name ps in
-          let here : None ≡ Some b.entry = sym g ∙ ap (λ k. slice_get ps k) at ∙ place_of b in
+          let here : None ≡ Some b.entry = sym g ∙ ap (λ k. slice_get ps k) at ∙ index_of b in
           absurd cc
 
   -- the index of a name that is present
-  pub place_below : (n : ℕ) → n ≡ count_by (λ p. is_before p.0 name) ps → has_param name ps ≡ true → n < length ps
-  place_below n is h = elim (around name None ps sorted) [ inl a ↦ absurd (let no = a.gone in cc) | inr b ↦ present b ]
+  pub index_below : (n : ℕ) → n ≡ count_by (λ p. is_before p.0 name) ps → has_param name ps ≡ true → n < length ps
+  index_below n is h = elim (around name None ps sorted) [ inl a ↦ absurd (let no = a.gone in cc) | inr b ↦ present b ]
     where
       present : Present name ps → n < length ps
       present b =

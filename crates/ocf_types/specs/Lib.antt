@@ -20,7 +20,7 @@ pub mod Answer
 pub mod Due
 pub mod StateEncoding
 pub mod LawfulState
-pub mod Places
+pub mod Indexes
 pub mod Laws
 pub mod NameLaws
 pub mod RegistryLaws

@@ -25,14 +25,14 @@ fn lesser_names<A: Allocator>(entries: &[(ParamName, ParamValue<A>)], name: &Par
 #[tactic(auto, using(crate::proofs::InsertLemmas::there_at, crate::proofs::InsertLemmas::none_at))]
 fn is_there<A: Allocator>(
     entries: &[(ParamName, ParamValue<A>)],
-    place: usize,
+    index: usize,
     name: &ParamName,
 ) -> bool
     requires lawful { AreParams entries.now }
-    requires place { place ≡ count_by (λ p. is_before p.0 name.now) entries.now }
+    requires index { index ≡ count_by (λ p. is_before p.0 name.now) entries.now }
     ensures { result ≡ has_param name.now entries.now }
 {
-    match entries.get(place) {
+    match entries.get(index) {
         Some(entry) => entry.0.as_bytes() == name.as_bytes(),
         None => false,
     }
@@ -112,9 +112,9 @@ impl<A: Grows> Params<A> {
     {
         let _ = name.as_bytes();
         let _ = value.as_str();
-        let place = lesser_names(self.entries.as_slice(), &name);
-        if is_there(self.entries.as_slice(), place, &name) {
-            self.entries[place] = (name, value);
+        let index = lesser_names(self.entries.as_slice(), &name);
+        if is_there(self.entries.as_slice(), index, &name) {
+            self.entries[index] = (name, value);
             return Ok(());
         }
         if self.entries.len() == PARAMS_LIMIT {
@@ -123,7 +123,7 @@ impl<A: Grows> Params<A> {
         if A::reserve(&mut self.entries, 1).is_err() {
             return Err(ValueError::Memory);
         }
-        if self.entries.insert(place, (name, value)).is_err() {
+        if self.entries.insert(index, (name, value)).is_err() {
             unreachable!()
         }
         Ok(())

@@ -83,51 +83,51 @@ impl<A: Allocator> StateView for StateParts<A> {
         self.resources.len()
     }
 
-    fn id_at(&self, place: usize) -> &RscId {
-        &self.resources[place].registration().id
+    fn id_at(&self, index: usize) -> &RscId {
+        &self.resources[index].registration().id
     }
 
-    fn provider_at(&self, place: usize) -> &Provider {
-        &self.resources[place].registration().provider
+    fn provider_at(&self, index: usize) -> &Provider {
+        &self.resources[index].registration().provider
     }
 
-    fn agent_at(&self, place: usize) -> &AgentType {
-        &self.resources[place].registration().agent
+    fn agent_at(&self, index: usize) -> &AgentType {
+        &self.resources[index].registration().agent
     }
 
-    fn params_at(&self, place: usize) -> &Params<A> {
-        &self.resources[place].registration().params
+    fn params_at(&self, index: usize) -> &Params<A> {
+        &self.resources[index].registration().params
     }
 
-    fn queue_len(&self, place: usize) -> usize {
-        self.resources[place].history().queue().len()
+    fn queue_len(&self, index: usize) -> usize {
+        self.resources[index].history().queue().len()
     }
 
-    fn queued_at(&self, place: usize, at: usize) -> Op {
-        self.resources[place].history().queue()[at]
+    fn queued_at(&self, index: usize, at: usize) -> Op {
+        self.resources[index].history().queue()[at]
     }
 
-    fn running_at(&self, place: usize) -> Option<Running> {
-        self.resources[place].history().running()
+    fn running_at(&self, index: usize) -> Option<Running> {
+        self.resources[index].history().running()
     }
 
-    fn recurring_len(&self, place: usize) -> usize {
-        self.resources[place].recurring().len()
+    fn recurring_len(&self, index: usize) -> usize {
+        self.resources[index].recurring().len()
     }
 
-    fn recurring_at(&self, place: usize, at: usize) -> Recur {
-        self.resources[place].recurring()[at]
+    fn recurring_at(&self, index: usize, at: usize) -> Recur {
+        self.resources[index].recurring()[at]
     }
 
-    fn ended_len(&self, place: usize) -> usize {
-        self.resources[place].history().ended().len()
+    fn ended_len(&self, index: usize) -> usize {
+        self.resources[index].history().ended().len()
     }
 
-    fn ended_at(&self, place: usize, at: usize) -> Ended {
-        self.resources[place].history().ended()[at]
+    fn ended_at(&self, index: usize, at: usize) -> Ended {
+        self.resources[index].history().ended()[at]
     }
 
-    fn failed_at(&self, place: usize) -> Option<Ended> {
-        self.resources[place].history().failed()
+    fn failed_at(&self, index: usize) -> Option<Ended> {
+        self.resources[index].history().failed()
     }
 }

@@ -1,7 +1,7 @@
 //! A state, read number by number and item by item.
 ghost use Rattle.std.specs.Prelude.{◌≡◌, ◌<◌, ◌≤◌, length, Some, slice_get};
 ghost use Rattle.ocf_types.specs.State.{State};
-ghost use Rattle.ocf_types.specs.Places.{id_at, at_place};
+ghost use Rattle.ocf_types.specs.Indexes.{id_at, at_index};
 
 use crate::agent::{AgentType, Provider};
 use crate::limits::{ENDED_KEPT, QUEUE_LIMIT, RECURRING_LIMIT, RESOURCES_LIMIT};
@@ -36,65 +36,65 @@ pub trait StateView {
         ensures value { result ≡ length (plain self.now).resources }
         ensures limit { result ≤ RESOURCES_LIMIT };
 
-    fn id_at(&self, place: usize) -> &RscId
-        requires { place < length (plain self.now).resources }
-        ensures { result.now ≡ id_at (plain self.now) place };
+    fn id_at(&self, index: usize) -> &RscId
+        requires { index < length (plain self.now).resources }
+        ensures { result.now ≡ id_at (plain self.now) index };
 
-    fn provider_at(&self, place: usize) -> &Provider
-        requires { place < length (plain self.now).resources }
-        ensures { result.now ≡ (at_place (plain self.now) place).provider };
+    fn provider_at(&self, index: usize) -> &Provider
+        requires { index < length (plain self.now).resources }
+        ensures { result.now ≡ (at_index (plain self.now) index).provider };
 
-    fn agent_at(&self, place: usize) -> &AgentType
-        requires { place < length (plain self.now).resources }
-        ensures { result.now ≡ (at_place (plain self.now) place).agent };
+    fn agent_at(&self, index: usize) -> &AgentType
+        requires { index < length (plain self.now).resources }
+        ensures { result.now ≡ (at_index (plain self.now) index).agent };
 
-    fn params_at(&self, place: usize) -> &Params<Self::A>
-        requires { place < length (plain self.now).resources }
-        ensures { result.now ≡ (at_place (plain self.now) place).params };
+    fn params_at(&self, index: usize) -> &Params<Self::A>
+        requires { index < length (plain self.now).resources }
+        ensures { result.now ≡ (at_index (plain self.now) index).params };
 
     /// The number of queued actions of a resource, at most [`QUEUE_LIMIT`].
-    fn queue_len(&self, place: usize) -> usize
-        requires { place < length (plain self.now).resources }
-        ensures value { result ≡ length (at_place (plain self.now) place).history.queue }
+    fn queue_len(&self, index: usize) -> usize
+        requires { index < length (plain self.now).resources }
+        ensures value { result ≡ length (at_index (plain self.now) index).history.queue }
         ensures limit { result ≤ QUEUE_LIMIT };
 
     /// A queued action.
-    fn queued_at(&self, place: usize, at: usize) -> Op
-        requires resource { place < length (plain self.now).resources }
-        requires item { at < length (at_place (plain self.now) place).history.queue }
-        ensures { slice_get (at_place (plain self.now) place).history.queue at ≡ Some result };
+    fn queued_at(&self, index: usize, at: usize) -> Op
+        requires resource { index < length (plain self.now).resources }
+        requires item { at < length (at_index (plain self.now) index).history.queue }
+        ensures { slice_get (at_index (plain self.now) index).history.queue at ≡ Some result };
 
     /// The running action of a resource.
-    fn running_at(&self, place: usize) -> Option<Running>
-        requires { place < length (plain self.now).resources }
-        ensures { result ≡ (at_place (plain self.now) place).history.running };
+    fn running_at(&self, index: usize) -> Option<Running>
+        requires { index < length (plain self.now).resources }
+        ensures { result ≡ (at_index (plain self.now) index).history.running };
 
     /// The number of recurring monitors of a resource, at most [`RECURRING_LIMIT`].
-    fn recurring_len(&self, place: usize) -> usize
-        requires { place < length (plain self.now).resources }
-        ensures value { result ≡ length (at_place (plain self.now) place).recurring }
+    fn recurring_len(&self, index: usize) -> usize
+        requires { index < length (plain self.now).resources }
+        ensures value { result ≡ length (at_index (plain self.now) index).recurring }
         ensures limit { result ≤ RECURRING_LIMIT };
 
     /// A recurring monitor.
-    fn recurring_at(&self, place: usize, at: usize) -> Recur
-        requires resource { place < length (plain self.now).resources }
-        requires item { at < length (at_place (plain self.now) place).recurring }
-        ensures { slice_get (at_place (plain self.now) place).recurring at ≡ Some result };
+    fn recurring_at(&self, index: usize, at: usize) -> Recur
+        requires resource { index < length (plain self.now).resources }
+        requires item { at < length (at_index (plain self.now) index).recurring }
+        ensures { slice_get (at_index (plain self.now) index).recurring at ≡ Some result };
 
     /// The number of kept results of a resource, at most [`ENDED_KEPT`].
-    fn ended_len(&self, place: usize) -> usize
-        requires { place < length (plain self.now).resources }
-        ensures value { result ≡ length (at_place (plain self.now) place).history.ended }
+    fn ended_len(&self, index: usize) -> usize
+        requires { index < length (plain self.now).resources }
+        ensures value { result ≡ length (at_index (plain self.now) index).history.ended }
         ensures limit { result ≤ ENDED_KEPT };
 
     /// A result; the oldest is at 0.
-    fn ended_at(&self, place: usize, at: usize) -> Ended
-        requires resource { place < length (plain self.now).resources }
-        requires item { at < length (at_place (plain self.now) place).history.ended }
-        ensures { slice_get (at_place (plain self.now) place).history.ended at ≡ Some result };
+    fn ended_at(&self, index: usize, at: usize) -> Ended
+        requires resource { index < length (plain self.now).resources }
+        requires item { at < length (at_index (plain self.now) index).history.ended }
+        ensures { slice_get (at_index (plain self.now) index).history.ended at ≡ Some result };
 
     /// A resource's last result that failed.
-    fn failed_at(&self, place: usize) -> Option<Ended>
-        requires { place < length (plain self.now).resources }
-        ensures { result ≡ (at_place (plain self.now) place).history.failed };
+    fn failed_at(&self, index: usize) -> Option<Ended>
+        requires { index < length (plain self.now).resources }
+        ensures { result ≡ (at_index (plain self.now) index).history.failed };
 }

@@ -95,7 +95,7 @@ impl<'a> Host for SystemHost<'a> {
       watch = λ served watch. ⊤;
       moved = λ watch. ⊤;
       line = λ bytes. ⊤;
-      shown = λ options place ended. ⊤;
+      shown = λ options location ended. ⊤;
       once = λ options status. ⊤;
       printed = λ text. ⊤;
     } };

@@ -37,25 +37,25 @@ module _ (f : List (ℕ × ℕ) → List (ℕ × ℕ)) where
       by false other rest = rw other (ap (λ (xs : Dues). e ∷ xs) (rest (rw other at none)))
 
   -- a write at the index of the id
-  at_id-place : (id : List ℕ) (es : Dues) (i : ℕ) (v w : List (ℕ × ℕ)) → IsDistinct bytes_eq (keys_of es)
+  at_id-index : (id : List ℕ) (es : Dues) (i : ℕ) (v w : List (ℕ × ℕ)) → IsDistinct bytes_eq (keys_of es)
       → bytes_eq id (get_or (keys_of es) i []) ≡ true → ((k : ℕ) → k < i → bytes_eq id (get_or (keys_of es) k []) ≡ false)
       → slice_get (values_of es) i ≡ Some v → w ≡ f v → set_value_at es i w ≡ at_id id f es
-  at_id-place id [] i v w distinct here before at is = refl
-  at_id-place id (e ∷ es) zero v w distinct here before at is =
+  at_id-index id [] i v w distinct here before at is = refl
+  at_id-index id (e ∷ es) zero v w distinct here before at is =
       let same : bytes_eq id e.0 ≡ true = here in
       let value : Some e.1 ≡ Some v = at in
       let now : w ≡ f e.1 = is ∙ ap f (let was : v ≡ e.1 = cc in was) in
       rw same (ap (λ (r : List (ℕ × ℕ)). (e.0, r) ∷ es) now
       ∙ ap (λ (xs : Dues). (e.0, f e.1) ∷ xs) (sym (at_id-absent id es (absent_after id e es distinct same))))
-  at_id-place id (e ∷ es) (suc i) v w distinct here before at is =
+  at_id-index id (e ∷ es) (suc i) v w distinct here before at is =
       let other : bytes_eq id e.0 ≡ false = before 0 (omega arith) in
       rw other (ap (λ (xs : Dues). e ∷ xs)
-      (at_id-place id es i v w (IsDistinct-tail bytes_eq e.0 (keys_of es) distinct) here (λ k lt. before (suc k) (omega (arith, lt))) at is))
+      (at_id-index id es i v w (IsDistinct-tail bytes_eq e.0 (keys_of es) distinct) here (λ k lt. before (suc k) (omega (arith, lt))) at is))
 
   pub at_id-write : (id : List ℕ) (es : Dues) (i : ℕ) (v w : List (ℕ × ℕ)) → IsDistinct bytes_eq (keys_of es)
       → Some i ≡ position (bytes_eq id) (keys_of es) → slice_get (values_of es) i ≡ Some v → w ≡ f v → set_value_at es i w ≡ at_id id f es
   at_id-write id es i v w distinct found at is =
-      let there = position-Some (bytes_eq id) (keys_of es) i [] (sym found) in at_id-place id es i v w distinct there.1 there.2 at is
+      let there = position-Some (bytes_eq id) (keys_of es) i [] (sym found) in at_id-index id es i v w distinct there.1 there.2 at is
 
 others-absent : (id : List ℕ) (es : Dues) → IsAbsent id es → filter (λ e. not (bytes_eq id e.0)) es ≡ es
 others-absent id [] h = refl
@@ -63,22 +63,22 @@ others-absent id (e ∷ es) h =
     ap (λ (b : Bool). cond (not b) (e ∷ filter (λ x. not (bytes_eq id x.0)) es) (filter (λ x. not (bytes_eq id x.0)) es)) h.0
     ∙ ap (λ (xs : Dues). e ∷ xs) (others-absent id es h.1)
 
-remove-place : (id : List ℕ) (es : Dues) (i : ℕ) → i < length (keys_of es) → IsDistinct bytes_eq (keys_of es)
+remove-index : (id : List ℕ) (es : Dues) (i : ℕ) → i < length (keys_of es) → IsDistinct bytes_eq (keys_of es)
     → bytes_eq id (get_or (keys_of es) i []) ≡ true → ((k : ℕ) → k < i → bytes_eq id (get_or (keys_of es) k []) ≡ false)
     → remove es i ≡ filter (λ e. not (bytes_eq id e.0)) es
-remove-place id [] i lt distinct here before = absurd (omega (arith, lt))
-remove-place id (e ∷ es) zero lt distinct here before =
+remove-index id [] i lt distinct here before = absurd (omega (arith, lt))
+remove-index id (e ∷ es) zero lt distinct here before =
     let same : bytes_eq id e.0 ≡ true = here in rw same (sym (others-absent id es (absent_after id e es distinct same)))
-remove-place id (e ∷ es) (suc i) lt distinct here before =
+remove-index id (e ∷ es) (suc i) lt distinct here before =
     let other : bytes_eq id e.0 ≡ false = before 0 (omega arith) in
     rw other (ap (λ (xs : Dues). e ∷ xs)
-    (remove-place id es i (omega (arith, lt)) (IsDistinct-tail bytes_eq e.0 (keys_of es) distinct) here (λ k below. before (suc k) (omega (arith, below)))))
+    (remove-index id es i (omega (arith, lt)) (IsDistinct-tail bytes_eq e.0 (keys_of es) distinct) here (λ k below. before (suc k) (omega (arith, below)))))
 
 -- the entries without the one at the index of the id
 pub remove-others : (id : List ℕ) (es : Dues) (i : ℕ) → IsDistinct bytes_eq (keys_of es) → Some i ≡ position (bytes_eq id) (keys_of es)
     → remove es i ≡ filter (λ e. not (bytes_eq id e.0)) es
 remove-others id es i distinct found =
-    let there = position-Some (bytes_eq id) (keys_of es) i [] (sym found) in remove-place id es i there.0 distinct there.1 there.2
+    let there = position-Some (bytes_eq id) (keys_of es) i [] (sym found) in remove-index id es i there.0 distinct there.1 there.2
 
 -- removing an id that is not found changes nothing
 pub others-none : (id : List ℕ) (es : Dues) → lookup (bytes_eq id) es ≡ None → filter (λ e. not (bytes_eq id e.0)) es ≡ es

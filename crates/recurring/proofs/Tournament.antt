@@ -84,8 +84,8 @@ odd : (i : ℕ) → (i ≡ 2 * (i / 2) → ⊥) → i ≡ 2 * (i / 2) + 1
 odd i ne = omega (arith, ne)
 
 -- a leaf that has the moment of node i
-abbrev PlaceOf : ℕ → List (Option ℕ) → ℕ → Type 0
-PlaceOf n xs i = (k : ℕ) × (n ≤ k) × (k < 2 * n) × (get_or xs k None ≡ get_or xs i None)
+abbrev IndexOf : ℕ → List (Option ℕ) → ℕ → Type 0
+IndexOf n xs i = (k : ℕ) × (n ≤ k) × (k < 2 * n) × (get_or xs k None ≡ get_or xs i None)
 
 module _ (n : ℕ) (xs : List (Option ℕ)) (all : IsTournament n xs) where
   -- a moment that is not after a node's is not after those below it
@@ -116,22 +116,22 @@ module _ (n : ℕ) (xs : List (Option ℕ)) (all : IsTournament n xs) where
           subst (λ (k : ℕ). IsNotAfter (get_or xs 1 None) (get_or xs k None)) (sym e) (not_after_itself (get_or xs 1 None))
 
   -- a node has the moment of some leaf
-  has_place : (fuel i : ℕ) → 2 * n ≤ i + fuel → 1 ≤ i → i < 2 * n → PlaceOf n xs i
-  has_place zero i enough low high = absurd (omega (arith, enough, high))
-  has_place (suc fuel) i enough low high = by (has_place fuel) (cases_lt i n)
+  has_index : (fuel i : ℕ) → 2 * n ≤ i + fuel → 1 ≤ i → i < 2 * n → IndexOf n xs i
+  has_index zero i enough low high = absurd (omega (arith, enough, high))
+  has_index (suc fuel) i enough low high = by (has_index fuel) (cases_lt i n)
     where
-      from : ((j : ℕ) → 2 * n ≤ j + fuel → 1 ≤ j → j < 2 * n → PlaceOf n xs j) → (j : ℕ) → i < j → j < 2 * n
-          → get_or xs i None ≡ get_or xs j None → PlaceOf n xs i
+      from : ((j : ℕ) → 2 * n ≤ j + fuel → 1 ≤ j → j < 2 * n → IndexOf n xs j) → (j : ℕ) → i < j → j < 2 * n
+          → get_or xs i None ≡ get_or xs j None → IndexOf n xs i
       from below j above within same =
           let there = below j (omega (arith, enough, above)) (omega (arith, above)) within in (there.0, there.1, there.2, there.3 ∙ sym same)
 
-      which : ((j : ℕ) → 2 * n ≤ j + fuel → 1 ≤ j → j < 2 * n → PlaceOf n xs j) → i < n
+      which : ((j : ℕ) → 2 * n ≤ j + fuel → 1 ≤ j → j < 2 * n → IndexOf n xs j) → i < n
           → (earlier (get_or xs (2 * i) None) (get_or xs (2 * i + 1) None) ≡ get_or xs (2 * i) None)
-          ⊎ (earlier (get_or xs (2 * i) None) (get_or xs (2 * i + 1) None) ≡ get_or xs (2 * i + 1) None) → PlaceOf n xs i
+          ⊎ (earlier (get_or xs (2 * i) None) (get_or xs (2 * i + 1) None) ≡ get_or xs (2 * i + 1) None) → IndexOf n xs i
       which below lt (inl e) = from below (2 * i) (omega (arith, low)) (omega (arith, lt)) (all.won i low lt ∙ e)
       which below lt (inr e) = from below (2 * i + 1) (omega (arith, low)) (omega (arith, lt)) (all.won i low lt ∙ e)
 
-      by : ((j : ℕ) → 2 * n ≤ j + fuel → 1 ≤ j → j < 2 * n → PlaceOf n xs j) → (i < n) ⊎ (n ≤ i) → PlaceOf n xs i
+      by : ((j : ℕ) → 2 * n ≤ j + fuel → 1 ≤ j → j < 2 * n → IndexOf n xs j) → (i < n) ⊎ (n ≤ i) → IndexOf n xs i
       by below (inr le) = (i, le, high, refl)
       by below (inl lt) = which below lt (earlier_is (get_or xs (2 * i) None) (get_or xs (2 * i + 1) None))
 
@@ -149,7 +149,7 @@ module _ (n : ℕ) (xs : List (Option ℕ)) (all : IsTournament n xs) where
       one : (r : Option ℕ) → get_or xs 1 None ≡ r → MatchOption r ⊤ (λ m. Contains (drop n xs) (Some m))
       one None is = tt
       one (Some m) is =
-          let there = has_place (2 * n) 1 (omega arith) (omega arith) (omega (arith, some)) in
+          let there = has_index (2 * n) 1 (omega arith) (omega arith) (omega (arith, some)) in
           let k = there.0 in
           let within : k - n < length (drop n xs) = rw (length-drop n xs) (omega (arith, there.1, there.2, all.long)) in
           let at : n + (k - n) ≡ k = omega (arith, there.1) in (

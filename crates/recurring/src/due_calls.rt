@@ -46,9 +46,9 @@ impl DueCalls {
         let calls = &mut self.calls;
         calls.truncate(monitors.len());
         let mut first = None;
-        for place in 0..monitors.len() {
-            let monitor = &monitors[place];
-            put(calls, place, DueCall::of(monitor));
+        for index in 0..monitors.len() {
+            let monitor = &monitors[index];
+            put(calls, index, DueCall::of(monitor));
             first = DueCall::of(monitor).first_moment(first);
         }
         first
@@ -102,14 +102,14 @@ impl DueCalls {
 }
 
 /// Writes a call at an index, or appends it if the index is the length.
-fn put(calls: &mut ArrayVec<DueCall, { RECURRING_LIMIT }>, place: usize, call: DueCall)
-    requires place { place ≤ length calls.old.items }
-    requires room { place < RECURRING_LIMIT }
+fn put(calls: &mut ArrayVec<DueCall, { RECURRING_LIMIT }>, index: usize, call: DueCall)
+    requires index { index ≤ length calls.old.items }
+    requires room { index < RECURRING_LIMIT }
     ensures { calls.new.items
-        ≡ take place calls.old.items ++ call ∷ drop (place + 1) calls.old.items }
+        ≡ take index calls.old.items ++ call ∷ drop (index + 1) calls.old.items }
 {
-    if place < calls.len() {
-        calls.as_mut_slice()[place] = call;
+    if index < calls.len() {
+        calls.as_mut_slice()[index] = call;
     } else {
         calls.push(call);
     }

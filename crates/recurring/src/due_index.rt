@@ -91,11 +91,11 @@ impl<A: Grows> DueIndex<A> {
     pub fn forget(&mut self, id: &RscId)
         ensures dues { self.new.dues ≡ filter (λ e. not (bytes_eq id.now e.0)) self.old.dues }
     {
-        let Some(place) = self.resources.get_index_of(id) else {
+        let Some(index) = self.resources.get_index_of(id) else {
             return;
         };
-        self.resources.shift_remove_index(place);
-        self.firsts.remove(place);
+        self.resources.shift_remove_index(index);
+        self.firsts.remove(index);
     }
 
     /// Appends a monitor of the resource: its call, due at that moment.
@@ -105,13 +105,13 @@ impl<A: Grows> DueIndex<A> {
         ensures dues { self.new.dues ≡ at_id id.now (λ ps. ps ++ (due, call) ∷ []) self.old.dues }
         ensures room { self.new.room ≡ self.old.room }
     {
-        let Some(place) = self.resources.get_index_of(id) else {
+        let Some(index) = self.resources.get_index_of(id) else {
             unreachable!()
         };
-        let calls = &mut self.resources[place];
+        let calls = &mut self.resources[index];
         calls.push(call, due);
         let first = calls.first_moment();
-        self.firsts.set(place, first);
+        self.firsts.set(index, first);
     }
 
     /// Removes the resource's monitor of that call. If there is none, nothing changes.
@@ -119,13 +119,13 @@ impl<A: Grows> DueIndex<A> {
         ensures dues { self.new.dues ≡ at_id id.now (pairs_without call) self.old.dues }
         ensures room { self.new.room ≡ self.old.room }
     {
-        let Some(place) = self.resources.get_index_of(id) else {
+        let Some(index) = self.resources.get_index_of(id) else {
             return;
         };
-        let calls = &mut self.resources[place];
+        let calls = &mut self.resources[index];
         calls.remove(call);
         let first = calls.first_moment();
-        self.firsts.set(place, first);
+        self.firsts.set(index, first);
     }
 
     /// Makes the resource's monitor of that call due at that moment. If there is none, nothing changes.
@@ -133,13 +133,13 @@ impl<A: Grows> DueIndex<A> {
         ensures dues { self.new.dues ≡ at_id id.now (pairs_settled call due) self.old.dues }
         ensures room { self.new.room ≡ self.old.room }
     {
-        let Some(place) = self.resources.get_index_of(id) else {
+        let Some(index) = self.resources.get_index_of(id) else {
             return;
         };
-        let calls = &mut self.resources[place];
+        let calls = &mut self.resources[index];
         calls.settle(call, due);
         let first = calls.first_moment();
-        self.firsts.set(place, first);
+        self.firsts.set(index, first);
     }
 
     /// Replaces the resource's monitors by these, with their due moments.
@@ -147,24 +147,24 @@ impl<A: Grows> DueIndex<A> {
         ensures dues { self.new.dues ≡ at_id id.now (λ ps. pairs monitors.now) self.old.dues }
         ensures room { self.new.room ≡ self.old.room }
     {
-        let Some(place) = self.resources.get_index_of(id) else {
+        let Some(index) = self.resources.get_index_of(id) else {
             return;
         };
-        let calls = &mut self.resources[place];
+        let calls = &mut self.resources[index];
         let first = calls.renew(monitors);
-        self.firsts.set(place, first);
+        self.firsts.set(index, first);
     }
 
     /// Replaces the monitors of the resource at an index by these, with their due moments. Resources are indexed from 0, in the
     /// order in which they were kept.
-    pub fn renew_at(&mut self, place: usize, monitors: &Recurrings)
-        requires { place < length self.old.dues }
-        ensures dues { self.new.dues ≡ set_value_at self.old.dues place (pairs monitors.now) }
+    pub fn renew_at(&mut self, index: usize, monitors: &Recurrings)
+        requires { index < length self.old.dues }
+        ensures dues { self.new.dues ≡ set_value_at self.old.dues index (pairs monitors.now) }
         ensures room { self.new.room ≡ self.old.room }
     {
-        let calls = &mut self.resources[place];
+        let calls = &mut self.resources[index];
         let first = calls.renew(monitors);
-        self.firsts.set(place, first);
+        self.firsts.set(index, first);
     }
 
     /// The call of the resource's first due monitor: of the least due moment, and among equals the lowest call. `None` exactly

@@ -11,9 +11,9 @@ use std::marker::Model;
 /// earlier of its two children's moments, so a change affects only the nodes from its leaf up to the root.
 #[derive(Drop)]
 pub(crate) struct FirstMoments<A: Allocator + Copy = Global> {
-    // Twice as many as indices: the moment of index k is node `places + k`, and the first of all is node 1.
+    // Twice as many as indices: the moment of index k is node `indexes + k`, and the first of all is node 1.
     nodes: Vec<Option<u64>, A>,
-    places: usize,
+    indexes: usize,
 }
 
 impl<A: Allocator + Copy> Model for FirstMoments<A> {
@@ -22,9 +22,9 @@ impl<A: Allocator + Copy> Model for FirstMoments<A> {
 
     ghost Value = { List (Option ℕ) };
 
-    ghost view = { λ t. drop t.places t.nodes.items };
+    ghost view = { λ t. drop t.indexes t.nodes.items };
 
-    ghost invariant = { λ t. IsTournament t.places t.nodes.items };
+    ghost invariant = { λ t. IsTournament t.indexes t.nodes.items };
 }
 
 impl<A: Grows> FirstMoments<A> {
@@ -34,61 +34,61 @@ impl<A: Grows> FirstMoments<A> {
     {
         FirstMoments {
             nodes: Vec::new(alloc),
-            places: 0,
+            indexes: 0,
         }
     }
 
     /// Grows to at least that many indices. The moments stay, and the new ones are `None`. The only error is a refused allocation.
-    pub(crate) fn grow(&mut self, places: usize) -> Result<(), AllocError>
-        requires limit { places ≤ INDEX_LIMIT }
-        ensures room { OnOk result (places ≤ length self.new) }
+    pub(crate) fn grow(&mut self, indexes: usize) -> Result<(), AllocError>
+        requires limit { indexes ≤ INDEX_LIMIT }
+        ensures room { OnOk result (indexes ≤ length self.new) }
         ensures kept { length self.old ≤ length self.new }
         ensures moments { (k : ℕ) → slice_index_or self.new k None
             ≡ slice_index_or self.old k None }
         ensures memory { OnErr result (IsTrue A.refuses) }
     {
-        if places <= self.places {
+        if indexes <= self.indexes {
             return Ok(());
         }
         // At least twice as many as before, so that one more index has a constant amortized cost.
-        let places = places.max(self.nodes.len()).min(INDEX_LIMIT);
+        let indexes = indexes.max(self.nodes.len()).min(INDEX_LIMIT);
         let nodes = nodes_of(
             *self.nodes.allocator(),
-            &self.nodes.as_slice()[self.places..],
-            places,
+            &self.nodes.as_slice()[self.indexes..],
+            indexes,
         )?;
         self.nodes = nodes;
-        self.places = places;
+        self.indexes = indexes;
         Ok(())
     }
 
     /// Sets the moment at an index.
-    pub(crate) fn set(&mut self, place: usize, moment: Option<u64>)
-        requires { place < length self.old }
-        ensures { self.new ≡ slice_set self.old place moment }
+    pub(crate) fn set(&mut self, index: usize, moment: Option<u64>)
+        requires { index < length self.old }
+        ensures { self.new ≡ slice_set self.old index moment }
     {
-        let node = self.places + place;
+        let node = self.indexes + index;
         self.nodes[node] = moment;
-        climb(self.nodes.as_mut_slice(), self.places, node);
+        climb(self.nodes.as_mut_slice(), self.indexes, node);
     }
 
     /// Removes the moment at an index. Later ones move down by one index.
-    pub(crate) fn remove(&mut self, place: usize)
-        requires { place < length self.old }
-        ensures { self.new ≡ remove self.old place }
+    pub(crate) fn remove(&mut self, index: usize)
+        requires { index < length self.old }
+        ensures { self.new ≡ remove self.old index }
     {
-        self.nodes.remove(self.places + place);
+        self.nodes.remove(self.indexes + index);
         // Without node 0 the leaves begin one node earlier, as they have to.
         self.nodes.remove(0);
-        self.places -= 1;
-        lay(self.nodes.as_mut_slice(), self.places);
+        self.indexes -= 1;
+        lay(self.nodes.as_mut_slice(), self.indexes);
     }
 
     /// The first of all moments; `None` exactly when all are `None`.
     pub(crate) fn first(&self) -> Option<u64>
         ensures { IsFirstOf self.now result }
     {
-        if self.places == 0 {
+        if self.indexes == 0 {
             return None;
         }
         self.nodes[1]
@@ -100,30 +100,30 @@ impl<A: Grows> FirstMoments<A> {
 fn nodes_of<A: Grows>(
     alloc: A,
     moments: &[Option<u64>],
-    places: usize,
+    indexes: usize,
 ) -> Result<Vec<Option<u64>, A>, AllocError>
-    requires moments { length moments.now ≤ places }
-    requires limit { places ≤ INDEX_LIMIT }
-    ensures won { IfOk result (λ v. IsTournament places v.items) }
-    ensures moments { IfOk result (λ v. (k : ℕ) → slice_index_or (drop places v.items) k None
+    requires moments { length moments.now ≤ indexes }
+    requires limit { indexes ≤ INDEX_LIMIT }
+    ensures won { IfOk result (λ v. IsTournament indexes v.items) }
+    ensures moments { IfOk result (λ v. (k : ℕ) → slice_index_or (drop indexes v.items) k None
         ≡ slice_index_or moments.now k None) }
     ensures memory { OnErr result (IsTrue A.refuses) }
 {
     let mut nodes = Vec::new(alloc);
-    fill(&mut nodes, places, None)?;
+    fill(&mut nodes, indexes, None)?;
     append(&mut nodes, moments)?;
-    fill(&mut nodes, 2 * places, None)?;
-    lay(nodes.as_mut_slice(), places);
+    fill(&mut nodes, 2 * indexes, None)?;
+    lay(nodes.as_mut_slice(), indexes);
     Ok(nodes)
 }
 
 /// Computes each inner node, from the last one to the root.
-fn lay(nodes: &mut [Option<u64>], places: usize)
-    requires { length nodes.old ≡ 2 * places }
-    ensures won { IsTournament places nodes.new }
-    ensures moments { drop places nodes.new ≡ drop places nodes.old }
+fn lay(nodes: &mut [Option<u64>], indexes: usize)
+    requires { length nodes.old ≡ 2 * indexes }
+    ensures won { IsTournament indexes nodes.new }
+    ensures moments { drop indexes nodes.new ≡ drop indexes nodes.old }
 {
-    let mut node = places;
+    let mut node = indexes;
     while node > 1 {
         node -= 1;
         play(nodes, node);
@@ -131,13 +131,13 @@ fn lay(nodes: &mut [Option<u64>], places: usize)
 }
 
 /// Computes each node above a changed one, if all others are correct.
-fn climb(nodes: &mut [Option<u64>], places: usize, changed: usize)
-    requires long { length nodes.old ≡ 2 * places }
+fn climb(nodes: &mut [Option<u64>], indexes: usize, changed: usize)
+    requires long { length nodes.old ≡ 2 * indexes }
     requires low { 1 ≤ changed }
-    requires high { changed < 2 * places }
-    requires won { (i : ℕ) → 1 ≤ i → i < places → i ≢ changed / 2 → IsWon nodes.old i }
-    ensures won { IsTournament places nodes.new }
-    ensures moments { drop places nodes.new ≡ drop places nodes.old }
+    requires high { changed < 2 * indexes }
+    requires won { (i : ℕ) → 1 ≤ i → i < indexes → i ≢ changed / 2 → IsWon nodes.old i }
+    ensures won { IsTournament indexes nodes.new }
+    ensures moments { drop indexes nodes.new ≡ drop indexes nodes.old }
 {
     let mut node = changed;
     while node > 1 {

@@ -1,6 +1,6 @@
 //! The condition of a resource, by its last results.
 ghost use Rattle.std.specs.Prelude.{◌≡◌, ◌<◌, length};
-ghost use Rattle.ocf_types.specs.Places.{at_place};
+ghost use Rattle.ocf_types.specs.Indexes.{at_index};
 ghost use Rattle.resource_status.specs.Conditions.{after, condition_from, condition_of, condition_tone, condition_untold, condition_word, failed_by};
 ghost use Rattle.resource_status.specs.Conditions.{found_by, is_bad, judged, known_of, left_by, since_in, written_by, written_by_code, worsened};
 
@@ -159,13 +159,13 @@ fn after(known: Option<Known>, ended: &Ended) -> Option<Known>
 }
 
 /// What the results of a resource show, or `None` if none of them shows a condition.
-pub fn known_of(state: &State, place: usize) -> Option<Known>
-    requires { place < length state.now.state.resources }
-    ensures { result ≡ known_of (at_place state.now.state place).history.ended }
+pub fn known_of(state: &State, index: usize) -> Option<Known>
+    requires { index < length state.now.state.resources }
+    ensures { result ≡ known_of (at_index state.now.state index).history.ended }
 {
     let mut known = None;
-    for at in 0..state.ended_len(place) {
-        known = after(known, &state.ended_at(place, at));
+    for at in 0..state.ended_len(index) {
+        known = after(known, &state.ended_at(index, at));
     }
     known
 }
@@ -213,13 +213,13 @@ fn condition_from(known: Option<Known>, failed: Option<Ended>, results: usize) -
 }
 
 /// The condition of a resource.
-pub fn condition_of(state: &State, place: usize) -> Condition
-    requires { place < length state.now.state.resources }
-    ensures { result ≡ condition_of (at_place state.now.state place).history }
+pub fn condition_of(state: &State, index: usize) -> Condition
+    requires { index < length state.now.state.resources }
+    ensures { result ≡ condition_of (at_index state.now.state index).history }
 {
     condition_from(
-        known_of(state, place),
-        state.failed_at(place),
-        state.ended_len(place),
+        known_of(state, index),
+        state.failed_at(index),
+        state.ended_len(index),
     )
 }

@@ -1,6 +1,6 @@
 //! The last result of a recurring monitor.
 ghost use Rattle.std.specs.Prelude.{◌≡◌, ◌<◌, length};
-ghost use Rattle.ocf_types.specs.Places.{at_place};
+ghost use Rattle.ocf_types.specs.Indexes.{at_index};
 ghost use Rattle.resource_status.specs.Results.{is_run, last_of};
 
 use exec_state::State;
@@ -14,13 +14,13 @@ fn is_run(call: CallId, ended: &Ended) -> bool
 }
 
 /// The last result of a recurring monitor.
-pub fn last_run(state: &State, place: usize, call: CallId) -> Option<Ended>
-    requires { place < length state.now.state.resources }
-    ensures { result ≡ last_of (is_run call) (at_place state.now.state place).history.ended }
+pub fn last_run(state: &State, index: usize, call: CallId) -> Option<Ended>
+    requires { index < length state.now.state.resources }
+    ensures { result ≡ last_of (is_run call) (at_index state.now.state index).history.ended }
 {
     let mut last = None;
-    for at in 0..state.ended_len(place) {
-        let ended = state.ended_at(place, at);
+    for at in 0..state.ended_len(index) {
+        let ended = state.ended_at(index, at);
         if is_run(call, &ended) {
             last = Some(ended);
         }

@@ -7,7 +7,7 @@ use Rattle.std.proofs.lemmas.List.Concat.{flat_map-append, flat_map-cons}
 use Rattle.ocf_types.specs.Actions.{action_of, expect_of}
 use Rattle.ocf_types.specs.Expected.{has_failed}
 use Rattle.ocf_types.specs.Kinds.{Change, Event}
-use Rattle.ocf_types.specs.Places.{entry_at, no_entry}
+use Rattle.ocf_types.specs.Indexes.{entry_at, no_entry}
 use Rattle.ocf_types.specs.Resource.{Resource}
 use Rattle.ocf_types.specs.State.{State, after, after_all}
 use Rattle.ocf_types.specs.declared.operation.Running.{Running}
@@ -20,9 +20,9 @@ since_more s runs [] e = refl
 since_more s runs (d ∷ ds) e = since_more (after s d) (ran_after s runs d) ds e
 
 -- the runs with one more resource
-pub place_more : (f : List ℕ × Resource → List Ran) (s : State) (i : ℕ) (prefix : List Ran) → i < length s.resources
+pub index_more : (f : List ℕ × Resource → List Ran) (s : State) (i : ℕ) (prefix : List Ran) → i < length s.resources
     → (prefix ++ flat_map f (take i s.resources)) ++ f (entry_at s i) ≡ prefix ++ flat_map f (take (i + 1) s.resources)
-place_more f s i prefix lt =
+index_more f s i prefix lt =
     let es = take i s.resources in
     let one : flat_map f (entry_at s i ∷ []) ≡ f (entry_at s i) = flat_map-cons f (entry_at s i) [] ∙ append-nil (f (entry_at s i)) in
     let all = ap (flat_map f) (take_more s.resources i no_entry lt) ∙ flat_map-append f es (entry_at s i ∷ []) in

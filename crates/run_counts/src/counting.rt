@@ -1,7 +1,7 @@
 //! The counts of all resources.
 ghost use Rattle.std.specs.Prelude.{◌≡◌, ◌<◌, ◌++◌, ◌∷◌, [], List, ℕ, length, IsTrue, OnErr, OnOk};
 ghost use Rattle.std.specs.List.{flat_map};
-ghost use Rattle.ocf_types.specs.Places.{entry_at};
+ghost use Rattle.ocf_types.specs.Indexes.{entry_at};
 ghost use Rattle.run_counts.specs.Counts.{Tallies, count_at};
 ghost use Rattle.run_counts.specs.Runs.{Ran, end_of, ended_by, left_by, ran_after, ran_as, without};
 
@@ -76,23 +76,23 @@ fn end_of(change: &Change<Params>, id: &RscId) -> Option<Outcome>
 }
 
 // Counts the run of the resource at an index, if the change ends one.
-fn count_place(
+fn count_index(
     counts: &mut RunCounts,
     state: &State,
     change: &Change<Params>,
-    place: usize,
+    index: usize,
 ) -> Result<(), AllocError>
-    requires { place < length state.now.state.resources }
+    requires { index < length state.now.state.resources }
     ensures counted { (runs : List Ran) → Tallies counts.old.entries runs → OnOk result
         (Tallies counts.new.entries
-        (runs ++ ended_by change.now (entry_at state.now.state place))) }
+        (runs ++ ended_by change.now (entry_at state.now.state index))) }
     ensures memory { OnErr result (IsTrue ⟦<Global as Grows>⟧.refuses) }
 {
-    let id = state.id_at(place);
+    let id = state.id_at(index);
     let Some(outcome) = end_of(change, id) else {
         return Ok(());
     };
-    let Some(running) = state.running_at(place) else {
+    let Some(running) = state.running_at(index) else {
         return Ok(());
     };
     let task = running.task;
@@ -114,8 +114,8 @@ fn count_ended(
         (runs ++ flat_map (ended_by change.now) state.now.state.resources)) }
     ensures memory { OnErr result (IsTrue ⟦<Global as Grows>⟧.refuses) }
 {
-    for place in 0..state.len() {
-        count_place(counts, state, change, place)?;
+    for index in 0..state.len() {
+        count_index(counts, state, change, index)?;
     }
     Ok(())
 }

@@ -3,7 +3,7 @@ use Rattle.std.specs.Prelude.{◌≡◌, ◌<◌, ℕ, ⊤, List, ◌++◌, leng
 use Rattle.std.specs.Io.KnownBytes.{Appends}
 use Rattle.std.specs.List.{flat_map}
 use Rattle.ocf_types.specs.Answer.{reply_to}
-use Rattle.ocf_types.specs.Places.{id_at}
+use Rattle.ocf_types.specs.Indexes.{id_at}
 use Rattle.ocf_types.specs.State.{State}
 use Rattle.ocf_types.specs.declared.command.Question.{Question}
 use Rattle.ocf_types.specs.declared.command.Question.TheVariants as question
@@ -39,4 +39,4 @@ ShowsAs reads old new (Err _) = ⊥
 
 -- a resource with this id is registered
 abbrev pub IsRegistered : State → List ℕ → Type 0
-IsRegistered s id = (place : ℕ) × (place < length s.resources) × (id_at s place ≡ id)
+IsRegistered s id = (index : ℕ) × (index < length s.resources) × (id_at s index ≡ id)

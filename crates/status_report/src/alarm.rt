@@ -1,6 +1,6 @@
 //! Whether a resource needs attention.
 ghost use Rattle.std.specs.Prelude.{◌≡◌, ◌<◌, ◌&&◌, length};
-ghost use Rattle.ocf_types.specs.Places.{at_place, id_at};
+ghost use Rattle.ocf_types.specs.Indexes.{at_index, id_at};
 ghost use Rattle.resource_status.specs.Conditions.{condition_of, is_bad};
 ghost use Rattle.status_report.specs.Tables.{is_alarm, is_any_bad, is_asked_for};
 
@@ -10,21 +10,21 @@ use ocf_types::StateView;
 use resource_status::condition_of;
 
 // Whether a resource is asked for and needs attention.
-fn is_bad_at(options: &StatusOptions, state: &State, place: usize) -> bool
-    requires { place < length state.now.state.resources }
+fn is_bad_at(options: &StatusOptions, state: &State, index: usize) -> bool
+    requires { index < length state.now.state.resources }
     ensures { result
-        ≡ (is_asked_for options.now (id_at state.now.state place)
-        && is_bad (condition_of (at_place state.now.state place).history)) }
+        ≡ (is_asked_for options.now (id_at state.now.state index)
+        && is_bad (condition_of (at_index state.now.state index).history)) }
 {
-    options.asks_for(state.id_at(place)) && condition_of(state, place).is_bad()
+    options.asks_for(state.id_at(index)) && condition_of(state, index).is_bad()
 }
 
 // Whether any resource that is asked for needs attention.
 fn is_any_bad(options: &StatusOptions, state: &State) -> bool
     ensures { result ≡ is_any_bad options.now state.now.state }
 {
-    for place in 0..state.len() {
-        if is_bad_at(options, state, place) {
+    for index in 0..state.len() {
+        if is_bad_at(options, state, index) {
             return true;
         }
     }

@@ -1,7 +1,7 @@
 //! What a journal holds of a single resource.
 ghost use Rattle.std.specs.Prelude.{◌≡◌, ◌<◌, IfNone, IfSome, Ok, false, length, true, IsTrue, IfErr};
 ghost use Rattle.std.specs.Io.KnownBytes.{Appends};
-ghost use Rattle.ocf_types.specs.Places.{id_at};
+ghost use Rattle.ocf_types.specs.Indexes.{id_at};
 ghost use Rattle.exec_messages.specs.declared.send.IoFault.TheVariants.{Memory};
 ghost use Rattle.status_report.specs.Shown.{IsRegistered, resource_lines};
 
@@ -14,14 +14,14 @@ use std::alloc::Global;
 use std::io::Write;
 
 // The index of the resource with this id.
-fn place_of(state: &State, id: &str) -> Option<usize>
-    ensures within { IfSome result (λ place. place < length state.now.state.resources) }
-    ensures place { IfSome result (λ place. id_at state.now.state place ≡ id.now) }
+fn index_of(state: &State, id: &str) -> Option<usize>
+    ensures within { IfSome result (λ index. index < length state.now.state.resources) }
+    ensures index { IfSome result (λ index. id_at state.now.state index ≡ id.now) }
     ensures none { IfNone result (¬ IsRegistered state.now.state id.now) }
 {
-    for place in 0..state.len() {
-        if state.id_at(place).as_bytes() == id.as_bytes() {
-            return Some(place);
+    for index in 0..state.len() {
+        if state.id_at(index).as_bytes() == id.as_bytes() {
+            return Some(index);
         }
     }
     None
@@ -42,9 +42,9 @@ pub(crate) fn write_one<W: Write>(
     ensures unwritten { result ≡ Ok false → W.contents writer.new ≡ W.contents writer.old }
     ensures memory { IfErr result (λ f. f ≡ Memory → IsTrue ⟦<Global as Grows>⟧.refuses) }
 {
-    let Some(place) = place_of(state, id) else {
+    let Some(index) = index_of(state, id) else {
         return Ok(false);
     };
-    write_resource(alloc, writer, state, state.id_at(place))?;
+    write_resource(alloc, writer, state, state.id_at(index))?;
     Ok(true)
 }

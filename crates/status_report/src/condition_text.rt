@@ -1,6 +1,6 @@
 //! The condition of a resource and its last failure, in words.
 ghost use Rattle.std.specs.Prelude.{◌≡◌, ◌<◌, ◌++◌, length, IfOk, OnOk, IsTrue, OnErr};
-ghost use Rattle.ocf_types.specs.Places.{at_place};
+ghost use Rattle.ocf_types.specs.Indexes.{at_index};
 ghost use Rattle.status_report.specs.ConditionTexts.{code_text, condition_text, failed_text, known_text};
 
 use crate::add::{add, add_number};
@@ -32,17 +32,17 @@ pub fn condition_text(
     now: Moment,
     colours: bool,
     state: &State,
-    place: usize,
+    index: usize,
 ) -> Result<Vec<u8>, AllocError>
-    requires { place < length state.now.state.resources }
+    requires { index < length state.now.state.resources }
     ensures text { IfOk result
-        (λ text. text.items ≡ condition_text now colours (at_place state.now.state place).history) }
+        (λ text. text.items ≡ condition_text now colours (at_index state.now.state index).history) }
     ensures memory { OnErr result (IsTrue ⟦<Global as Grows>⟧.refuses) }
 {
-    let condition = condition_of(state, place);
+    let condition = condition_of(state, index);
     let mut text = Vec::new(alloc);
     add_painted(&mut text, colours, condition.tone(), condition.word())?;
-    add_known(&mut text, now, known_of(state, place))?;
+    add_known(&mut text, now, known_of(state, index))?;
     Ok(text)
 }
 

@@ -1,7 +1,7 @@
 //! The resources that have a failed action.
 ghost use Rattle.std.specs.Prelude.{◌≡◌, ◌<◌, ◌++◌, length, IfErr, IfOk, IsTrue, OnErr, OnOk};
 ghost use Rattle.exec_journal.specs.Opening.{Opens};
-ghost use Rattle.ocf_types.specs.Places.{entry_at};
+ghost use Rattle.ocf_types.specs.Indexes.{entry_at};
 ghost use Rattle.exec_faults.specs.Faults.{HasCause};
 ghost use Rattle.status_report.specs.Failed.{AreFailed, failed_id, failed_ids};
 
@@ -19,15 +19,15 @@ fn add_failed_id(
     ids: &mut Vec<RscId>,
     options: &StatusOptions,
     state: &State,
-    place: usize,
+    index: usize,
 ) -> Result<(), AllocError>
-    requires { place < length state.now.state.resources }
+    requires { index < length state.now.state.resources }
     ensures ids { OnOk result (ids.new.items
-        ≡ ids.old.items ++ failed_id options.now (entry_at state.now.state place)) }
+        ≡ ids.old.items ++ failed_id options.now (entry_at state.now.state index)) }
     ensures memory { OnErr result (IsTrue ⟦<Global as Grows>⟧.refuses) }
 {
-    let id = state.id_at(place);
-    if options.asks_for(id) && state.failed_at(place).is_some() {
+    let id = state.id_at(index);
+    if options.asks_for(id) && state.failed_at(index).is_some() {
         push(ids, id.copied())
     } else {
         Ok(())
@@ -41,8 +41,8 @@ fn failed_ids(alloc: Global, options: &StatusOptions, state: &State) -> Result<V
     ensures memory { OnErr result (IsTrue ⟦<Global as Grows>⟧.refuses) }
 {
     let mut ids = Vec::new(alloc);
-    for place in 0..state.len() {
-        add_failed_id(&mut ids, options, state, place)?;
+    for index in 0..state.len() {
+        add_failed_id(&mut ids, options, state, index)?;
     }
     Ok(ids)
 }

@@ -1,7 +1,7 @@
 //! The lines below a resource's row: its last results, its monitors, its last failure and its history.
 ghost use Rattle.std.specs.Prelude.{◌≡◌, ◌<◌, ◌-◌, ◌++◌, length, replicate, option_map, OnOk, IsTrue, OnErr};
 ghost use Rattle.std.specs.List.{flat_map};
-ghost use Rattle.ocf_types.specs.Places.{at_place, id_at};
+ghost use Rattle.ocf_types.specs.Indexes.{at_index, id_at};
 ghost use Rattle.resource_status.specs.Results.{last_of};
 ghost use Rattle.status_report.specs.Colours.{colour_of, painted};
 ghost use Rattle.status_report.specs.Reasons.{reason_of};
@@ -90,13 +90,13 @@ fn is_asked(action: Action, ended: &Ended) -> bool
 }
 
 // The last result of an action that was asked for once.
-fn last_asked(state: &State, place: usize, action: Action) -> Option<Ended>
-    requires { place < length state.now.state.resources }
-    ensures { result ≡ last_of (is_asked action) (at_place state.now.state place).history.ended }
+fn last_asked(state: &State, index: usize, action: Action) -> Option<Ended>
+    requires { index < length state.now.state.resources }
+    ensures { result ≡ last_of (is_asked action) (at_index state.now.state index).history.ended }
 {
     let mut last = None;
-    for at in 0..state.ended_len(place) {
-        let ended = state.ended_at(place, at);
+    for at in 0..state.ended_len(index) {
+        let ended = state.ended_at(index, at);
         if is_asked(action, &ended) {
             last = Some(ended);
         }
@@ -109,16 +109,16 @@ fn add_action(
     text: &mut Vec<u8>,
     options: &StatusOptions,
     state: &State,
-    place: usize,
+    index: usize,
     action: Action,
 ) -> Result<(), AllocError>
-    requires { place < length state.now.state.resources }
+    requires { index < length state.now.state.resources }
     ensures text { OnOk result (text.new.items
         ≡ text.old.items ++ action_line options.now
-        (at_place state.now.state place).history.ended action) }
+        (at_index state.now.state index).history.ended action) }
     ensures memory { OnErr result (IsTrue ⟦<Global as Grows>⟧.refuses) }
 {
-    match last_asked(state, place, action) {
+    match last_asked(state, index, action) {
         Some(ended) => {
             begin(text, action.word().as_bytes())?;
             add_result(text, options, &ended)
@@ -132,21 +132,21 @@ fn add_actions(
     text: &mut Vec<u8>,
     options: &StatusOptions,
     state: &State,
-    place: usize,
+    index: usize,
 ) -> Result<(), AllocError>
-    requires { place < length state.now.state.resources }
+    requires { index < length state.now.state.resources }
     ensures text { OnOk result (text.new.items
         ≡ text.old.items ++ flat_map
-        (action_line options.now (at_place state.now.state place).history.ended) written_actions) }
+        (action_line options.now (at_index state.now.state index).history.ended) written_actions) }
     ensures memory { OnErr result (IsTrue ⟦<Global as Grows>⟧.refuses) }
 {
-    add_action(text, options, state, place, Action::Monitor)?;
-    add_action(text, options, state, place, Action::Start)?;
-    add_action(text, options, state, place, Action::Promote)?;
-    add_action(text, options, state, place, Action::Demote)?;
-    add_action(text, options, state, place, Action::Stop)?;
-    add_action(text, options, state, place, Action::ReloadAgent)?;
-    add_action(text, options, state, place, Action::ValidateAll)
+    add_action(text, options, state, index, Action::Monitor)?;
+    add_action(text, options, state, index, Action::Start)?;
+    add_action(text, options, state, index, Action::Promote)?;
+    add_action(text, options, state, index, Action::Demote)?;
+    add_action(text, options, state, index, Action::Stop)?;
+    add_action(text, options, state, index, Action::ReloadAgent)?;
+    add_action(text, options, state, index, Action::ValidateAll)
 }
 
 // Adds the last result of a recurring monitor, and when it is due again.
@@ -176,19 +176,19 @@ fn add_monitor(
     text: &mut Vec<u8>,
     options: &StatusOptions,
     state: &State,
-    place: usize,
+    index: usize,
     recur: &Recur,
 ) -> Result<(), AllocError>
-    requires { place < length state.now.state.resources }
+    requires { index < length state.now.state.resources }
     ensures text { OnOk result (text.new.items
         ≡ text.old.items ++ monitor_line options.now
-        (at_place state.now.state place).history.ended recur.now) }
+        (at_index state.now.state index).history.ended recur.now) }
     ensures memory { OnErr result (IsTrue ⟦<Global as Grows>⟧.refuses) }
 {
     let mut name = vec_of(alloc, b"every ")?;
     add_exactly(&mut name, u64::from(recur.interval.get()))?;
     begin(text, name.as_slice())?;
-    add_last(text, options, recur, last_run(state, place, recur.call))
+    add_last(text, options, recur, last_run(state, index, recur.call))
 }
 
 fn add_monitors(
@@ -196,18 +196,18 @@ fn add_monitors(
     text: &mut Vec<u8>,
     options: &StatusOptions,
     state: &State,
-    place: usize,
+    index: usize,
 ) -> Result<(), AllocError>
-    requires { place < length state.now.state.resources }
+    requires { index < length state.now.state.resources }
     ensures text { OnOk result (text.new.items
         ≡ text.old.items ++ flat_map
-        (monitor_line options.now (at_place state.now.state place).history.ended)
-        (at_place state.now.state place).recurring) }
+        (monitor_line options.now (at_index state.now.state index).history.ended)
+        (at_index state.now.state index).recurring) }
     ensures memory { OnErr result (IsTrue ⟦<Global as Grows>⟧.refuses) }
 {
-    for at in 0..state.recurring_len(place) {
-        let recur = state.recurring_at(place, at);
-        add_monitor(alloc, text, options, state, place, &recur)?;
+    for at in 0..state.recurring_len(index) {
+        let recur = state.recurring_at(index, at);
+        add_monitor(alloc, text, options, state, index, &recur)?;
     }
     Ok(())
 }
@@ -276,16 +276,16 @@ fn add_results(
     text: &mut Vec<u8>,
     options: &StatusOptions,
     state: &State,
-    place: usize,
+    index: usize,
 ) -> Result<(), AllocError>
-    requires { place < length state.now.state.resources }
+    requires { index < length state.now.state.resources }
     ensures text { OnOk result (text.new.items
         ≡ text.old.items ++ flat_map (past_line options.now)
-        (at_place state.now.state place).history.ended) }
+        (at_index state.now.state index).history.ended) }
     ensures memory { OnErr result (IsTrue ⟦<Global as Grows>⟧.refuses) }
 {
-    for at in 0..state.ended_len(place) {
-        add_past(text, options, &state.ended_at(place, at))?;
+    for at in 0..state.ended_len(index) {
+        add_past(text, options, &state.ended_at(index, at))?;
     }
     Ok(())
 }
@@ -295,17 +295,17 @@ fn add_history(
     text: &mut Vec<u8>,
     options: &StatusOptions,
     state: &State,
-    place: usize,
+    index: usize,
 ) -> Result<(), AllocError>
-    requires { place < length state.now.state.resources }
+    requires { index < length state.now.state.resources }
     ensures text { OnOk result (text.new.items
-        ≡ text.old.items ++ history_text options.now (at_place state.now.state place).history.ended) }
+        ≡ text.old.items ++ history_text options.now (at_index state.now.state index).history.ended) }
     ensures memory { OnErr result (IsTrue ⟦<Global as Grows>⟧.refuses) }
 {
     match options.only {
         Some(_) => {
             add(text, "\n  history, oldest first:")?;
-            add_results(text, options, state, place)
+            add_results(text, options, state, index)
         }
         None => Ok(()),
     }
@@ -317,17 +317,17 @@ pub fn add_lines(
     text: &mut Vec<u8>,
     options: &StatusOptions,
     state: &State,
-    place: usize,
+    index: usize,
 ) -> Result<(), AllocError>
-    requires { place < length state.now.state.resources }
+    requires { index < length state.now.state.resources }
     ensures text { OnOk result (text.new.items
         ≡ text.old.items ++ lines_text options.now
-        (reason_of options.now (id_at state.now.state place)) (at_place state.now.state place)) }
+        (reason_of options.now (id_at state.now.state index)) (at_index state.now.state index)) }
     ensures memory { OnErr result (IsTrue ⟦<Global as Grows>⟧.refuses) }
 {
-    add_actions(text, options, state, place)?;
-    add_monitors(alloc, text, options, state, place)?;
-    let reason = options.reason_of(state.id_at(place));
-    add_failure(text, options, reason, &state.failed_at(place))?;
-    add_history(text, options, state, place)
+    add_actions(text, options, state, index)?;
+    add_monitors(alloc, text, options, state, index)?;
+    let reason = options.reason_of(state.id_at(index));
+    add_failure(text, options, reason, &state.failed_at(index))?;
+    add_history(text, options, state, index)
 }

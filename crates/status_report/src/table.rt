@@ -1,6 +1,6 @@
 //! A journal's state as a table for a person: a row of each resource, with lines below it.
 ghost use Rattle.std.specs.Prelude.{◌≡◌, ◌<◌, ◌-◌, ◌++◌, [], length, OnOk, IfOk, IfSome, IfNone, IsTrue, OnErr};
-ghost use Rattle.ocf_types.specs.Places.{entry_at, at_place, id_at};
+ghost use Rattle.ocf_types.specs.Indexes.{entry_at, at_index, id_at};
 ghost use Rattle.status_report.specs.Reasons.{reason_of};
 ghost use Rattle.status_report.specs.Tables.{agent_text, AreRows, gap, IsHead, IsRow, IsTable, asked_entries};
 ghost use Rattle.status_report.specs.Written.{now_text, queued_text, running_text, written};
@@ -34,14 +34,14 @@ fn width(text: &[u8]) -> usize {
 }
 
 // The agent of a resource, as `heartbeat:nginx`.
-fn agent_of(alloc: Global, state: &State, place: usize) -> Result<Vec<u8>, AllocError>
-    requires { place < length state.now.state.resources }
-    ensures text { IfOk result (λ text. text.items ≡ agent_text (at_place state.now.state place)) }
+fn agent_of(alloc: Global, state: &State, index: usize) -> Result<Vec<u8>, AllocError>
+    requires { index < length state.now.state.resources }
+    ensures text { IfOk result (λ text. text.items ≡ agent_text (at_index state.now.state index)) }
     ensures memory { OnErr result (IsTrue ⟦<Global as Grows>⟧.refuses) }
 {
-    let mut text = vec_of(alloc, state.provider_at(place).as_bytes())?;
+    let mut text = vec_of(alloc, state.provider_at(index).as_bytes())?;
     append(&mut text, b":")?;
-    append(&mut text, state.agent_at(place).as_bytes())?;
+    append(&mut text, state.agent_at(index).as_bytes())?;
     Ok(text)
 }
 
@@ -50,12 +50,12 @@ fn condition_width(
     alloc: Global,
     options: &StatusOptions,
     state: &State,
-    place: usize,
+    index: usize,
 ) -> Result<usize, AllocError>
-    requires { place < length state.now.state.resources }
+    requires { index < length state.now.state.resources }
     ensures memory { OnErr result (IsTrue ⟦<Global as Grows>⟧.refuses) }
 {
-    let text = condition_text(alloc, options.moment, false, state, place)?;
+    let text = condition_text(alloc, options.moment, false, state, index)?;
     Ok(width(text.as_slice()))
 }
 
@@ -66,11 +66,11 @@ fn columns_of(alloc: Global, options: &StatusOptions, state: &State) -> Result<C
     let mut ids = "RESOURCE".len();
     let mut agents = "AGENT".len();
     let mut conditions = "STATE".len();
-    for place in 0..state.len() {
-        if options.asks_for(state.id_at(place)) {
-            ids = ids.max(width(state.id_at(place).as_bytes()));
-            agents = agents.max(width(agent_of(alloc, state, place)?.as_slice()));
-            conditions = conditions.max(condition_width(alloc, options, state, place)?);
+    for index in 0..state.len() {
+        if options.asks_for(state.id_at(index)) {
+            ids = ids.max(width(state.id_at(index).as_bytes()));
+            agents = agents.max(width(agent_of(alloc, state, index)?.as_slice()));
+            conditions = conditions.max(condition_width(alloc, options, state, index)?);
         }
     }
     Ok(Columns {
@@ -123,17 +123,17 @@ fn add_written(
     text: &mut Vec<u8>,
     options: &StatusOptions,
     state: &State,
-    place: usize,
+    index: usize,
 ) -> Result<(), AllocError>
-    requires { place < length state.now.state.resources }
+    requires { index < length state.now.state.resources }
     ensures text { OnOk result (text.new.items
         ≡ text.old.items ++ written options.now
-        (reason_of options.now (id_at state.now.state place)) (at_place state.now.state place)) }
+        (reason_of options.now (id_at state.now.state index)) (at_index state.now.state index)) }
     ensures memory { OnErr result (IsTrue ⟦<Global as Grows>⟧.refuses) }
 {
-    add_running(text, options, state.running_at(place))?;
-    add_queued(text, state.queue_len(place))?;
-    add_lines(alloc, text, options, state, place)?;
+    add_running(text, options, state.running_at(index))?;
+    add_queued(text, state.queue_len(index))?;
+    add_lines(alloc, text, options, state, index)?;
     add(text, "\n")
 }
 
@@ -142,24 +142,24 @@ fn row_of(
     alloc: Global,
     options: &StatusOptions,
     state: &State,
-    place: usize,
+    index: usize,
     columns: Columns,
 ) -> Result<Vec<u8>, AllocError>
-    requires { place < length state.now.state.resources }
-    ensures row { IfOk result (λ row. IsRow options.now (entry_at state.now.state place) row.items) }
+    requires { index < length state.now.state.resources }
+    ensures row { IfOk result (λ row. IsRow options.now (entry_at state.now.state index) row.items) }
     ensures memory { OnErr result (IsTrue ⟦<Global as Grows>⟧.refuses) }
 {
-    let id = state.id_at(place).as_bytes();
-    let agent = agent_of(alloc, state, place)?;
-    let condition = condition_text(alloc, options.moment, options.colours, state, place)?;
-    let taken = condition_width(alloc, options, state, place)?;
+    let id = state.id_at(index).as_bytes();
+    let agent = agent_of(alloc, state, index)?;
+    let condition = condition_text(alloc, options.moment, options.colours, state, index)?;
+    let taken = condition_width(alloc, options, state, index)?;
     let mut row = vec_of(alloc, id)?;
     add_gap(&mut row, width(id), columns.id)?;
     append(&mut row, agent.as_slice())?;
     add_gap(&mut row, width(agent.as_slice()), columns.agent)?;
     append(&mut row, condition.as_slice())?;
     add_gap(&mut row, taken, columns.condition)?;
-    add_written(alloc, &mut row, options, state, place)?;
+    add_written(alloc, &mut row, options, state, index)?;
     Ok(row)
 }
 
@@ -175,9 +175,9 @@ fn rows_of(
     ensures memory { OnErr result (IsTrue ⟦<Global as Grows>⟧.refuses) }
 {
     let mut rows = Vec::new(alloc);
-    for place in 0..state.len() {
-        if options.asks_for(state.id_at(place)) {
-            let row = row_of(alloc, options, state, place, columns)?;
+    for index in 0..state.len() {
+        if options.asks_for(state.id_at(index)) {
+            let row = row_of(alloc, options, state, index, columns)?;
             append(&mut rows, row.as_slice())?;
         }
     }

@@ -225,7 +225,7 @@ module _ {D : Type 0} (view : D → View) (law : JournalLemmas) (once : (c : Ima
         → final.opening_report ≡ record { interrupted = ran; dropped = queued }
         → ran ≡ interrupted mid.state (moment mid.state now) → queued ≡ dropped mid.state (moment mid.state now)
         → Admits from.site final.site → Opened view old from now final ran queued
-    opened x final ran queued boots is_open state disk place due kids sends remembers ran_is queued_is admits =
+    opened x final ran queued boots is_open state disk index due kids sends remembers ran_is queued_is admits =
         let honest_new : (view final.disk).honest → (view new.disk).honest = λ h. subst (λ (d : D). (view d).honest) disk h in
         let done : final.state ≡ booted mid.state now = state ∙ boots.state in
         let quiet_now : any_busy final.state ≡ false = ap any_busy done ∙ boot_quiet mid.state (moment mid.state now) in
@@ -236,7 +236,7 @@ module _ {D : Type 0} (view : D → View) (law : JournalLemmas) (once : (c : Ima
           over = record { is_open = is_open; children = given; reported = sends ∙ over.reported; rising = rising };
           sound = λ _. record {
             journal =
-                λ h. subst (λ p. IsInSync p final.state (view final.disk)) (sym place)
+                λ h. subst (λ p. IsInSync p final.state (view final.disk)) (sym index)
                 (subst (λ (s : State). IsInSync new.position s (view final.disk)) (sym state)
                 (subst (λ (d : D). IsInSync new.position new.state (view d)) (sym disk) (boots.settled (honest_new h))));
             room = λ busy. absurd (true≢false (sym busy ∙ quiet_now));

@@ -8,7 +8,7 @@ use Rattle.ocf_types.specs.declared.operation.Op.{Op}
 use Rattle.ocf_types.specs.declared.reply.Notice.{Notice}
 use Rattle.std.proofs.lemmas.Option.{get_or_from_slice_get, slice_get-get_or, slice_get_within}
 use Rattle.ocf_types.specs.Notices.{drop_notice}
-use Rattle.ocf_types.specs.Places.{entry_at, no_entry}
+use Rattle.ocf_types.specs.Indexes.{entry_at, no_entry}
 use Rattle.ocf_types.specs.Resource.{Resource}
 use Rattle.ocf_types.specs.State.{State}
 

@@ -3,6 +3,6 @@ use Rattle.std.specs.Prelude.{is_some}
 use Rattle.std.specs.List.{list_any}
 use Rattle.exec_turn.proofs.finish.runs_any.Given as goal
 
-abbrev pub invariant-loop-place : goal.invariant-loop-place
-invariant-loop-place g l =
-    record { none : list_any (λ e. is_some e.1.history.running) (take l.place l.state.state.resources) ≡ false }
+abbrev pub invariant-loop-index : goal.invariant-loop-index
+invariant-loop-index g l =
+    record { none : list_any (λ e. is_some e.1.history.running) (take l.index l.state.state.resources) ≡ false }

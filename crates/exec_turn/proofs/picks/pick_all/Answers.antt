@@ -2,7 +2,7 @@ use Rattle.std.proofs.Common.{rules, ◌≡◌, ◌<◌, ◌≤◌, ◌+◌, ◌
 use Rattle.std.specs.List.{AllByRecursion}
 use Rattle.ocf_types.specs.Kinds.{Event}
 use Rattle.ocf_types.specs.Limits.{num_max}
-use Rattle.ocf_types.specs.Places.{id_at}
+use Rattle.ocf_types.specs.Indexes.{id_at}
 use Rattle.exec_journal.specs.PartPrefix.{encoded_batch}
 use Rattle.exec_state.specs.Store.{dues}
 use Rattle.exec_ledger.specs.Actives.{Active}
@@ -18,11 +18,11 @@ returns-then-rests-clause-picked g c =
     rests_picked c.args.state.now c.args.journal.now.tail.at c.args.at c.clear-2.new.self.items c.lemma_known.ensures.lawful
     (c.if-rests.ensures refl) none
 
-pub loop-place-preserved-in_default : goal.loop-place-preserved-in_default
-loop-place-preserved-in_default g c =
+pub loop-index-preserved-in_default : goal.loop-index-preserved-in_default
+loop-index-preserved-in_default g c =
     let s = c.args.state.now.state in
-    let inv = c.loop-place.invariant in
-    let within : c.loop-place.place < length s.resources = omega (arith, c.loop-place-test.true, c.len-place-end.ensures.value) in
+    let inv = c.loop-index.invariant in
+    let within : c.loop-index.index < length s.resources = omega (arith, c.loop-index-test.true, c.len-index-end.ensures.value) in
     record {
       so_far = nothing_here inv.so_far within c.in_default.ensures;
       batch = inv.batch;
@@ -37,8 +37,8 @@ loop-place-preserved-in_default g c =
 pub returns-in_default-new-clause-picked : goal.returns-in_default-new-clause-picked
 returns-in_default-new-clause-picked g c =
     let s = c.args.state.now.state in
-    let inv = c.loop-place.invariant in
-    let within : c.loop-place.place < length s.resources = omega (arith, c.loop-place-test.true, c.len-place-end.ensures.value) in
+    let inv = c.loop-index.invariant in
+    let within : c.loop-index.index < length s.resources = omega (arith, c.loop-index-test.true, c.len-index-end.ensures.value) in
     let spent : num_max < c.get.result + 1 = above (c.get.result + 1) num_max
     (λ le. let no : false ≡ true = c.in_default-new.ensures.lawful.1 (omega arith, le) in cc) in
     spent_here inv.so_far within c.in-Some.ensures (omega (arith, spent, c.get.ensures.value))
@@ -46,49 +46,49 @@ returns-in_default-new-clause-picked g c =
 pub returns-then-not-fits-clause-picked : goal.returns-then-not-fits-clause-picked
 returns-then-not-fits-clause-picked g c =
     let s = c.args.state.now.state in
-    let inv = c.loop-place.invariant in
-    let within : c.loop-place.place < length s.resources = omega (arith, c.loop-place-test.true, c.len-place-end.ensures.value) in
-    let drawn : c.loop-place.run + 1 ≤ num_max = omega (arith, (c.in-Some-new.ensures.lawful.0 refl).1, c.get.ensures.value) in
-    let size = encoded_more c.args.at c.loop-place.len c.encoded_len-len.result (all_starting c.loop-place.starts.items)
-    (record { id = id_at s c.loop-place.place; running = c.in-Some.running }) c.loop-place.batch.items c.begin_at-begin.result inv.batch
+    let inv = c.loop-index.invariant in
+    let within : c.loop-index.index < length s.resources = omega (arith, c.loop-index-test.true, c.len-index-end.ensures.value) in
+    let drawn : c.loop-index.run + 1 ≤ num_max = omega (arith, (c.in-Some-new.ensures.lawful.0 refl).1, c.get.ensures.value) in
+    let size = encoded_more c.args.at c.loop-index.len c.encoded_len-len.result (all_starting c.loop-index.starts.items)
+    (record { id = id_at s c.loop-index.index; running = c.in-Some.running }) c.loop-index.batch.items c.begin_at-begin.result inv.batch
     c.begin_at-begin.ensures.begin inv.len c.encoded_len-len.ensures in
-    let all = c.args.journal.now.tail.at + 5 + (c.loop-place.len + c.encoded_len-len.result) + 1 + 32768 in
+    let all = c.args.journal.now.tail.at + 5 + (c.loop-index.len + c.encoded_len-len.result) + 1 + 32768 in
     let over : 8388608 < all = above all 8388608 (λ le. let no : false ≡ true = c.if-not-fits.ensures.value.1 le in cc) in
     full_here inv.so_far within c.in-Some.ensures drawn size over
 
 pub returns-in_default-start_of-clause-picked : goal.returns-in_default-start_of-clause-picked
 returns-in_default-start_of-clause-picked g c =
     let s = c.args.state.now.state in
-    let inv = c.loop-place.invariant in
-    let within : c.loop-place.place < length s.resources = omega (arith, c.loop-place-test.true, c.len-place-end.ensures.value) in
-    let drawn : c.loop-place.run + 1 ≤ num_max = omega (arith, (c.in-Some-new.ensures.lawful.0 refl).1, c.get.ensures.value) in
-    let size = encoded_more c.args.at c.loop-place.len c.encoded_len-len.result (all_starting c.loop-place.starts.items)
-    (record { id = id_at s c.loop-place.place; running = c.in-Some.running }) c.loop-place.batch.items c.begin_at-begin.result inv.batch
+    let inv = c.loop-index.invariant in
+    let within : c.loop-index.index < length s.resources = omega (arith, c.loop-index-test.true, c.len-index-end.ensures.value) in
+    let drawn : c.loop-index.run + 1 ≤ num_max = omega (arith, (c.in-Some-new.ensures.lawful.0 refl).1, c.get.ensures.value) in
+    let size = encoded_more c.args.at c.loop-index.len c.encoded_len-len.result (all_starting c.loop-index.starts.items)
+    (record { id = id_at s c.loop-index.index; running = c.in-Some.running }) c.loop-index.batch.items c.begin_at-begin.result inv.batch
     c.begin_at-begin.ensures.begin inv.len c.encoded_len-len.ensures in
     no_memory_here inv.so_far within c.in-Some.ensures drawn size (c.if-not-fits.ensures.value.0 refl)
 
-pub loop-place-preserved : goal.loop-place-preserved
-loop-place-preserved g c =
+pub loop-index-preserved : goal.loop-index-preserved
+loop-index-preserved g c =
     let s = c.args.state.now.state in
-    let inv = c.loop-place.invariant in
-    let within : c.loop-place.place < length s.resources = omega (arith, c.loop-place-test.true, c.len-place-end.ensures.value) in
-    let drawn : c.loop-place.run + 1 ≤ num_max = omega (arith, (c.in-Some-new.ensures.lawful.0 refl).1, c.get.ensures.value) in
-    let size = encoded_more c.args.at c.loop-place.len c.encoded_len-len.result (all_starting c.loop-place.starts.items)
-    (record { id = id_at s c.loop-place.place; running = c.in-Some.running }) c.loop-place.batch.items c.begin_at-begin.result inv.batch
+    let inv = c.loop-index.invariant in
+    let within : c.loop-index.index < length s.resources = omega (arith, c.loop-index-test.true, c.len-index-end.ensures.value) in
+    let drawn : c.loop-index.run + 1 ≤ num_max = omega (arith, (c.in-Some-new.ensures.lawful.0 refl).1, c.get.ensures.value) in
+    let size = encoded_more c.args.at c.loop-index.len c.encoded_len-len.result (all_starting c.loop-index.starts.items)
+    (record { id = id_at s c.loop-index.index; running = c.in-Some.running }) c.loop-index.batch.items c.begin_at-begin.result inv.batch
     c.begin_at-begin.ensures.begin inv.len c.encoded_len-len.ensures in
-    let items = c.loop-place.starts.items in
-    let starts = c.push_reserved-in-loop-place.new.self.items in
-    let a : Active = record { id = id_at s c.loop-place.place; running = c.in-Some.running } in
+    let items = c.loop-index.starts.items in
+    let starts = c.push_reserved-in-loop-index.new.self.items in
+    let a : Active = record { id = id_at s c.loop-index.index; running = c.in-Some.running } in
     let more = begun_here inv.so_far within c.in-Some.ensures drawn size {later = c.in-Some-new.next} (c.if-not-fits.ensures.value.0 refl)
     (omega (arith, c.in-Some-new.ensures.value, c.get.ensures.value)) in
-    let grown : starts ≡ items ++ c.in-Ok.start ∷ [] = c.push_reserved-in-loop-place.ensures.items in
+    let grown : starts ≡ items ++ c.in-Ok.start ∷ [] = c.push_reserved-in-loop-index.ensures.items in
     let all : all_starting starts ≡ all_starting items ++ a ∷ [] = starting_more items starts c.in-Ok.start a grown c.in-Ok.ensures.what in
     let batch_is : c.push_reserved.new.self.items ≡ begins c.args.at (all_starting items ++ a ∷ [])
     =
-    batch_more c.args.at (all_starting items) a c.loop-place.batch.items c.push_reserved.new.self.items c.begin_at-begin.result
+    batch_more c.args.at (all_starting items) a c.loop-index.batch.items c.push_reserved.new.self.items c.begin_at-begin.result
     c.push_reserved.ensures.items inv.batch c.begin_at-begin.ensures.begin in
     let count : length starts ≡ length items + 1 = one_longer items starts c.in-Ok.start grown in record {
-      so_far = subst (λ (l : List Active). SoFar s (dues c.args.state.now) c.args.journal.now.tail.at c.args.at (c.loop-place.place + 1)
+      so_far = subst (λ (l : List Active). SoFar s (dues c.args.state.now) c.args.journal.now.tail.at c.args.at (c.loop-index.index + 1)
           c.in-Some-new.next l) (sym all) more;
       batch = batch_is ∙ ap (begins c.args.at) (sym all);
       are_starts =
@@ -98,5 +98,5 @@ loop-place-preserved g c =
       short = omega (arith, inv.short, c.begin_at-begin.ensures.short, c.encoded_len-len.ensures);
       few = omega (arith, inv.few, count);
       batch_room = c.push_reserved.ensures.capacity ∙ inv.batch_room;
-      start_room = c.push_reserved-in-loop-place.ensures.capacity ∙ inv.start_room;
+      start_room = c.push_reserved-in-loop-index.ensures.capacity ∙ inv.start_room;
     }

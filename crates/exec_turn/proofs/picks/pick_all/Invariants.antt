@@ -9,17 +9,17 @@ use Rattle.exec_turn.specs.Picks.{begins}
 use Rattle.exec_turn.proofs.PickSteps.{SoFar}
 use Rattle.exec_turn.proofs.picks.pick_all.Given as goal
 
-abbrev pub invariant-loop-place : goal.invariant-loop-place
-invariant-loop-place g l =
+abbrev pub invariant-loop-index : goal.invariant-loop-index
+invariant-loop-index g l =
     let s = l.state.state in
     let begun = all_starting l.starts.items in
     record {
-      so_far : SoFar s (dues l.state) (journal_position l.journal).tail l.at l.place l.run begun;
+      so_far : SoFar s (dues l.state) (journal_position l.journal).tail l.at l.index l.run begun;
       batch : l.batch.items ≡ begins l.at begun;
       are_starts : AllByRecursion (IsStart l.site s) l.starts.items;
       len : l.len ≡ length (encoded_batch l.batch.items);
-      short : l.len ≤ 90 * l.place;
-      few : length l.starts.items ≤ l.place;
+      short : l.len ≤ 90 * l.index;
+      few : length l.starts.items ≤ l.index;
       batch_room : vec_capacity l.batch ≡ vec_capacity l.fn.batch;
       start_room : vec_capacity l.starts ≡ vec_capacity l.fn.starts;
     }

@@ -5,18 +5,18 @@ use Rattle.exec_ledger.specs.Actives.{active_in, runs_of}
 use Rattle.exec_turn.specs.Polls.{Polls}
 use Rattle.exec_turn.proofs.polls.poll_all.Given as goal
 
-abbrev pub invariant-loop-place : goal.invariant-loop-place
-invariant-loop-place g l =
+abbrev pub invariant-loop-index : goal.invariant-loop-index
+invariant-loop-index g l =
     let rs = l.state.state.resources in
-    let to_come = flat_map active_in (drop l.place rs) in
+    let to_come = flat_map active_in (drop l.index rs) in
     record {
-      polled : Polls l.at (flat_map active_in (take l.place rs)) (g.C.Children.view l.fn.children)
+      polled : Polls l.at (flat_map active_in (take l.index rs)) (g.C.Children.view l.fn.children)
           (g.C.Children.view l.children) l.batch.items l.notices.items;
       lives : AllByRecursion (λ run. Contains (g.C.Children.view l.children).live run) (runs_of to_come);
       distinct : IsDistinct nat_eq (runs_of to_come);
       room : 2 * length to_come ≤ (g.C.Children.view l.children).room;
-      batch_few : vec_len l.batch ≤ l.place;
-      notices_few : vec_len l.notices ≤ l.place;
+      batch_few : vec_len l.batch ≤ l.index;
+      notices_few : vec_len l.notices ≤ l.index;
       batch_room : vec_capacity l.batch ≡ vec_capacity l.fn.batch;
       notice_room : vec_capacity l.notices ≡ vec_capacity l.fn.notices;
     }

@@ -1,6 +1,6 @@
 use Rattle.std.proofs.Common.{◌≡◌, ◌∙◌, ℕ, List, [], ◌∷◌, ◌++◌, sym, ap, subst, append-nil, Some, None}
 use Rattle.ocf_types.specs.Notices.{run_notice}
-use Rattle.ocf_types.specs.Places.{entry_at}
+use Rattle.ocf_types.specs.Indexes.{entry_at}
 use Rattle.ocf_types.specs.declared.outcome.Outcome.TheVariants.{Run}
 use Rattle.ocf_types.specs.declared.reply.Notice.{Notice}
 use Rattle.exec_ledger.specs.Actives.{Active}
@@ -10,14 +10,14 @@ use Rattle.exec_turn.proofs.polls.poll_at.Goals as goal
 
 pub returns-in_default-clause-polled : goal.returns-in_default-clause-polled
 returns-in_default-clause-polled g c =
-    let e = entry_at c.args.state.now.state c.args.place in
+    let e = entry_at c.args.state.now.state c.args.index in
     let none = polled_none c.args.at e.0 e.1.history.running (g.C.Children.view c.args.children.now)
     (sym c.running_at.ensures ∙ c.in_default.is) in
     ([], [], none, sym (append-nil _), sym (append-nil _))
 
 pub returns-in_default-ask-clause-polled : goal.returns-in_default-ask-clause-polled
 returns-in_default-ask-clause-polled g c =
-    let e = entry_at c.args.state.now.state c.args.place in
+    let e = entry_at c.args.state.now.state c.args.index in
     let h = c.in_default-ask.ensures.polled in
     let one = polled_one c.args.at e.0 c.in-Some.running e.1.history.running h.0 h.1 (g.C.Children.view c.args.children.now)
     (g.C.Children.view c.ask.new.children) None
@@ -26,7 +26,7 @@ returns-in_default-ask-clause-polled g c =
 
 pub returns-clause-polled : goal.returns-clause-polled
 returns-clause-polled g c =
-    let e = entry_at c.args.state.now.state c.args.place in
+    let e = entry_at c.args.state.now.state c.args.index in
     let h = c.in-Some-ask.ensures.polled in
     let end = c.in-Some-ask.end in
     let who : Active = record { id = e.0; running = c.in-Some.running } in

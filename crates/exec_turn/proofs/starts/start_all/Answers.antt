@@ -3,7 +3,7 @@ use Rattle.std.proofs.lemmas.List.{append-nil, drop_more, map-append, take_more}
 use Rattle.ocf_types.specs.declared.reply.Notice.{Notice}
 use Rattle.child_model.specs.Children.{ChildrenView}
 use Rattle.exec_journal.specs.Journal.{journal_disk}
-use Rattle.ocf_env.specs.Places.{Call, SiteView}
+use Rattle.ocf_env.specs.Locations.{Call, SiteView}
 use Rattle.child_model.specs.MayStart.{IsLaunch}
 use Rattle.exec_ledger.specs.Actives.{Active}
 use Rattle.exec_turn.specs.Actives.{notice_of}

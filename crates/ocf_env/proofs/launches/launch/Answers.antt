@@ -1,6 +1,6 @@
 use Rattle.std.proofs.Common.{◌≡◌, ◌∙◌, ap}
 use Rattle.ocf_types.specs.Actions.{action_of, action_word}
-use Rattle.ocf_env.specs.Places.{Call}
+use Rattle.ocf_env.specs.Locations.{Call}
 use Rattle.ocf_env.specs.Programs.{arguments_at, program_at}
 use Rattle.ocf_env.proofs.launches.launch.Goals as goal
 

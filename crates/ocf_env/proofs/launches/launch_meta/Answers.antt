@@ -1,5 +1,5 @@
 use Rattle.std.proofs.Common.{◌≡◌, ap}
-use Rattle.ocf_env.specs.Places.{Call}
+use Rattle.ocf_env.specs.Locations.{Call}
 use Rattle.ocf_env.proofs.launches.launch_meta.Goals as goal
 
 pub returns-clause-variables : goal.returns-clause-variables

@@ -20,14 +20,14 @@ pub returns-clause-pairs : goal.returns-clause-pairs
 returns-clause-pairs g c =
     let name = c.args.name.now in
     let xs = c.args.pairs.now.items in
-    let place = c.lesser_names-place.result in
+    let index = c.lesser_names-index.result in
     let gone : is_named name xs ≡ false = ap (λ ys. is_named name ys) (sym c.as_slice.ensures.value) ∙ sym c.is_there.ensures
     ∙ c.if-is_there.false in
-    let at : place ≡ lesser name xs = c.lesser_names-place.ensures ∙ ap (λ ys. lesser name ys) c.as_slice-2.ensures.value in
+    let at : index ≡ lesser name xs = c.lesser_names-index.ensures ∙ ap (λ ys. lesser name ys) c.as_slice-2.ensures.value in
     let pair : List ℕ × List ℕ = (c.in_ok-copied.field-0, c.in_ok-copied-2.field-0) in
-    let items : c.insert.new.self.items ≡ (if is_ok c.insert.result then insert xs place pair else xs) = c.insert.ensures.items
-    ∙ ap (λ (ys : ParamList). if is_ok c.insert.result then insert ys place pair else ys) c.reserve.ensures.items in
-    let put : c.insert.new.self.items ≡ insert xs place (name, c.args.value.now) = put_in
-    (is_ok c.insert.result) c.is_err.result xs c.insert.new.self.items (insert xs place pair) items c.is_err.ensures.negation c.if-is_err.false
-    ∙ (λ k. insert xs place (c.in_ok-copied.ensures.text k, c.in_ok-copied-2.ensures.text k)) in
-    new_put (name, c.args.value.now) xs c.insert.new.self.items place gone at put
+    let items : c.insert.new.self.items ≡ (if is_ok c.insert.result then insert xs index pair else xs) = c.insert.ensures.items
+    ∙ ap (λ (ys : ParamList). if is_ok c.insert.result then insert ys index pair else ys) c.reserve.ensures.items in
+    let put : c.insert.new.self.items ≡ insert xs index (name, c.args.value.now) = put_in
+    (is_ok c.insert.result) c.is_err.result xs c.insert.new.self.items (insert xs index pair) items c.is_err.ensures.negation c.if-is_err.false
+    ∙ (λ k. insert xs index (c.in_ok-copied.ensures.text k, c.in_ok-copied-2.ensures.text k)) in
+    new_put (name, c.args.value.now) xs c.insert.new.self.items index gone at put

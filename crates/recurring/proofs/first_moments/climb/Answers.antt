@@ -12,6 +12,6 @@ loop-node-preserved c =
       long = length-set xs p _ ∙ h.long;
       low = omega arith;
       high = omega arith;
-      won = won-climbed xs c.args.places c.loop-node.node (omega arith) h.high h.long h.won;
-      moments = drop-set-lt c.args.places xs p _ (omega arith) ∙ h.moments;
+      won = won-climbed xs c.args.indexes c.loop-node.node (omega arith) h.high h.long h.won;
+      moments = drop-set-lt c.args.indexes xs p _ (omega arith) ∙ h.moments;
     })

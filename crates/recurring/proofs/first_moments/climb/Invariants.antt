@@ -4,11 +4,11 @@ use Rattle.recurring.proofs.first_moments.climb.Given as goal
 
 abbrev pub invariant-loop-node : goal.invariant-loop-node
 invariant-loop-node l = record {
-  long : length l.nodes ≡ 2 * l.places;
+  long : length l.nodes ≡ 2 * l.indexes;
   low : 1 ≤ l.node;
-  high : l.node < 2 * l.places;
-  won : (i : ℕ) → 1 ≤ i → i < l.places → i ≢ l.node / 2 → IsWon l.nodes i;
-  moments : drop l.places l.nodes ≡ drop l.places l.initial.nodes;
+  high : l.node < 2 * l.indexes;
+  won : (i : ℕ) → 1 ≤ i → i < l.indexes → i ≢ l.node / 2 → IsWon l.nodes i;
+  moments : drop l.indexes l.nodes ≡ drop l.indexes l.initial.nodes;
 }
 
 abbrev pub decreases-loop-node : goal.decreases-loop-node

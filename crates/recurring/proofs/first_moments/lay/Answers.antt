@@ -11,6 +11,6 @@ loop-node-preserved c =
     rw c.play.ensures.played (record {
       long = length-set xs p _ ∙ h.long;
       high = omega arith;
-      won = won-laid xs c.args.places p (omega arith) (omega arith) h.long (λ i from. h.won i (omega (arith, from)));
-      moments = drop-set-lt c.args.places xs p _ (omega arith) ∙ h.moments;
+      won = won-laid xs c.args.indexes p (omega arith) (omega arith) h.long (λ i from. h.won i (omega (arith, from)));
+      moments = drop-set-lt c.args.indexes xs p _ (omega arith) ∙ h.moments;
     })

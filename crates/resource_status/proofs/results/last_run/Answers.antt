@@ -1,5 +1,5 @@
 use Rattle.std.proofs.Common.{sym, ◌∙◌}
-use Rattle.ocf_types.specs.Places.{at_place}
+use Rattle.ocf_types.specs.Indexes.{at_index}
 use Rattle.resource_status.specs.Results.{is_run}
 use Rattle.resource_status.proofs.ResultLemmas.{last_no, last_yes}
 use Rattle.resource_status.proofs.results.last_run.Goals as goal
@@ -7,7 +7,7 @@ use Rattle.resource_status.proofs.results.last_run.Goals.{then-is_run, else-is_r
 
 pub loop-at-preserved : goal.loop-at-preserved
 loop-at-preserved c =
-    let es = (at_place c.args.state.now.state c.args.place).history.ended in
+    let es = (at_index c.args.state.now.state c.args.index).history.ended in
     let e = c.ended_at-ended.result in
     let is = is_run c.args.call in
     elim c.if-is_run.branch [

@@ -4,7 +4,7 @@ use Rattle.run_counts.specs.Counts.{Tallies}
 use Rattle.run_counts.specs.Runs.{Ran, ended_by}
 use Rattle.run_counts.proofs.counting.count_ended.Given as goal
 
-abbrev pub invariant-loop-place : goal.invariant-loop-place
-invariant-loop-place l =
+abbrev pub invariant-loop-index : goal.invariant-loop-index
+invariant-loop-index l =
     (runs : List Ran) → Tallies l.fn.counts.entries runs
-    → Tallies l.counts.entries (runs ++ flat_map (ended_by l.change) (take l.place l.state.state.resources))
+    → Tallies l.counts.entries (runs ++ flat_map (ended_by l.change) (take l.index l.state.state.resources))

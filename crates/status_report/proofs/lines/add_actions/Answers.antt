@@ -1,6 +1,6 @@
 use Rattle.std.proofs.Common.{List, [], ◌∷◌, ◌∙◌}
 use Rattle.std.specs.List.{flat_map}
-use Rattle.ocf_types.specs.Places.{at_place}
+use Rattle.ocf_types.specs.Indexes.{at_index}
 use Rattle.ocf_types.specs.declared.action.Action.{Action}
 use Rattle.ocf_types.specs.declared.action.Action.TheVariants as action
 use Rattle.status_report.specs.Written.{action_line, written_actions}
@@ -9,7 +9,7 @@ use Rattle.status_report.proofs.lines.add_actions.Goals as goal
 
 pub returns-clause-text : goal.returns-clause-text
 returns-clause-text c =
-    let f = action_line c.args.options.now (at_place c.args.state.now.state c.args.place).history.ended in
+    let f = action_line c.args.options.now (at_index c.args.state.now.state c.args.index).history.ended in
     let from_7 : List Action = action.ValidateAll ∷ [] in
     let from_6 : List Action = action.ReloadAgent ∷ from_7 in
     let from_5 : List Action = action.Stop ∷ from_6 in

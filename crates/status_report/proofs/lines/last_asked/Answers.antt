@@ -1,5 +1,5 @@
 use Rattle.std.proofs.Common.{sym, ◌∙◌}
-use Rattle.ocf_types.specs.Places.{at_place}
+use Rattle.ocf_types.specs.Indexes.{at_index}
 use Rattle.status_report.specs.Written.{is_asked}
 use Rattle.resource_status.proofs.ResultLemmas.{last_no, last_yes}
 use Rattle.status_report.proofs.lines.last_asked.Goals as goal
@@ -7,7 +7,7 @@ use Rattle.status_report.proofs.lines.last_asked.Goals.{then-is_asked, else-is_a
 
 pub loop-at-preserved : goal.loop-at-preserved
 loop-at-preserved c =
-    let es = (at_place c.args.state.now.state c.args.place).history.ended in
+    let es = (at_index c.args.state.now.state c.args.index).history.ended in
     let e = c.ended_at-ended.result in
     let is = is_asked c.args.action in
     elim c.if-is_asked.branch [

@@ -6,7 +6,7 @@ use Rattle.child_keeper.proofs.agents.Agents.ask.Goals as goal
 pub returns : goal.returns
 returns g c =
     record {
-      stay = map-set_same _ _ c.place-place.result _ c.index_mut.result.now (search rules);
-      others = others-set (λ a. a.run) c.args.run c.place-place.result _ _ c.index_mut.result.now c.place-place.ensures.found
+      stay = map-set_same _ _ c.index-index.result _ c.index_mut.result.now (search rules);
+      others = others-set (λ a. a.run) c.args.run c.index-index.result _ _ c.index_mut.result.now c.index-index.ensures.found
           (search rules);
     }

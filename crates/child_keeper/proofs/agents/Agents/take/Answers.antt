@@ -8,17 +8,17 @@ use Rattle.child_keeper.proofs.agents.Agents.take.Goals as goal
 pub returns : goal.returns
 returns g c =
     let children = c.args.self.now.agents.items in
-    let place = c.place-place.result in
+    let index = c.index-index.result in
     let agent = c.remove-agent.result in
-    let at = c.place-place.ensures.found in
+    let at = c.index-index.ensures.found in
     let others : c.retain.new.self.items ≡ others_of c.args.run children =
-    taken (λ a. a.run) c.args.run place children c.remove-agent.new.self.items c.retain.new.self.items at c.remove-agent.ensures.items
+    taken (λ a. a.run) c.args.run index children c.remove-agent.new.self.items c.retain.new.self.items at c.remove-agent.ensures.items
     (filter_same _ (λ a. not (a.run == c.args.run)) _ (λ x b f' t. search rules) _ _ c.retain.ensures.filtered) in
     let size : length children ≡ vec_len c.args.self.now.agents = search rules in
-    let run_is = ap (λ a. a.run) c.remove-agent.ensures.value ∙ run_at (λ a. a.run) c.args.run place children agent at in
+    let run_is = ap (λ a. a.run) c.remove-agent.ensures.value ∙ run_at (λ a. a.run) c.args.run index children agent at in
     record {
       gone = ap runs_of others ∙ runs-others (λ a. a.run) c.args.run children;
-      agent = (place, omega (arith, size, c.place-place.ensures.within), sym c.remove-agent.ensures.value);
+      agent = (index, omega (arith, size, c.index-index.ensures.within), sym c.remove-agent.ensures.value);
       run = run_is;
       others = others;
     }

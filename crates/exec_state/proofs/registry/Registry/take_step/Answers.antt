@@ -44,7 +44,7 @@ returns-then-may_change-clause-resources g c =
     let es = c.self.inside.resources.entries in
     let was = c.index_mut-resource.result.now in
     let found : lookup (bytes_eq id) es ≡ Some was = sym c.in-Some.ensures.value ∙ c.index_mut-resource.ensures.value in
-    rw (← c.self.view_is) (ap seen_all (set_value-found id es c.in-Some.place c.take_step.new.self c.in-Some.ensures.index)
+    rw (← c.self.view_is) (ap seen_all (set_value-found id es c.in-Some.index c.take_step.new.self c.in-Some.ensures.index)
     ∙ find_all_due-set_value seen id (stepped c.args.at c.args.step) es was c.take_step.new.self c.get_index_of.ensures.unique found
     c.take_step.ensures.state)
 
@@ -57,7 +57,7 @@ returns-then-may_change-clause-monitors g c =
     let there : lookup (bytes_eq id) (seen_all es) ≡ Some (seen was) = lookup-map_values seen (bytes_eq id) es ∙ ap (option_map seen) found in
     let running : option_and_then (λ r. r.history.running) (lookup (bytes_eq id) (seen_all es)) ≡ was.ops.running
     = ap (option_and_then (λ r. r.history.running)) there in
-    rw (← c.self.view_is) (ap monitors_all (set_value-found id es c.in-Some.place c.take_step.new.self c.in-Some.ensures.index)
+    rw (← c.self.view_is) (ap monitors_all (set_value-found id es c.in-Some.index c.take_step.new.self c.in-Some.ensures.index)
     ∙ find_all_due-set_value monitors_of id
     (monitors_stepped c.args.at (option_and_then (λ r. r.history.running) (lookup (bytes_eq id) (seen_all es))) c.args.step) es
     was c.take_step.new.self c.get_index_of.ensures.unique found
@@ -69,7 +69,7 @@ returns-else-may_change-clause-resources g c =
     let es = c.self.inside.resources.entries in
     let was = c.index_mut-resource.result.now in
     let found : lookup (bytes_eq id) es ≡ Some was = sym c.in-Some.ensures.value ∙ c.index_mut-resource.ensures.value in
-    rw (← c.self.view_is) (ap seen_all (set_value-found id es c.in-Some.place c.take_step.new.self c.in-Some.ensures.index)
+    rw (← c.self.view_is) (ap seen_all (set_value-found id es c.in-Some.index c.take_step.new.self c.in-Some.ensures.index)
     ∙ find_all_due-set_value seen id (stepped c.args.at c.args.step) es was c.take_step.new.self c.get_index_of.ensures.unique found
     c.take_step.ensures.state)
 
@@ -82,7 +82,7 @@ returns-else-may_change-clause-monitors g c =
     let there : lookup (bytes_eq id) (seen_all es) ≡ Some (seen was) = lookup-map_values seen (bytes_eq id) es ∙ ap (option_map seen) found in
     let running : option_and_then (λ r. r.history.running) (lookup (bytes_eq id) (seen_all es)) ≡ was.ops.running
     = ap (option_and_then (λ r. r.history.running)) there in
-    rw (← c.self.view_is) (ap monitors_all (set_value-found id es c.in-Some.place c.take_step.new.self c.in-Some.ensures.index)
+    rw (← c.self.view_is) (ap monitors_all (set_value-found id es c.in-Some.index c.take_step.new.self c.in-Some.ensures.index)
     ∙ find_all_due-set_value monitors_of id
     (monitors_stepped c.args.at (option_and_then (λ r. r.history.running) (lookup (bytes_eq id) (seen_all es))) c.args.step) es
     was c.take_step.new.self c.get_index_of.ensures.unique found
@@ -92,7 +92,7 @@ pub invariant_of-self : goal.invariant_of-self
 invariant_of-self g c =
     let es = c.self.inside.resources.entries in
     let is = c.take_step.new.self in
-    let i = c.in-Some.place in (
+    let i = c.in-Some.index in (
       c.self.invariant.0,
       rest_before_0 _ _,
       c.renew_at.ensures.dues ∙ ap (λ (xs : Dues). set_value_at xs i (pairs is.monitors)) c.self.invariant.2
@@ -109,5 +109,5 @@ invariant_of-self-else-may_change g c =
       c.self.invariant.0,
       rest_before_0 _ _,
       c.self.invariant.2
-          ∙ sym (ap dues_by_id (find_all_due-same_at monitors_of es c.in-Some.place was is c.index_mut-resource.ensures.value same)),
+          ∙ sym (ap dues_by_id (find_all_due-same_at monitors_of es c.in-Some.index was is c.index_mut-resource.ensures.value same)),
     )

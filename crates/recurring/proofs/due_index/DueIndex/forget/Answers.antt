@@ -9,7 +9,7 @@ remove-requires g c = omega (arith, c.in-Some.ensures.within, c.self.invariant.r
 pub invariant_of-self : goal.invariant_of-self
 invariant_of-self g c =
     rw (c.shift_remove_index.ensures.entries, c.remove.ensures)
-    (tied_removed c.self.inside.resources.entries c.self.inside.firsts c.in-Some.place c.self.invariant c.in-Some.ensures.within)
+    (tied_removed c.self.inside.resources.entries c.self.inside.firsts c.in-Some.index c.self.invariant c.in-Some.ensures.within)
 
 pub returns-in_default : goal.returns-in_default
 returns-in_default g c =
@@ -21,5 +21,5 @@ returns g c =
     let es = c.self.inside.resources.entries in
     rw (← c.self.view_is) (record {
       dues = c.shift_remove_index.ensures.entries
-          ∙ remove-others c.args.id.now es c.in-Some.place c.get_index_of.ensures.unique c.in-Some.ensures.index;
+          ∙ remove-others c.args.id.now es c.in-Some.index c.get_index_of.ensures.unique c.in-Some.ensures.index;
     })

@@ -9,10 +9,10 @@ no_entry = ([], record { provider = []; agent = []; params = []; history = no_hi
 
 -- the id and the resource at an index
 abbrev pub entry_at : State → ℕ → List ℕ × Resource
-entry_at s place = slice_index_or s.resources place no_entry
+entry_at s index = slice_index_or s.resources index no_entry
 
 abbrev pub id_at : State → ℕ → List ℕ
-id_at s place = (entry_at s place).0
+id_at s index = (entry_at s index).0
 
-abbrev pub at_place : State → ℕ → Resource
-at_place s place = (entry_at s place).1
+abbrev pub at_index : State → ℕ → Resource
+at_index s index = (entry_at s index).1

@@ -1,6 +1,6 @@
 use Rattle.std.proofs.Common.{◌≡◌, arith, length, rules, sym, vec_len, ◌∙◌}
 use Rattle.child_keeper.proofs.AgentLemmas.{found, found_within, not_found}
-use Rattle.child_keeper.proofs.agents.Agents.place.Goals as goal
+use Rattle.child_keeper.proofs.agents.Agents.index.Goals as goal
 
 pub returns-clause-within : goal.returns-clause-within
 returns-clause-within g c =
@@ -8,12 +8,12 @@ returns-clause-within g c =
     omega (
       arith,
       size,
-      found_within (λ a. a.run) c.args.run c.in-Some.place c.args.self.now.agents.items
+      found_within (λ a. a.run) c.args.run c.in-Some.index c.args.self.now.agents.items
           (sym c.first.ensures ∙ c.in-Some.is),
     )
 
 pub returns-clause-found : goal.returns-clause-found
-returns-clause-found g c = found (λ a. a.run) c.args.run c.in-Some.place c.args.self.now.agents.items (sym c.first.ensures ∙ c.in-Some.is)
+returns-clause-found g c = found (λ a. a.run) c.args.run c.in-Some.index c.args.self.now.agents.items (sym c.first.ensures ∙ c.in-Some.is)
 
 pub unreachable-requires : goal.unreachable-requires
 unreachable-requires g c =

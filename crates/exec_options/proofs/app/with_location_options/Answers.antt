@@ -2,7 +2,7 @@ use Rattle.std.proofs.Common.{refl, codes}
 use Rattle.std.proofs.lemmas.Result.{IfOk-weaker}
 use Rattle.exec_options.specs.App.{flag_rule, text_rule}
 use Rattle.exec_options.proofs.AppLemmas.{app-arg, local-arg}
-use Rattle.exec_options.proofs.app.with_place_options.Goals as goal
+use Rattle.exec_options.proofs.app.with_location_options.Goals as goal
 
 pub returns-clause-app : goal.returns-clause-app
 returns-clause-app c =
