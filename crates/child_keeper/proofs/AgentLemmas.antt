@@ -7,7 +7,7 @@ use Rattle.std.proofs.lemmas.List.{length-map}
 use Rattle.std.proofs.lemmas.Option.{get_or_from_slice_get, slice_get_within}
 use Rattle.std.proofs.lemmas.Bool.{cond_both, eqb-false, eqb-true}
 use Rattle.child_model.specs.Children.{without_run}
-use Rattle.child_model.specs.Laws.{first_or_rest}
+use Rattle.child_model.specs.Lemmas.{first_or_rest}
 
 -- the index that is found has the run
 pub found_at : {X : Type 0} (f : X → ℕ) (run i k : ℕ) (xs : List X) → position_from (λ x. f x == run) i xs ≡ Some k

@@ -3,7 +3,7 @@ use Rattle.std.specs.Prelude.{◌≡◌, ◌⊎◌, ℕ, zero, suc, Bool, true, 
 use Rattle.std.specs.Process.{var_after}
 use Rattle.std.proofs.Common.{ap, arith, inl, inr, refl, subst, sym, ◌∙◌}
 use Rattle.std.proofs.lemmas.Slice.Eq.{bytes_eq-Decides}
-use Rattle.ocf_types.specs.Laws.{before_differs, before_trans, both}
+use Rattle.ocf_types.specs.Lemmas.{before_differs, before_trans, both}
 use Rattle.ocf_types.specs.Params.{is_after, is_before}
 use Rattle.ocf_env.specs.Locations.{Pair}
 use Rattle.ocf_env.specs.Variables.{are_ascending_after}

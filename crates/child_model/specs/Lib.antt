@@ -1,3 +1,3 @@
 pub mod Children
-pub mod Laws
+pub mod Lemmas
 pub mod MayStart

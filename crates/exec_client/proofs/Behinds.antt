@@ -19,7 +19,7 @@ use Rattle.exec_turn.specs.Picks.{begins}
 use Rattle.exec_turn.specs.Polls.{Polled, ends_of, result_notices, results}
 use Rattle.exec_turn.specs.Starts.{Started, refusal_notices, refusals, refused_end}
 use Rattle.exec_turn.specs.Turn.{IsFinish, IsTurn, Whole}
-use Rattle.exec_ledger.specs.Laws.{same_events}
+use Rattle.exec_ledger.specs.Lemmas.{same_events}
 use Rattle.exec_ledger.specs.Pieces.{Effects}
 use Rattle.exec_ledger.specs.BatchStarts.{BatchStart}
 use Rattle.exec_ledger.specs.Replies.{IsReplyTo, KeepsRunning, recorded}

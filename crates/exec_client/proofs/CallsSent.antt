@@ -5,7 +5,7 @@ use Rattle.std.specs.List.{AllByRecursion, flat_map}
 use Rattle.ocf_types.specs.Kinds.{Event}
 use Rattle.ocf_types.specs.declared.command.RequestOf.TheVariants as asked
 use Rattle.disk_model.specs.View.{View}
-use Rattle.executor.specs.CallLaws.{followed_by_assoc, followed_by_none}
+use Rattle.executor.specs.CallLemmas.{followed_by_assoc, followed_by_none}
 use Rattle.executor.specs.Incarnations.{Abandoned, Calls, Cleared, Does, Exchange, Finished, Batch, Tidied, Took}
 use Rattle.executor.specs.CommandBatches.{IsAt, replies_of}
 use Rattle.executor.specs.Sessions.{Effects, followed_by, no_effects}

@@ -11,15 +11,15 @@ use Rattle.ocf_types.specs.declared.reply.ReplyOf.TheVariants as reply
 use Rattle.ocf_types.specs.declared.reply.TidyEnd.{TidyEnd}
 use Rattle.ocf_types.specs.declared.reply.TurnEnd.{TurnEnd}
 use Rattle.disk_model.specs.View.{View}
-use Rattle.executor.specs.CallLaws.{followed_by_none, calls_after}
+use Rattle.executor.specs.CallLemmas.{followed_by_none, calls_after}
 use Rattle.exec_ledger.specs.Commands.{Obeys}
 use Rattle.executor.specs.Commands.{Serves, ServesWhile}
 use Rattle.executor.specs.Incarnations.{Abandoned, Calls, Cleared, Does, Exchange, Finished, Batch, Tidied, Took}
 use Rattle.executor.specs.BatchCalls.{TakesBatch}
-use Rattle.executor.specs.BatchLaws.{commands_called}
+use Rattle.executor.specs.BatchLemmas.{commands_called}
 use Rattle.exec_ledger.specs.Together.{batch_replies}
 use Rattle.executor.specs.CommandBatches.{IsAt, TakesCommands, replies_of}
-use Rattle.exec_ledger.specs.Laws.{while_open}
+use Rattle.exec_ledger.specs.Lemmas.{while_open}
 use Rattle.exec_ledger.specs.Pieces.{Effects, followed_by, no_effects, batch_effects}
 use Rattle.executor.specs.Sessions.{TakesWhile, command_effects}
 use Rattle.executor.specs.ExecutorView.{ExecutorView, ledger_of}

@@ -16,7 +16,7 @@ use Rattle.exec_ledger.specs.Commands.{Obeys}
 use Rattle.executor.specs.Incarnations.{Abandoned, Calls, Cleared, Does, Exchange, Finished, Batch, Tidied, Took}
 use Rattle.exec_ledger.specs.Replies.{IsReplyTo, acknowledged}
 use Rattle.exec_ledger.specs.Together.{Adds, Answered, disk_each, failed, batch_replies}
-use Rattle.executor.specs.BatchLaws.{commands_called}
+use Rattle.executor.specs.BatchLemmas.{commands_called}
 use Rattle.executor.specs.CommandBatches.{IsAt, TakesCommands, replies_of}
 use Rattle.executor.specs.Sessions.{Effects, TakesWhile}
 use Rattle.executor.specs.ExecutorView.{ExecutorView, ledger_of}

@@ -11,7 +11,7 @@ use Rattle.serde_json.specs.Data.{Data, Members, member}
 use Rattle.serde_json.specs.Find.{as_str}
 use Rattle.serde_json.specs.View.{view, members_view}
 use Rattle.serde_json.proofs.Views.{Entry}
-use Rattle.ocf_types.specs.Laws.{and_true}
+use Rattle.ocf_types.specs.Lemmas.{and_true}
 use Rattle.ocf_types.specs.Params.{ParamList}
 use Rattle.exec_commands.specs.Service.{metadata_data, no_text_data, text_data}
 use Rattle.exec_commands.specs.Keys.{TextPair, text_pair, texts_seen, member_texts, are_ascending}

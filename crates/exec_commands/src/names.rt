@@ -5,7 +5,7 @@ use ocf_env::ascii;
 use ocf_types::{AgentType, ParamName, Provider, RscId};
 
 /// The text of an id.
-#[tactic(auto, using(ocf_types::specs::NameLaws::ids))]
+#[tactic(auto, using(ocf_types::specs::NameLemmas::ids))]
 pub fn id_text(id: &RscId) -> &str
     ensures { result.now ≡ id.now }
 {
@@ -13,7 +13,7 @@ pub fn id_text(id: &RscId) -> &str
 }
 
 /// The text of a provider.
-#[tactic(auto, using(ocf_types::specs::NameLaws::providers))]
+#[tactic(auto, using(ocf_types::specs::NameLemmas::providers))]
 pub fn provider_text(provider: &Provider) -> &str
     ensures { result.now ≡ provider.now }
 {
@@ -21,7 +21,7 @@ pub fn provider_text(provider: &Provider) -> &str
 }
 
 /// The text of an agent's type.
-#[tactic(auto, using(ocf_types::specs::NameLaws::agent_types))]
+#[tactic(auto, using(ocf_types::specs::NameLemmas::agent_types))]
 pub fn agent_text(agent: &AgentType) -> &str
     ensures { result.now ≡ agent.now }
 {
@@ -29,7 +29,7 @@ pub fn agent_text(agent: &AgentType) -> &str
 }
 
 /// The text of a parameter's name.
-#[tactic(auto, using(ocf_types::specs::NameLaws::param_names))]
+#[tactic(auto, using(ocf_types::specs::NameLemmas::param_names))]
 pub fn param_text(name: &ParamName) -> &str
     ensures { result.now ≡ name.now }
 {

@@ -15,7 +15,7 @@ use Rattle.exec_lines.specs.declared.line.Piece.{Piece}
 use Rattle.exec_lines.specs.declared.line.Piece.TheVariants.{Part, Last, Nothing}
 use Rattle.exec_lines.specs.Lines.{is_newline}
 use Rattle.exec_lines.specs.Pieces.{Reads, newline_count, piece_of}
-use Rattle.ocf_types.specs.Laws.{nil_of}
+use Rattle.ocf_types.specs.Lemmas.{nil_of}
 use Rattle.exec_lines.proofs.LineLemmas.{index-le}
 
 -- a read that failed or was interrupted took nothing

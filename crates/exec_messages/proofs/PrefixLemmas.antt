@@ -4,7 +4,7 @@ use Rattle.std.proofs.lemmas.List.Concat.{flat_map-append}
 use Rattle.std.proofs.KnownBytes.{Appends-nil, Appends-trans}
 use Rattle.std.specs.List.{flat_map}
 use Rattle.std.specs.Io.KnownBytes.{Appends}
-use Rattle.ocf_types.specs.Laws.{flat_more}
+use Rattle.ocf_types.specs.Lemmas.{flat_more}
 use Rattle.exec_lines.specs.Prefixes.{AppendsPrefix}
 use Rattle.exec_messages.specs.declared.send.IoFault.{IoFault}
 use Rattle.exec_messages.specs.declared.send.IoFault.TheVariants.{Memory}

@@ -8,7 +8,7 @@ use Rattle.clap.specs.declared.builder.command.Command.{Command}
 use Rattle.clap.specs.declared.builder.command.Command.TheViews.{out-Command}
 use Rattle.clap.specs.declared.builder.arg.Arg.{Arg}
 use Rattle.clap.specs.declared.parser.matches.ArgMatches.{ArgMatches}
-use Rattle.ocf_types.specs.Laws.{some_is}
+use Rattle.ocf_types.specs.Lemmas.{some_is}
 use Rattle.clap.specs.declared.parser.matches.ArgMatches.TheViews.{out-ArgMatches}
 
 pub app-arg : (old : Command) (a : Arg) (new : Command) (r : Rule) (app : App) → AddsArg old a new → a.global ≡ false → rule_of a ≡ r

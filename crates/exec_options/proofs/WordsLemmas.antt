@@ -14,7 +14,7 @@ use Rattle.exec_options.specs.Faults.{SinceFlaw, TidyAtFlaw, TimeoutFlaw, Unname
 use Rattle.exec_options.specs.Subcommands.{once_word, subcommand_word}
 use Rattle.exec_options.specs.Words.{location_in, AsksFor, IsJournalWanted, IsOnceWanted}
 use Rattle.exec_options.specs.declared.words.Wanted.{Wanted}
-use Rattle.ocf_types.specs.Laws.{some_is}
+use Rattle.ocf_types.specs.Lemmas.{some_is}
 use Rattle.exec_options.proofs.AppLemmas.{both_parts, name_in_rows}
 
 -- the subcommand in the result of a parse is the one that the arguments name

@@ -17,7 +17,7 @@ use Rattle.ocf_types.specs.Due.{due_after, due_at}
 use Rattle.ocf_types.specs.Applies.{Applies, StepApplies, ChangeApplies}
 use Rattle.ocf_types.specs.LawfulState.{IsLawfulResource, IsLawfulState}
 use Rattle.ocf_types.specs.Lawful.{IsLawfulRecur}
-use Rattle.ocf_types.specs.RegistryLaws.{same_id, apart, lookup-push_other, lookup-at_id_here, lookup-at_id_other, found}
+use Rattle.ocf_types.specs.RegistryLemmas.{same_id, apart, lookup-push_other, lookup-at_id_here, lookup-at_id_other, found}
 use Rattle.recurring.specs.declared.monitor.Monitor.{Monitor}
 use Rattle.recurring.specs.Monitors.{recurs, all_due_at}
 use Rattle.exec_state.specs.Store.{Store, Monitors, monitors_at, due_of, dues, monitors_due_at}

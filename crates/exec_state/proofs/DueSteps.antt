@@ -14,7 +14,7 @@ use Rattle.ocf_types.specs.State.{stepped}
 use Rattle.ocf_types.specs.Due.{is_run_of, step_sets, or_else}
 use Rattle.ocf_types.specs.Applies.{StepApplies}
 use Rattle.ocf_types.specs.LawfulState.{IsAscending}
-use Rattle.ocf_types.specs.Laws.{same_number}
+use Rattle.ocf_types.specs.Lemmas.{same_number}
 use Rattle.recurring.specs.declared.monitor.Monitor.{Monitor}
 use Rattle.recurring.specs.Monitors.{recurs, cancelled, settled, due_at, monitor_due_at}
 use Rattle.exec_state.specs.MonitorsAfter.{run_ended, monitors_stepped}

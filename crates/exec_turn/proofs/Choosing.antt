@@ -11,8 +11,8 @@ use Rattle.ocf_types.specs.Due.{Due, IsBefore, IsLeastDue, IsPick, IsPickOf, due
 use Rattle.ocf_types.specs.Resource.{History, Resource, begun_from, run_of_monitor, run_of_op}
 use Rattle.ocf_types.specs.State.{Registry, State, resource_at}
 use Rattle.ocf_types.specs.LawfulState.{IsLawfulState}
-use Rattle.ocf_types.specs.Laws.{IsBefore-trans}
-use Rattle.ocf_types.specs.RegistryLaws.{other_way, same_id}
+use Rattle.ocf_types.specs.Lemmas.{IsBefore-trans}
+use Rattle.ocf_types.specs.RegistryLemmas.{other_way, same_id}
 use Rattle.ocf_types.specs.Indexes.{at_index, id_at, no_entry}
 use Rattle.ocf_types.specs.declared.operation.Op.{Op}
 use Rattle.ocf_types.specs.declared.operation.Recur.{Recur}

@@ -2,7 +2,7 @@
 use Rattle.std.proofs.Common.{◌≡◌, inl, inr, ℕ, Bool, List, [], ◌++◌, Result, Ok, Err, IsErr, map, refl, sym, ◌∙◌, ap, subst, append_assoc, append-nil, arith}
 use Rattle.ocf_types.specs.Due.{Due}
 use Rattle.ocf_types.specs.Kinds.{Event}
-use Rattle.ocf_types.specs.Laws.{after_all-append}
+use Rattle.ocf_types.specs.Lemmas.{after_all-append}
 use Rattle.ocf_types.specs.State.{State, after_all}
 use Rattle.ocf_types.specs.declared.reply.Notice.{Notice}
 use Rattle.ocf_types.specs.declared.reply.TurnEnd.{TurnEnd}
@@ -13,8 +13,8 @@ use Rattle.child_model.specs.Children.{ChildrenView}
 use Rattle.child_model.specs.declared.answer.Entry.{Entry}
 use Rattle.exec_journal.specs.Position.{Position}
 use Rattle.exec_ledger.specs.Actives.{Active}
-use Rattle.exec_ledger.specs.Laws.{due_after_all-append, joined}
-use Rattle.exec_turn.specs.Laws.{then_started}
+use Rattle.exec_ledger.specs.Lemmas.{due_after_all-append, joined}
+use Rattle.exec_turn.specs.Lemmas.{then_started}
 use Rattle.exec_turn.specs.Picks.{begins}
 use Rattle.exec_ledger.specs.Pieces.{Effects, CrashCondition, no_effects}
 use Rattle.exec_turn.specs.Polls.{polls, results}

@@ -4,7 +4,7 @@ use Rattle.std.specs.List.{AllByRecursion, IsDistinct, flat_map}
 use Rattle.std.proofs.lemmas.Grind.{flat_map-append}
 use Rattle.std.proofs.lemmas.List.{drop_more, length-map, map-append, take_more}
 use Rattle.std.proofs.lemmas.Map.Keys.{IsDistinct-head, IsDistinct-tail}
-use Rattle.ocf_types.specs.Laws.{each_append}
+use Rattle.ocf_types.specs.Lemmas.{each_append}
 use Rattle.ocf_types.specs.Kinds.{Event}
 use Rattle.ocf_types.specs.Indexes.{entry_at, no_entry}
 use Rattle.ocf_types.specs.State.{State, after, after_all}
@@ -25,7 +25,7 @@ use Rattle.std.proofs.lemmas.List.Elements.{All-from_recursion}
 use Rattle.ocf_types.specs.Lawful.{IsRunEnd}
 use Rattle.ocf_types.specs.LawfulState.{IsLawfulState}
 use Rattle.ocf_types.specs.Numbers.{IsMoment}
-use Rattle.child_model.specs.Laws.{asked_polls, fewer, kept}
+use Rattle.child_model.specs.Lemmas.{asked_polls, fewer, kept}
 use Rattle.child_model.specs.declared.answer.Entry.{Entry}
 use Rattle.exec_turn.specs.AgentsLive.{AgentsLive}
 use Rattle.exec_turn.specs.Starts.{AllRun}

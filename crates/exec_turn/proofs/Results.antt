@@ -35,8 +35,8 @@ use Rattle.exec_turn.proofs.Choosing.{own_found}
 use Rattle.std.proofs.lemmas.List.Sorted.{All-permutation, IsPermutation-append_comm, IsPermutation-append_left, IsPermutation-sym, length_permutation}
 use Rattle.std.specs.Prelude.{IsPermutation, ⊤}
 use Rattle.std.proofs.lemmas.Bool.{false_from_ne_true}
-use Rattle.ocf_types.specs.RegistryLaws.{keys-at_id, lookup-at_id_other}
-use Rattle.ocf_types.specs.Laws.{each_weaken}
+use Rattle.ocf_types.specs.RegistryLemmas.{keys-at_id, lookup-at_id_other}
+use Rattle.ocf_types.specs.Lemmas.{each_weaken}
 
 module _ {A : Type 0} (P : A → Type 0) where
   -- a fact of two lists together holds of each

@@ -24,9 +24,9 @@ use Rattle.exec_ledger.specs.Batches.{MayRecord}
 use Rattle.exec_turn.specs.Starts.{AllRun, Rising, Started, Starts, after_starts, refusals, refused_end, starts}
 use Rattle.exec_turn.proofs.Results.{AtMostOne, ResultsFit, agents_result, differs, each_of_all, ended_may_record, never_itself, run_on, same_keys}
 use Rattle.std.proofs.lemmas.List.Sorted.{Contains-permutation, IsPermutation-middle}
-use Rattle.ocf_types.specs.Laws.{distinct_none}
+use Rattle.ocf_types.specs.Lemmas.{distinct_none}
 use Rattle.ocf_types.specs.Lawful.{IsRunEnd}
-use Rattle.child_model.specs.Laws.{first_or_rest}
+use Rattle.child_model.specs.Lemmas.{first_or_rest}
 use Rattle.child_model.specs.declared.answer.Entry.{Entry}
 
 -- a fact of each holds of the one at an index

@@ -15,12 +15,12 @@ use Rattle.disk_model.specs.View.{View}
 use Rattle.exec_state.specs.Answers.{IsReplyOrMemory}
 use Rattle.exec_ledger.specs.Commands.{TakesCommand}
 use Rattle.exec_ledger.specs.LedgerView.{LedgerView, While}
-use Rattle.exec_ledger.specs.Laws.{of_closed}
+use Rattle.exec_ledger.specs.Lemmas.{of_closed}
 use Rattle.exec_ledger.specs.CommitGroups.{Batch as GroupedBatch, CommitGroup, Single, TakesCommands as LedgerTakesCommands, TakesGroup, TakesGroups}
 use Rattle.exec_ledger.specs.Tidying.{Tidies as LedgerTidies}
 use Rattle.exec_ledger.proofs.Keeping.{same_runs}
-use Rattle.executor.specs.CallLaws.{same_view}
-use Rattle.executor.specs.BatchLaws.{still_beside, with_ledger}
+use Rattle.executor.specs.CallLemmas.{same_view}
+use Rattle.executor.specs.BatchLemmas.{still_beside, with_ledger}
 use Rattle.executor.specs.ExecutorView.{ChildrenInvariant, ExecutorView, ledger_of}
 use Rattle.executor.specs.TidyCalls.{TidiesWhile}
 use Rattle.executor.proofs.Keeping.{kept_tends}

@@ -12,8 +12,8 @@ pub mod Incarnations
 pub mod Isolated
 pub mod Projections
 pub mod CommandBatches
-pub mod CallLaws
-pub mod BatchLaws
+pub mod CallLemmas
+pub mod BatchLemmas
 pub mod Histories
 pub mod Joins
 pub mod Machine

@@ -4,7 +4,7 @@ use Rattle.std.proofs.lemmas.List.{append-nil, append_assoc}
 use Rattle.std.proofs.lemmas.List.Elements.{filter-append}
 use Rattle.std.proofs.lemmas.Grind.{get_or_default_zero}
 use Rattle.std.specs.List.{flat_map, last_or, range_with_len}
-use Rattle.ocf_types.specs.Laws.{flat_more}
+use Rattle.ocf_types.specs.Lemmas.{flat_more}
 use Rattle.exit_reasons.specs.Reasons.{is_reason_at, last_of}
 use Rattle.exit_reasons.specs.declared.tail.Tail.{Tail}
 

@@ -150,7 +150,7 @@ impl<R: Files<File = File> + Copy, A: Allocator + Copy> ReportsError for FileDis
 
 impl<R: Files<File = File> + Copy, A: Allocator + Copy> Disk for FileDisk<R, A> {
     ghost use Rattle.file_disk.specs.FileDisk.{IsStopped, Notes, ReportsFault, view_of};
-    ghost use Rattle.file_disk.specs.PastLaws.{past_lawful};
+    ghost use Rattle.file_disk.specs.PastLemmas.{past_lawful};
 
     ghost view = { view_of };
 

@@ -54,7 +54,7 @@ impl Log {
     }
 
     /// Notes and counts a call that succeeded.
-    #[tactic(auto, using(crate::specs::RecordLaws::clock_noted, crate::specs::RecordLaws::failures_done))]
+    #[tactic(auto, using(crate::specs::RecordLemmas::clock_noted, crate::specs::RecordLemmas::failures_done))]
     pub fn pass(&mut self, call: &Call, bytes: &[u8])
         requires unspent { (log_view self.old).clock < LAST }
         requires done { IsDone call.now }
@@ -65,7 +65,7 @@ impl Log {
     }
 
     /// Notes and counts a call that failed.
-    #[tactic(auto, using(crate::specs::RecordLaws::clock_noted, crate::specs::RecordLaws::failures_fault))]
+    #[tactic(auto, using(crate::specs::RecordLemmas::clock_noted, crate::specs::RecordLemmas::failures_fault))]
     pub fn fail(&mut self, call: &Call, bytes: &[u8]) -> DiskFault
         requires { IsFault call.now }
         ensures { Noted call.now bytes.now self.old.calls self.new.calls }

@@ -4,7 +4,7 @@ ghost use Rattle.disk_model.specs.Image.{Written, bytes_of};
 ghost use Rattle.disk_model.specs.Parts.{image_of};
 ghost use Rattle.disk_model.specs.View.{Called, Unwritten, Synced, Tears};
 ghost use Rattle.file_disk.specs.Past.{honest_of, reads_of};
-ghost use Rattle.file_disk.specs.PastLaws.{honest_prop};
+ghost use Rattle.file_disk.specs.PastLemmas.{honest_prop};
 
 use crate::call::Call;
 use crate::error::{FileError, ReportsError};
@@ -65,7 +65,7 @@ impl<A: Allocator + Copy> ReportsError for RamDisk<A> {
 }
 
 impl<A: Allocator + Copy> Disk for RamDisk<A> {
-    ghost use Rattle.file_disk.specs.PastLaws.{past_lawful};
+    ghost use Rattle.file_disk.specs.PastLemmas.{past_lawful};
     ghost use Rattle.file_disk.specs.RamDisk.{IsStopped, view_of};
 
     ghost view = { view_of };

@@ -11,7 +11,7 @@ use Rattle.std.proofs.lemmas.Cmp.{nat_list_cmp_total}
 use Rattle.std.proofs.lemmas.List.Sums.{sum_by-cons}
 use Rattle.std.proofs.lemmas.Map.Lookups.{exact_bytes}
 use Rattle.std.proofs.lemmas.Slice.Eq.{bytes_eq-Decides}
-use Rattle.ocf_types.specs.Laws.{and_true, before_trans, both, less_is}
+use Rattle.ocf_types.specs.Lemmas.{and_true, before_trans, both, less_is}
 use Rattle.ocf_types.specs.Params.{is_before, is_after}
 use Rattle.ocf_env.specs.Lists.{with_new}
 use Rattle.ocf_env.specs.Locations.{Pair}

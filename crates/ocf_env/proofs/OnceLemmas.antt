@@ -6,7 +6,7 @@ use Rattle.ocf_types.specs.declared.action.Task.{Task}
 use Rattle.ocf_env.specs.Locations.{SiteView, Pair}
 use Rattle.ocf_env.specs.Variables.{IsVariable, are_ascending_after}
 use Rattle.ocf_env.specs.Lists.{action_pairs}
-use Rattle.ocf_types.specs.Laws.{before_trans, both, not_before_itself}
+use Rattle.ocf_types.specs.Lemmas.{before_trans, both, not_before_itself}
 use Rattle.ocf_env.proofs.Amongs.{Among, among}
 use Rattle.ocf_env.proofs.SortedLemmas.{ascending}
 use Rattle.ocf_env.proofs.MemberLemmas.{members}

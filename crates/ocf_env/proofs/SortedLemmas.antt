@@ -9,7 +9,7 @@ use Rattle.ocf_types.specs.declared.action.Task.TheVariants as task
 use Rattle.ocf_env.specs.Locations.{SiteView, Pair}
 use Rattle.ocf_env.specs.Variables.{reskey, are_ascending_after, are_ascending}
 use Rattle.ocf_env.specs.Lists.{param_pairs, instance_pair, last_pairs, action_pairs, meta_pairs}
-use Rattle.ocf_types.specs.Laws.{and_true, both}
+use Rattle.ocf_types.specs.Lemmas.{and_true, both}
 
 -- names of parameters are ordered as their variables are
 reskey_before : (a b : List ℕ) → is_before (reskey a) (reskey b) ≡ is_before a b

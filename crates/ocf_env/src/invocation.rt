@@ -50,7 +50,7 @@ impl<A: Allocator> Invocation<A> {
 }
 
 /// The agent's file, `<root>/resource.d/<provider>/<type>`. OCF Resource Agent API 1.1, OCF_ROOT.
-#[tactic(auto, using(ocf_types::specs::NameLaws::providers, ocf_types::specs::NameLaws::agent_types))]
+#[tactic(auto, using(ocf_types::specs::NameLemmas::providers, ocf_types::specs::NameLemmas::agent_types))]
 pub fn agent_file<A: Grows, S: Allocator>(
     alloc: A,
     site: &Site<S>,

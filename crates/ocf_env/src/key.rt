@@ -9,7 +9,7 @@ use ocf_types::{Action, KEY_LIMIT, OpKey, RscId};
 
 /// The key of an operation, `<resource>_<action>_<interval in ms>`, as in `r1_monitor_10000`; an operation that runs once
 /// has the interval 0. It allocates nothing. Pacemaker Explained, resource operations.
-#[tactic(auto, using(ocf_types::specs::NameLaws::ids, crate::proofs::KeyLemmas::words))]
+#[tactic(auto, using(ocf_types::specs::NameLemmas::ids, crate::proofs::KeyLemmas::words))]
 pub fn op_key(id: &RscId, action: Action, interval: u32) -> OpKey
     ensures { result ≡ key_text id.now action interval }
 {

@@ -58,7 +58,7 @@ pub fn joined<A: Grows>(alloc: A, head: &str, tail: &str) -> Result<Text<A>, All
 }
 
 /// The text of ASCII bytes.
-#[tactic(auto, using(ocf_types::specs::NameLaws::texts))]
+#[tactic(auto, using(ocf_types::specs::NameLemmas::texts))]
 pub fn ascii(bytes: &[u8]) -> &str
     requires { IsAscii bytes.now }
     ensures { result.now ≡ bytes.now }

@@ -63,7 +63,7 @@ pub fn push_version<A: Grows>(alloc: A, pairs: &mut Pairs<A>) -> Result<(), Allo
     Ok(())
 }
 
-#[tactic(auto, using(ocf_types::specs::NameLaws::param_names))]
+#[tactic(auto, using(ocf_types::specs::NameLemmas::param_names))]
 fn push_param<A: Grows, P: Allocator>(
     alloc: A,
     pairs: &mut Pairs<A>,
@@ -96,7 +96,7 @@ pub fn push_params<A: Grows, P: Allocator>(
 }
 
 /// Appends the instance. OCF Resource Agent API 1.1, OCF_RESOURCE_INSTANCE.
-#[tactic(auto, using(ocf_types::specs::NameLaws::ids))]
+#[tactic(auto, using(ocf_types::specs::NameLemmas::ids))]
 pub fn push_instance<A: Grows>(alloc: A, pairs: &mut Pairs<A>, id: &RscId) -> Result<(), AllocError>
     ensures pairs { OnOk result (pairs.new.items ≡ pairs.old.items ++ instance_pair id.now ∷ []) }
     ensures memory { OnErr result (IsTrue A.refuses) }
@@ -105,7 +105,7 @@ pub fn push_instance<A: Grows>(alloc: A, pairs: &mut Pairs<A>, id: &RscId) -> Re
     Ok(())
 }
 
-#[tactic(auto, using(ocf_types::specs::NameLaws::providers, ocf_types::specs::NameLaws::agent_types))]
+#[tactic(auto, using(ocf_types::specs::NameLemmas::providers, ocf_types::specs::NameLemmas::agent_types))]
 fn push_agent<A: Grows>(
     alloc: A,
     pairs: &mut Pairs<A>,

@@ -19,7 +19,7 @@ use Rattle.ocf_types.specs.Applies.{Applies, ChangeApplies, StepApplies, IsNext}
 use Rattle.ocf_types.specs.Boot.{any_busy, boot_at}
 use Rattle.ocf_types.specs.Answer.{moment, change_of, IsRegister, asked_event, tests, event_of}
 use Rattle.ocf_types.specs.LawfulState.{IsLawfulState}
-use Rattle.ocf_types.specs.RegistryLaws.{none_is, passed}
+use Rattle.ocf_types.specs.RegistryLemmas.{none_is, passed}
 use Rattle.ocf_types.proofs.Lengths.{event_short}
 
 module _ {A : Type 0} where

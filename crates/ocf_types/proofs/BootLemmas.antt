@@ -10,7 +10,7 @@ use Rattle.ocf_types.specs.declared.outcome.Outcome.TheVariants.{Interrupted}
 use Rattle.ocf_types.specs.Resource.{History, Resource, kept, ended_of, dropped_of, last_ended, booted}
 use Rattle.ocf_types.specs.State.{State, resource_at, after, on_history}
 use Rattle.ocf_types.specs.Boot.{any_busy, boot, boot_at, IsLast}
-use Rattle.ocf_types.specs.Laws.{quiet}
+use Rattle.ocf_types.specs.Lemmas.{quiet}
 
 -- a second boot changes nothing
 pub boot_once : (s : State) (m n : ℕ) → boot (boot s m) n ≡ boot s m

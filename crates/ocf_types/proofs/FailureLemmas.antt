@@ -9,7 +9,7 @@ use Rattle.ocf_types.specs.Boot.{boot_at}
 use Rattle.ocf_types.specs.Expected.{has_failed}
 use Rattle.ocf_types.specs.Kinds.{Step}
 use Rattle.ocf_types.specs.Notices.{last_failure, run_notice}
-use Rattle.ocf_types.specs.RegistryLaws.{lookup-at_id_here}
+use Rattle.ocf_types.specs.RegistryLemmas.{lookup-at_id_here}
 use Rattle.ocf_types.specs.Resource.{History, Resource, booted, ended_of, failed_after, failed_of}
 use Rattle.ocf_types.specs.State.{State, after, on_history, resource_at, stepped}
 use Rattle.ocf_types.specs.declared.event.Change.TheVariants as change

@@ -19,12 +19,12 @@ use Rattle.ocf_types.specs.State.{runs_drawn}
 use Rattle.ocf_types.specs.Applies.{AppliesIn, StepApplies, ChangeApplies}
 use Rattle.ocf_types.specs.LawfulState.{IsLawfulResourceIn, IsLawfulStateIn}
 use Rattle.ocf_types.proofs.Lengths.{length-event, length-step, params_shorter}
-use Rattle.ocf_types.specs.Laws.{distinct_none, each_append}
+use Rattle.ocf_types.specs.Lemmas.{distinct_none, each_append}
 use Rattle.ocf_types.proofs.Lists.{filter_shorter}
 use Rattle.ocf_types.proofs.Registries.{absent_any, keys-at_id, keys-map, ids-at_id, ids-map, values-map, values-at_id}
 use Rattle.ocf_types.proofs.LawfulParts.{lawful_weaken, resources_weaken, lawful_registered}
 use Rattle.ocf_types.proofs.LawfulSteps.{lawful_step, lawful_boot}
-use Rattle.ocf_types.specs.RegistryLaws.{found, each_filter, distinct_filter}
+use Rattle.ocf_types.specs.RegistryLemmas.{found, each_filter, distinct_filter}
 
 -- the state with no resources is lawful
 pub lawful_empty : (layout : Layout) → IsLawfulStateIn layout empty

@@ -27,7 +27,7 @@ use Rattle.ocf_types.specs.declared.layout.Layout.TheVariants.{First, Second}
 use Rattle.ocf_types.specs.Resource.{History, Resource, last_in, ended_of, dropped_of, failed_of, failed_after, run_of_op, run_of_monitor, of_interval}
 use Rattle.ocf_types.specs.Resource.{cancelled_of, queued_of}
 use Rattle.ocf_types.specs.LawfulState.{IsLawfulRunningIn, IsLawfulEndedIn, IsLawfulFailed, IsLawfulResourceIn, IsOutcome, NeverBegan}
-use Rattle.ocf_types.specs.Laws.{distinct_none, each_append, each_weaken}
+use Rattle.ocf_types.specs.Lemmas.{distinct_none, each_append, each_weaken}
 use Rattle.ocf_types.proofs.Lists.{each_drop}
 
 -- a lawful queued action, with a call below a number

@@ -20,13 +20,13 @@ use Rattle.ocf_types.specs.Resource.{run_of_op, run_of_monitor, of_call, without
 use Rattle.ocf_types.specs.State.{calls_drawn, runs_drawn, on_history, stepped_in}
 use Rattle.ocf_types.specs.Applies.{StepApplies}
 use Rattle.ocf_types.specs.LawfulState.{IsAscending, IsLawfulRunningIn, IsLawfulEndedIn, IsLawfulFailed, IsLawfulResourceIn}
-use Rattle.ocf_types.specs.Laws.{each_append, each_weaken}
+use Rattle.ocf_types.specs.Lemmas.{each_append, each_weaken}
 use Rattle.ocf_types.proofs.Lists.{filter_shorter, ascends_filter, ascends_push}
 use Rattle.ocf_types.proofs.LawfulParts.{IsQueued, IsRecurring, lawful_weaken, length-last, ended_push, ended_running, ended_dropped}
 use Rattle.ocf_types.proofs.LawfulParts.{ended_cancelled}
 use Rattle.ocf_types.proofs.LawfulParts.{none_known, known_again, failed_push}
 use Rattle.ocf_types.proofs.LawfulParts.{running_op, running_monitor, intervals_push}
-use Rattle.ocf_types.specs.RegistryLaws.{each_filter, distinct_filter}
+use Rattle.ocf_types.specs.RegistryLemmas.{each_filter, distinct_filter}
 
 -- a lawful resource with another history
 with_history : (layout : Layout) (n k clock : ℕ) (r : Resource) (h : History) → IsLawfulResourceIn layout n k clock r

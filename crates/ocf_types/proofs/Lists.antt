@@ -3,7 +3,7 @@ use Rattle.std.proofs.Common.{◌≡◌, ℕ, ◌≤◌, ◌<◌, Bool, true, fa
 use Rattle.std.proofs.Common.{arith}
 use Rattle.std.specs.List.{AllByRecursion}
 use Rattle.ocf_types.specs.LawfulState.{IsAscending}
-use Rattle.ocf_types.specs.RegistryLaws.{keys_filter}
+use Rattle.ocf_types.specs.RegistryLemmas.{keys_filter}
 
 module _ {A : Type 0} where
   -- a property of each element holds for the last ones

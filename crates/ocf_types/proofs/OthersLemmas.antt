@@ -8,7 +8,7 @@ use Rattle.ocf_types.specs.Kinds.{Change}
 use Rattle.ocf_types.specs.State.{Registry, changed, named, others, registered, stepped}
 use Rattle.ocf_types.proofs.Lists.{filter-filter}
 use Rattle.ocf_types.proofs.Registries.{same_id, others-at_id}
-pub use Rattle.ocf_types.specs.RegistryLaws.{other_stays}
+pub use Rattle.ocf_types.specs.RegistryLemmas.{other_stays}
 
 -- a change leaves the others in their order
 pub order_stays : (at : ℕ) (c : Change) (rs : Registry) (id : List ℕ) → named c ≡ Some id → others id (changed at c rs) ≡ others id rs

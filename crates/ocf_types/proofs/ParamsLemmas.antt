@@ -4,7 +4,7 @@ use Rattle.std.specs.Prelude.{slice_get}
 use Rattle.ocf_types.specs.Names.{is_param_name}
 use Rattle.ocf_types.specs.Values.{is_param_value}
 use Rattle.ocf_types.specs.Params.{is_after, are_params_after, AreParams, last_name}
-use Rattle.ocf_types.specs.Laws.{both}
+use Rattle.ocf_types.specs.Lemmas.{both}
 
 after-push : (last : Option (List ℕ)) (ps : List (List ℕ × List ℕ)) (name value : List ℕ) → are_params_after last ps ≡ true
     → is_after (last_name last ps) name ≡ true → is_param_name name ≡ true → is_param_value value ≡ true

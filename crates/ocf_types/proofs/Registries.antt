@@ -7,7 +7,7 @@ use Rattle.std.specs.Str.{bytes_eq}
 use Rattle.std.proofs.lemmas.Slice.Eq.{bytes_eq-Decides}
 use Rattle.std.proofs.lemmas.Map.Keys.{IsDistinct-head, IsDistinct-tail}
 use Rattle.ocf_types.specs.State.{at_id}
-pub use Rattle.ocf_types.specs.RegistryLaws.{same_id, other_id, absent_any, keys-at_id}
+pub use Rattle.ocf_types.specs.RegistryLemmas.{same_id, other_id, absent_any, keys-at_id}
 
 module _ {A : Type 0} where
   -- a change of the entry of an id leaves the others as they were

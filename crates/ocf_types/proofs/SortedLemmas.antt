@@ -3,7 +3,7 @@ use Rattle.std.proofs.Common.{◌≡◌, inl, inr, ℕ, true, false, ◌&&◌, L
 use Rattle.ocf_types.specs.Names.{is_param_name}
 use Rattle.ocf_types.specs.Values.{is_param_value}
 use Rattle.ocf_types.specs.Params.{ParamList, is_before, is_after, are_params_after, with_param}
-use Rattle.ocf_types.specs.Laws.{both, not_before_itself}
+use Rattle.ocf_types.specs.Lemmas.{both, not_before_itself}
 use Rattle.ocf_types.proofs.AroundLemmas.{before_cases, not_back, all_after_last}
 
 pub with_sorted : (name value : List ℕ) (last : Option (List ℕ)) (ps : ParamList) → is_after last name ≡ true → is_param_name name ≡ true

@@ -4,7 +4,7 @@ use Rattle.std.specs.List.{list_all}
 use Rattle.std.specs.Str.{is_utf8, IsUtf8}
 use Rattle.std.proofs.lemmas.Bool.{le-leb}
 use Rattle.std.proofs.lemmas.Str.{IsUtf8-from_is_utf8, is_utf8-from_IsUtf8}
-use Rattle.ocf_types.specs.Laws.{and_false}
+use Rattle.ocf_types.specs.Lemmas.{and_false}
 use Rattle.ocf_types.specs.Values.{is_param_value}
 
 pub is_value : (bs : List ℕ) → length bs ≤ 1024 → list_all (λ b. not (eqb b 0)) bs ≡ true → IsUtf8 bs → is_param_value bs ≡ true

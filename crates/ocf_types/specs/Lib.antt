@@ -21,7 +21,7 @@ pub mod Due
 pub mod StateEncoding
 pub mod LawfulState
 pub mod Indexes
-pub mod Laws
-pub mod NameLaws
-pub mod RegistryLaws
-pub mod LengthLaws
+pub mod Lemmas
+pub mod NameLemmas
+pub mod RegistryLemmas
+pub mod LengthLemmas

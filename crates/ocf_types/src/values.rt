@@ -67,7 +67,7 @@ impl<A: Grows> ParamValue<A> {
 
 impl<A: Allocator> ParamValue<A> {
     /// The text of the value.
-    #[tactic(auto, using(crate::specs::LengthLaws::value_short))]
+    #[tactic(auto, using(crate::specs::LengthLemmas::value_short))]
     pub fn as_str(&self) -> &str
         ensures bytes { result.now ≡ self.now }
         ensures lawful { IsTrue (is_param_value result.now) }

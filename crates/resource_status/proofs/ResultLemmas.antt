@@ -4,7 +4,7 @@ use Rattle.std.proofs.lemmas.List.{append-nil, append_assoc, take_more}
 use Rattle.std.proofs.lemmas.List.Elements.{filter-append}
 use Rattle.std.proofs.lemmas.Option.{get_or_from_slice_get, slice_get_within}
 use Rattle.std.specs.List.{flat_map, last_or}
-use Rattle.ocf_types.specs.Laws.{flat_more}
+use Rattle.ocf_types.specs.Lemmas.{flat_more}
 use Rattle.resource_status.specs.Results.{last_of}
 
 -- the lines of items, and one more

@@ -6,7 +6,7 @@ use Rattle.std.specs.Str.{bytes_eq}
 use Rattle.std.proofs.lemmas.Bool.{false≢true, false_from_ne_true}
 use Rattle.std.proofs.lemmas.List.Sums.{sum_by-cons, sum_by_push}
 use Rattle.std.proofs.lemmas.Slice.Eq.{bytes_eq-Decides}
-use Rattle.ocf_types.specs.Laws.{both}
+use Rattle.ocf_types.specs.Lemmas.{both}
 use Rattle.run_counts.specs.Counts.{Tallies, count_at, failures_of, greatest, no_runs, one_more, runs_of, tally}
 use Rattle.run_counts.specs.Runs.{Ran, ran_as, without}
 use Rattle.run_counts.specs.declared.count.RunCount.{RunCount}

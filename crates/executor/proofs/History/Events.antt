@@ -9,8 +9,8 @@ use Rattle.std.proofs.lemmas.Slice.Eq.{bytes_eq-Decides}
 use Rattle.ocf_types.specs.Applies.{ChangeApplies, StepApplies}
 use Rattle.ocf_types.specs.Kinds.{Change, Event, Registration, Step}
 use Rattle.ocf_types.specs.LawfulState.{IsAscending}
-use Rattle.ocf_types.specs.Laws.{each_weaken}
-use Rattle.ocf_types.specs.RegistryLaws.{found, other_stays}
+use Rattle.ocf_types.specs.Lemmas.{each_weaken}
+use Rattle.ocf_types.specs.RegistryLemmas.{found, other_stays}
 use Rattle.ocf_types.specs.Resource.{Resource, booted, is_busy}
 use Rattle.ocf_types.specs.State.{State, after, at_id, changed, on_history, registered, resource_at, runs_drawn, stepped}
 use Rattle.ocf_types.specs.declared.event.Change.TheVariants as change

@@ -12,8 +12,8 @@ use Rattle.std.proofs.lemmas.Slice.Eq.{bytes_eq-Decides}
 use Rattle.ocf_types.specs.Applies.{ChangeApplies}
 use Rattle.ocf_types.specs.Kinds.{Change, Event}
 use Rattle.ocf_types.specs.LawfulState.{IsLawfulState, IsLawfulResource, IsLawfulRunning}
-use Rattle.ocf_types.specs.Laws.{same_number, some_is}
-use Rattle.ocf_types.specs.RegistryLaws.{absent_any, distinct_filter, keys-at_id, same_id}
+use Rattle.ocf_types.specs.Lemmas.{same_number, some_is}
+use Rattle.ocf_types.specs.RegistryLemmas.{absent_any, distinct_filter, keys-at_id, same_id}
 use Rattle.ocf_types.specs.Resource.{Resource, booted}
 use Rattle.ocf_types.specs.State.{Registry, State, after, after_all, changed, on_history, registered, runs_drawn, stepped}
 use Rattle.ocf_types.specs.declared.event.Change.TheVariants as change

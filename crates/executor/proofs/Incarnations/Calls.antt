@@ -5,9 +5,9 @@ use Rattle.ocf_types.specs.Kinds.{Command, Event, Reply}
 use Rattle.ocf_types.specs.State.{after_all}
 use Rattle.ocf_types.specs.declared.reply.TurnEnd.{TurnEnd}
 use Rattle.disk_model.specs.View.{Lawful, View}
-use Rattle.exec_ledger.specs.Laws.{of_closed, of_open}
+use Rattle.exec_ledger.specs.Lemmas.{of_closed, of_open}
 use Rattle.exec_ledger.specs.Pieces.{Effects, CrashCondition, followed_by, no_effects, batch_effects}
-use Rattle.executor.specs.CallLaws.{followed_by_assoc, followed_by_none}
+use Rattle.executor.specs.CallLemmas.{followed_by_assoc, followed_by_none}
 use Rattle.executor.specs.Incarnations.{Abandoned, Calls, Cleared, Does, Exchange, Finished, Batch, Took, Tidied}
 use Rattle.executor.specs.FinishCalls.{FinishedWhile}
 use Rattle.executor.specs.Machine.{AnswersClosed}

@@ -14,17 +14,17 @@ use Rattle.two_parts.specs.declared.choice.Choice.TheVariants.{Broken, Current, 
 use Rattle.exec_journal.specs.Found.{FoundAs, LeadsTo}
 use Rattle.exec_journal.specs.PartPrefix.{AllApplyIn}
 use Rattle.executor.specs.Incarnations.{InOpening, Up, AreIncarnations, IncarnationsLeave, Incarnation}
-use Rattle.exec_ledger.specs.Laws.{JournalLemmas}
+use Rattle.exec_ledger.specs.Lemmas.{JournalLemmas}
 use Rattle.executor.proofs.Incarnations.Uptimes.{whole_leads}
 
 -- the model's laws of lawful states
-pub record LawfulLaws : Type 0 where
+pub record LawfulLemmas : Type 0 where
   pub empty : IsLawfulState empty
   pub after : (s : State) (e : Event) → IsLawfulState s → Applies s e → IsLawfulState (after s e)
   pub stays : (s : State) (e : Event) → IsLawfulStateIn First s → AppliesIn First s e → IsLawfulStateIn First (after_in First s e)
   pub carried : (s : State) → IsLawfulStateIn First s → IsLawfulState s
 
-module _ (laws : LawfulLaws) where
+module _ (laws : LawfulLemmas) where
   one_stays : (layout : Layout) (s : State) (e : Event) → IsLawfulStateIn layout s → AppliesIn layout s e → IsLawfulStateIn layout (after_in layout s e)
   one_stays First s e lawful applies = laws.stays s e lawful applies
   one_stays Second s e lawful applies = laws.after s e lawful applies

@@ -13,7 +13,7 @@ use Rattle.child_model.specs.declared.answer.Answer.{Answer}
 use Rattle.child_model.specs.declared.answer.Answer.TheVariants as asked
 use Rattle.child_model.specs.declared.answer.Entry.{Entry}
 use Rattle.exec_journal.specs.Found.{FoundAs}
-use Rattle.exec_ledger.specs.Laws.{asked_in, asked_none, asked_one}
+use Rattle.exec_ledger.specs.Lemmas.{asked_in, asked_none, asked_one}
 use Rattle.exec_ledger.specs.Pieces.{HasBegin, is_begin}
 
 -- one prefix extends another

@@ -2,7 +2,7 @@
 use Rattle.std.proofs.Common.{◌≡◌, inl, inr, ◌≤◌, ℕ, Bool, true, false, List, [], ◌++◌, refl, sym, ap, subst, ◌∙◌, arith, append_assoc}
 use Rattle.std.proofs.lemmas.List.{append-nil}
 use Rattle.ocf_types.specs.Kinds.{Event}
-use Rattle.ocf_types.specs.Laws.{after_all-append}
+use Rattle.ocf_types.specs.Lemmas.{after_all-append}
 use Rattle.ocf_types.specs.State.{State, after_all}
 use Rattle.disk_model.specs.Image.{Image}
 use Rattle.disk_model.specs.View.{Lawful, View}
@@ -11,7 +11,7 @@ use Rattle.exec_journal.specs.Reserve.{PairHasReserve}
 use Rattle.exec_journal.specs.Batches.{EitherSide}
 use Rattle.executor.specs.Incarnations.{Serves, Uptime, Survives}
 use Rattle.exec_ledger.specs.Pieces.{Effects, followed_by, no_effects}
-use Rattle.exec_ledger.specs.Laws.{JournalLemmas}
+use Rattle.exec_ledger.specs.Lemmas.{JournalLemmas}
 use Rattle.executor.proofs.Incarnations.Calls.{calls_closed, calls_more}
 use Rattle.executor.proofs.Incarnations.Prefixes.{EachBegun, PrefixOf, GoesOn, all_begun, begin_among}
 use Rattle.executor.proofs.Sessions.Growing.{Onward, leads_start, leads_still, onward}

@@ -8,7 +8,7 @@ use Rattle.std.proofs.lemmas.List.Elements.{filter-append}
 use Rattle.std.proofs.lemmas.Slice.Eq.{bytes_eq-Decides}
 use Rattle.ocf_types.specs.Answer.{event_of}
 use Rattle.ocf_types.specs.Kinds.{Change, Command, Event, Reply}
-use Rattle.ocf_types.specs.Laws.{each_append, each_weaken}
+use Rattle.ocf_types.specs.Lemmas.{each_append, each_weaken}
 use Rattle.ocf_types.specs.State.{State, after_all, named, resource_at}
 use Rattle.ocf_types.specs.declared.command.RequestOf.TheVariants as asked
 use Rattle.ocf_types.specs.declared.event.Change.TheVariants as change
@@ -30,7 +30,7 @@ use Rattle.executor.proofs.Isolation.Replies.{isolated_command}
 use Rattle.executor.proofs.Isolation.Requests.{AllKeep, Commands, Does, Seen, added, seen_after}
 use Rattle.executor.proofs.Isolation.CommandBatches.{names_it}
 use Rattle.executor.proofs.Isolation.Turns.{AllBeginOwn, BeginsOwn, fresh-append}
-use Rattle.ocf_types.specs.Laws.{after_all-append}
+use Rattle.ocf_types.specs.Lemmas.{after_all-append}
 
 -- the machine takes a call that concerns it; one that does not leaves no event of it and no entry
 abbrev pub IsStep : Bool → List ℕ → Isolated → Exchange → List Entry → List Event → Type 0

@@ -12,7 +12,7 @@ use Rattle.ocf_types.specs.declared.reply.TurnEnd.TheVariants as turn_end
 use Rattle.disk_model.specs.View.{View}
 use Rattle.child_model.specs.declared.answer.Entry.{Entry}
 use Rattle.exec_ledger.specs.Actives.{active}
-use Rattle.exec_ledger.specs.Laws.{same_entries, same_events}
+use Rattle.exec_ledger.specs.Lemmas.{same_entries, same_events}
 use Rattle.exec_ledger.specs.Pieces.{Effects, no_effects, batch_effects}
 use Rattle.exec_ledger.specs.Together.{Answered, batch_replies}
 use Rattle.executor.specs.Joins.{SameIsolated, as_calls}

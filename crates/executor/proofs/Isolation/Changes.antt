@@ -14,7 +14,7 @@ use Rattle.ocf_types.specs.Resource.{Resource, of_call}
 use Rattle.ocf_types.specs.State.{State, after, after_all, at_id, calls_drawn, changed, named, registered, resource_at, runs_drawn, stepped}
 use Rattle.ocf_types.specs.declared.event.Change.TheVariants as change
 use Rattle.ocf_types.specs.declared.event.Step.TheVariants as step
-use Rattle.ocf_types.specs.RegistryLaws.{other_id, other_stays, same_id}
+use Rattle.ocf_types.specs.RegistryLemmas.{other_id, other_stays, same_id}
 use Rattle.exec_ledger.specs.BatchStarts.{due_after_all}
 use Rattle.executor.specs.Projections.{events_of}
 use Rattle.executor.specs.Isolated.{Isolated, above_call, above_run, has_monitor, isolated_after, isolated_after_all, isolated_changed, isolated_sets}

@@ -21,7 +21,7 @@ use Rattle.exec_turn.specs.Actives.{result_of}
 use Rattle.exec_turn.specs.Picks.{begin_of, begins}
 use Rattle.exec_turn.specs.Polls.{IsPoll, Polled, ending, ends_of, entries_of, is_late, polls, results, said}
 use Rattle.exec_turn.specs.Starts.{Started, refusals, refused_end, starts}
-use Rattle.ocf_types.specs.Laws.{each_weaken}
+use Rattle.ocf_types.specs.Lemmas.{each_weaken}
 use Rattle.executor.specs.Projections.{events_of}
 use Rattle.executor.specs.Isolated.{IsolatedPoll}
 use Rattle.executor.proofs.Isolation.Changes.{AreFresh, IsFresh}

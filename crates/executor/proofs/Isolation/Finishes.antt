@@ -9,7 +9,7 @@ use Rattle.ocf_types.specs.State.{State, after_all}
 use Rattle.disk_model.specs.View.{View}
 use Rattle.child_model.specs.declared.answer.Entry.{Entry}
 use Rattle.exec_ledger.specs.Actives.{active}
-use Rattle.exec_ledger.specs.Laws.{same_entries, same_events}
+use Rattle.exec_ledger.specs.Lemmas.{same_entries, same_events}
 use Rattle.exec_ledger.specs.Pieces.{Effects}
 use Rattle.exec_ledger.specs.BatchStarts.{due_after_all, batch_start}
 use Rattle.exec_turn.specs.Polls.{Polled, polls, results}

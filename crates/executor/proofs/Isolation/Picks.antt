@@ -8,7 +8,7 @@ use Rattle.std.proofs.lemmas.List.{append-nil}
 use Rattle.std.proofs.lemmas.List.Elements.{All-contains, All-from_recursion, filter-append}
 use Rattle.std.proofs.lemmas.Map.Keys.{IsDistinct-head, IsDistinct-tail}
 use Rattle.std.proofs.lemmas.Slice.Eq.{bytes_eq-Decides}
-use Rattle.ocf_types.specs.RegistryLaws.{call_of}
+use Rattle.ocf_types.specs.RegistryLemmas.{call_of}
 use Rattle.ocf_types.specs.Due.{Due, IsLeastDue, IsPick, IsPickOf, due_pairs}
 use Rattle.ocf_types.specs.Kinds.{Event}
 use Rattle.ocf_types.specs.Resource.{Resource, begun_from, of_call, run_of_monitor, run_of_op}
@@ -16,7 +16,7 @@ use Rattle.ocf_types.specs.State.{Registry, State, after}
 use Rattle.ocf_types.specs.declared.operation.Op.{Op}
 use Rattle.ocf_types.specs.declared.operation.Recur.{Recur}
 use Rattle.ocf_types.specs.declared.operation.Running.{Running}
-use Rattle.ocf_types.specs.Laws.{each_weaken}
+use Rattle.ocf_types.specs.Lemmas.{each_weaken}
 use Rattle.exec_ledger.specs.Actives.{Active, active_of}
 use Rattle.exec_turn.specs.Picks.{ArePicks, begin_of, begins, begun_in}
 use Rattle.executor.proofs.Isolation.Changes.{AreFresh}

@@ -14,7 +14,7 @@ use Rattle.ocf_types.specs.declared.event.Step.TheVariants as step
 use Rattle.ocf_types.specs.declared.refusal.Refusal.{Refusal}
 use Rattle.ocf_types.specs.declared.refusal.Refusal.TheVariants as refusal
 use Rattle.ocf_types.specs.declared.reply.ReplyOf.TheVariants.{Refused}
-use Rattle.ocf_types.specs.RegistryLaws.{none_is, passed}
+use Rattle.ocf_types.specs.RegistryLemmas.{none_is, passed}
 use Rattle.disk_model.specs.View.{View}
 use Rattle.exec_ledger.specs.BatchStarts.{due_after_all}
 use Rattle.exec_ledger.specs.Commands.{Obeys, Records}
@@ -23,7 +23,7 @@ use Rattle.exec_ledger.specs.Replies.{IsReplyTo, KeepsRunning, acknowledged, rec
 use Rattle.exec_ledger.specs.Together.{Adds}
 use Rattle.exec_ledger.specs.Pieces.{Effects, batch_effects}
 use Rattle.executor.specs.Sessions.{TakesRequest, command_effects}
-use Rattle.executor.specs.CallLaws.{same_view}
+use Rattle.executor.specs.CallLemmas.{same_view}
 use Rattle.executor.specs.ExecutorView.{ExecutorView, due_in, ledger_of}
 use Rattle.executor.specs.Isolated.{Follows, cut}
 use Rattle.executor.proofs.Isolation.Changes.{AreFresh, IsFresh}

@@ -18,8 +18,8 @@ use Rattle.ocf_types.specs.declared.event.Step.TheVariants as step
 use Rattle.ocf_types.specs.declared.operation.Op.{Op}
 use Rattle.ocf_types.specs.declared.operation.Recur.{Recur}
 use Rattle.ocf_types.specs.declared.operation.Running.{Running}
-use Rattle.ocf_types.specs.RegistryLaws.{each_filter}
-use Rattle.ocf_types.specs.Laws.{distinct_none, each_append, each_weaken}
+use Rattle.ocf_types.specs.RegistryLemmas.{each_filter}
+use Rattle.ocf_types.specs.Lemmas.{distinct_none, each_append, each_weaken}
 use Rattle.exec_ledger.specs.Actives.{Active, active, active_in, runs_of, active_of}
 use Rattle.exec_turn.specs.AgentsLive.{AgentsLive}
 use Rattle.executor.specs.Projections.{DistinctKeys, own_runs, run_begun}

@@ -18,8 +18,8 @@ use Rattle.ocf_types.specs.declared.event.Step.TheVariants as step
 use Rattle.ocf_types.specs.declared.reply.ReplyOf.TheVariants as reply
 use Rattle.ocf_types.specs.declared.reply.TurnEnd.{TurnEnd}
 use Rattle.ocf_types.specs.declared.reply.TurnEnd.TheVariants.{Done}
-use Rattle.ocf_types.specs.RegistryLaws.{absent_any, distinct_filter, each_filter, keys-at_id}
-use Rattle.ocf_types.specs.Laws.{each_append, each_weaken}
+use Rattle.ocf_types.specs.RegistryLemmas.{absent_any, distinct_filter, each_filter, keys-at_id}
+use Rattle.ocf_types.specs.Lemmas.{each_append, each_weaken}
 use Rattle.disk_model.specs.View.{View}
 use Rattle.child_model.specs.declared.answer.Entry.{Entry}
 use Rattle.exec_ledger.specs.Actives.{Active, active, active_of}
@@ -29,7 +29,7 @@ use Rattle.exec_turn.specs.Starts.{Started, refusals, starts}
 use Rattle.exec_turn.specs.Turn.{IsTurn, TurnReport, Whole}
 use Rattle.exec_ledger.specs.BatchStarts.{due_after_all, batch_start}
 use Rattle.executor.specs.Projections.{IsPlain, events_of}
-use Rattle.exec_ledger.specs.Laws.{same_entries, same_events}
+use Rattle.exec_ledger.specs.Lemmas.{same_entries, same_events}
 use Rattle.exec_ledger.specs.Pieces.{Effects}
 use Rattle.executor.specs.Sessions.{TakesATurn}
 use Rattle.executor.specs.ExecutorView.{ExecutorView, due_in}

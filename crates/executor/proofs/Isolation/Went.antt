@@ -11,7 +11,7 @@ use Rattle.ocf_types.specs.declared.reply.TurnEnd.TheVariants as turn_end
 use Rattle.disk_model.specs.View.{View}
 use Rattle.exec_state.specs.Store.{due_of}
 use Rattle.exec_ledger.specs.LedgerView.{LedgerView}
-use Rattle.exec_ledger.specs.Laws.{same_events}
+use Rattle.exec_ledger.specs.Lemmas.{same_events}
 use Rattle.exec_ledger.specs.Pieces.{Effects, no_effects, batch_effects}
 use Rattle.exec_ledger.specs.Together.{batch_replies}
 use Rattle.executor.specs.FinishCalls.{FinishedWhile}

@@ -24,13 +24,13 @@ use Rattle.exec_ledger.specs.Replies.{acknowledged, pending, recorded}
 use Rattle.exec_ledger.specs.Together.{Adds, Answered, failed, batch_replies}
 use Rattle.executor.specs.FinishCalls.{FinishedWhile}
 use Rattle.executor.specs.BatchCalls.{TakesBatch}
-use Rattle.exec_ledger.specs.Laws.{of_open, same_entries}
+use Rattle.exec_ledger.specs.Lemmas.{of_open, same_entries}
 use Rattle.exec_ledger.specs.Pieces.{Effects, no_effects, batch_effects}
 use Rattle.exec_ledger.specs.BatchStarts.{due_after_all}
 use Rattle.executor.specs.SeenIncarnations.{label_in, labels}
 use Rattle.executor.specs.Sessions.{TakesATurn, TakesRequest, command_effects}
 use Rattle.exec_ledger.specs.LedgerView.{LedgerView, due_in as held_due}
-use Rattle.executor.specs.CallLaws.{same_view}
+use Rattle.executor.specs.CallLemmas.{same_view}
 use Rattle.executor.specs.ExecutorView.{OnlyLedgerChanges, ExecutorView, due_in, ledger_of}
 use Rattle.exec_ledger.specs.Tidying.{Tidies}
 use Rattle.executor.specs.TurnCalls.{MakesTurn}

@@ -26,7 +26,7 @@ use Rattle.exec_turn.specs.Actives.{notice_of, result_of}
 use Rattle.exec_turn.specs.Picks.{begins}
 use Rattle.exec_turn.specs.Polls.{Polled, ends_of, result_notices, results}
 use Rattle.exec_turn.specs.Starts.{refusal_notices, refusals, refused_end}
-use Rattle.exec_ledger.specs.Laws.{same_events}
+use Rattle.exec_ledger.specs.Lemmas.{same_events}
 use Rattle.exec_turn.specs.Turn.{IsFinish, IsTurn, Whole}
 use Rattle.executor.specs.Incarnations.{Exchange, Finished, Batch, Took, boots}
 use Rattle.executor.specs.Machine.{AnswersClosed, Label, Machine, MovesAll, MovesOpen, MovesWhile, TakesAll, TakesOne}

@@ -2,7 +2,7 @@
 use Rattle.std.proofs.Common.{◌≡◌, inl, inr, ℕ, ◌<◌, true, false, List, [], ◌∷◌, ◌++◌, length, map, None, Ok, refl, sym, ap, subst, ◌∙◌, arith}
 use Rattle.ocf_types.specs.Answer.{asked_event, moment, tests}
 use Rattle.ocf_types.specs.Kinds.{Event}
-use Rattle.ocf_types.specs.RegistryLaws.{passed}
+use Rattle.ocf_types.specs.RegistryLemmas.{passed}
 use Rattle.ocf_types.specs.Encoding.{encoded_event}
 use Rattle.ocf_types.specs.State.{State, after_all, empty}
 use Rattle.ocf_types.specs.declared.command.CommandOf.TheVariants as command
@@ -21,7 +21,7 @@ use Rattle.exec_ledger.specs.BatchStarts.{BatchStart, batch_start}
 use Rattle.exec_turn.specs.Picks.{begin_of, begins as begins_at}
 use Rattle.exec_turn.specs.Polls.{Polled, entries_of, polls, result_notices, results}
 use Rattle.exec_turn.specs.Starts.{Started, refusal_notices, refusals, starts}
-use Rattle.exec_ledger.specs.Laws.{same_entries, same_events}
+use Rattle.exec_ledger.specs.Lemmas.{same_entries, same_events}
 use Rattle.exec_ledger.specs.Pieces.{Effects}
 use Rattle.exec_turn.specs.Turn.{IsTurn, Whole}
 use Rattle.executor.specs.Incarnations.{Took}

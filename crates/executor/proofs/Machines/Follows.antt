@@ -11,9 +11,9 @@ use Rattle.ocf_types.specs.Answer.{asked_event, event_of, tests}
 use Rattle.ocf_types.specs.Applies.{ChangeApplies, IsReady, StepApplies}
 use Rattle.ocf_types.specs.Due.{Due, IsPick, IsPickOf, due_pairs}
 use Rattle.ocf_types.specs.Kinds.{Change, Command, Event}
-use Rattle.ocf_types.specs.Laws.{distinct_none, each_append, each_weaken}
+use Rattle.ocf_types.specs.Lemmas.{distinct_none, each_append, each_weaken}
 use Rattle.ocf_types.specs.Limits.{num_max}
-use Rattle.ocf_types.specs.RegistryLaws.{found, none_is, other_stays, other_way, passed, same_id}
+use Rattle.ocf_types.specs.RegistryLemmas.{found, none_is, other_stays, other_way, passed, same_id}
 use Rattle.ocf_types.specs.Resource.{Resource, is_busy, of_interval, queued_of}
 use Rattle.ocf_types.specs.Encoding.{encoded_event}
 use Rattle.ocf_types.specs.State.{Registry, State, after, after_all, calls_drawn, named, resource_at, stepped}

@@ -5,7 +5,7 @@ use Rattle.std.proofs.lemmas.List.{append-nil}
 use Rattle.ocf_types.specs.Answer.{moment}
 use Rattle.ocf_types.specs.Due.{due_at}
 use Rattle.ocf_types.specs.Kinds.{Event}
-use Rattle.ocf_types.specs.Laws.{after_all-append}
+use Rattle.ocf_types.specs.Lemmas.{after_all-append}
 use Rattle.ocf_types.specs.State.{State, after_all}
 use Rattle.disk_model.specs.Image.{Image}
 use Rattle.disk_model.specs.View.{Lawful, View}
@@ -24,7 +24,7 @@ use Rattle.exec_ledger.specs.Pieces.{followed_by}
 use Rattle.executor.specs.ExecutorView.{due_in}
 use Rattle.executor.specs.declared.opening.OpenError.{OpenError}
 use Rattle.executor.specs.declared.opening.OpenError.TheVariants as why
-use Rattle.exec_ledger.specs.Laws.{JournalLemmas}
+use Rattle.exec_ledger.specs.Lemmas.{JournalLemmas}
 use Rattle.executor.proofs.Incarnations.Uptimes.{uptime_survives, whole_leads}
 use Rattle.executor.proofs.Incarnations.Whole.{OneFinding, after_boots, one_state}
 use Rattle.executor.proofs.Machines.Calls.{labels_answers, machine_of, moves_all, same_machine}

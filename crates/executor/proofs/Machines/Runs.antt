@@ -10,7 +10,7 @@ use Rattle.std.proofs.lemmas.Simd.{map-map}
 use Rattle.ocf_types.specs.Answer.{event_of, moment}
 use Rattle.ocf_types.specs.Boot.{any_busy, boot_at}
 use Rattle.ocf_types.specs.Kinds.{Command, Event, Reply}
-use Rattle.ocf_types.specs.Laws.{after_all-append}
+use Rattle.ocf_types.specs.Lemmas.{after_all-append}
 use Rattle.ocf_types.specs.LawfulState.{IsLawfulState}
 use Rattle.ocf_types.specs.Limits.{num_max}
 use Rattle.ocf_types.specs.State.{State, after_all}
@@ -28,7 +28,7 @@ use Rattle.exec_ledger.specs.BatchStarts.{BatchStart, following, batch_start}
 use Rattle.exec_turn.specs.Picks.{ArePicks, begins}
 use Rattle.exec_turn.specs.Polls.{Polled, ending, ends_of, results}
 use Rattle.exec_turn.specs.Starts.{Started, refusals, refused_end}
-use Rattle.exec_ledger.specs.Laws.{same_events, same_pending}
+use Rattle.exec_ledger.specs.Lemmas.{same_events, same_pending}
 use Rattle.exec_ledger.specs.Pieces.{Effects, followed_by, no_effects, batch_effects}
 use Rattle.exec_turn.specs.Turn.{EachPolled, IsFinish, IsTurn, PickedAt, TurnReport, TurnKind, Whole}
 use Rattle.executor.specs.Histories.{Follow, IsInOrder}

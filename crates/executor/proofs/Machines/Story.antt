@@ -14,7 +14,7 @@ use Rattle.child_model.specs.declared.answer.Entry.{Entry}
 use Rattle.exec_journal.specs.Position.{Position}
 use Rattle.exec_journal.specs.Batches.{IsTooLong}
 use Rattle.exec_ledger.specs.Actives.{Active}
-use Rattle.exec_ledger.specs.Laws.{asked_one}
+use Rattle.exec_ledger.specs.Lemmas.{asked_one}
 use Rattle.exec_ledger.specs.Pieces.{Effects, HasBegin, no_effects}
 use Rattle.exec_ledger.specs.Replies.{acknowledged}
 use Rattle.exec_ledger.specs.BatchStarts.{batch_start}

@@ -3,12 +3,12 @@ use Rattle.std.proofs.Common.{◌≡◌, ◌<◌, ◌≤◌, inl, inr, ℕ, Bool
 use Rattle.ocf_types.specs.Answer.{moment}
 use Rattle.ocf_types.specs.Boot.{any_busy, boot, boot_at}
 use Rattle.ocf_types.specs.Due.{due_at}
-use Rattle.ocf_types.specs.Laws.{quiet}
+use Rattle.ocf_types.specs.Lemmas.{quiet}
 use Rattle.ocf_types.specs.State.{State, after}
 use Rattle.ocf_types.specs.declared.reply.Notice.{Notice}
 use Rattle.child_model.specs.Children.{Admits, ChildrenView, given_up}
 use Rattle.disk_model.specs.Image.{Image}
-use Rattle.disk_model.specs.Laws.{joined, passed_on, supposed, weakened}
+use Rattle.disk_model.specs.Lemmas.{joined, passed_on, supposed, weakened}
 use Rattle.disk_model.specs.Runs.{CrashesTo}
 use Rattle.disk_model.specs.View.{Passed, Unwritten, View}
 use Rattle.gated_slots.specs.declared.append.SlotFault.{SlotFault}
@@ -31,7 +31,7 @@ use Rattle.executor.specs.ExecutorView.{ExecutorView, due_in, ledger_of}
 use Rattle.exec_turn.specs.Turns.{ChildrenMatch}
 use Rattle.exec_ledger.proofs.Booting.{boot_quiet}
 use Rattle.executor.proofs.Keeping.{quiet_matched}
-use Rattle.exec_ledger.specs.Laws.{JournalLemmas}
+use Rattle.exec_ledger.specs.Lemmas.{JournalLemmas}
 
 boot_next : (s : State) (m : ℕ) → (boot s m).next_run ≡ s.next_run
 boot_next s m = by (any_busy s)

@@ -2,7 +2,7 @@
 use Rattle.std.proofs.Common.{◌≡◌, ◌↔◌, ℕ, Bool, true, false, true≢false, Result, Ok, Err, List, [], ◌∷◌, ◌++◌, refl, sym, ◌∙◌, ap, subst, append_assoc}
 use Rattle.std.proofs.lemmas.List.{append-nil}
 use Rattle.ocf_types.specs.Kinds.{Event, Reply, Request}
-use Rattle.ocf_types.specs.Laws.{after_all-append}
+use Rattle.ocf_types.specs.Lemmas.{after_all-append}
 use Rattle.ocf_types.specs.State.{State, after_all}
 use Rattle.ocf_types.specs.Due.{Due}
 use Rattle.ocf_types.specs.declared.refusal.Refusal.TheVariants.{Disk}
@@ -16,15 +16,15 @@ use Rattle.executor.specs.ExecutorView.{OnlyLedgerChanges, ExecutorView, due_in,
 use Rattle.ocf_types.specs.Answer.{event_of}
 use Rattle.ocf_types.specs.declared.command.RequestOf.TheVariants as asked
 use Rattle.ocf_types.specs.declared.refusal.Refusal.{Refusal}
-use Rattle.disk_model.specs.Laws.{left_now, started}
+use Rattle.disk_model.specs.Lemmas.{left_now, started}
 use Rattle.child_model.specs.Children.{ChildrenView}
 use Rattle.exec_journal.specs.Reserve.{PairHasReserve}
-use Rattle.exec_ledger.specs.Laws.{JournalLemmas, due_after_all-append, joined, settled_leaves, settles, whole as no_call}
+use Rattle.exec_ledger.specs.Lemmas.{JournalLemmas, due_after_all-append, joined, settled_leaves, settles, whole as no_call}
 use Rattle.exec_ledger.specs.Pieces.{Effects, CrashCondition, followed_by, no_effects}
 use Rattle.exec_ledger.specs.Commands.{Obeys}
 use Rattle.executor.specs.Commands.{ServesOpen}
 use Rattle.exec_ledger.specs.Replies.{pending}
-use Rattle.executor.specs.CallLaws.{followed_by_assoc, followed_by_none, same_view}
+use Rattle.executor.specs.CallLemmas.{followed_by_assoc, followed_by_none, same_view}
 use Rattle.exec_turn.specs.Turn.{TurnKind}
 use Rattle.executor.specs.TurnCalls.{MakesTurn}
 use Rattle.executor.specs.declared.session.InputOf.TheVariants as input

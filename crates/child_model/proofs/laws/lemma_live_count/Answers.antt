@@ -1,6 +1,6 @@
 use Rattle.std.proofs.Common.{◌≢◌, ℕ, ◌+◌, ◌≤◌, List, Contains, length, arith, refl}
 use Rattle.child_model.specs.Children.{live_polled}
-use Rattle.child_model.specs.Laws.{fewer, no_more}
+use Rattle.child_model.specs.Lemmas.{fewer, no_more}
 use Rattle.child_model.specs.declared.answer.Poll.{Poll}
 use Rattle.child_model.specs.declared.answer.Poll.TheVariants as poll
 use Rattle.child_model.proofs.laws.lemma_live_count.Goals as goal

@@ -1,6 +1,6 @@
 use Rattle.std.proofs.Common.{◌≡◌, ◌≢◌, ◌↔◌, ◌⊎◌, inl, inr, ℕ, List, Contains, refl}
 use Rattle.child_model.specs.Children.{live_polled, without_run}
-use Rattle.child_model.specs.Laws.{kept, lived}
+use Rattle.child_model.specs.Lemmas.{kept, lived}
 use Rattle.child_model.specs.declared.answer.Poll.{Poll}
 use Rattle.child_model.specs.declared.answer.Poll.TheVariants as poll
 use Rattle.child_model.proofs.laws.lemma_live_processes.Goals as goal

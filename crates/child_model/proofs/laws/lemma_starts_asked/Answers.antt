@@ -1,7 +1,7 @@
 use Rattle.std.proofs.Common.{◌≡◌, inl, inr, ℕ, zero, suc, [], ◌∷◌, Ok, Err, Result, ap, arith, sym}
 use Rattle.ocf_types.specs.declared.outcome.StartFault.{StartFault}
 use Rattle.child_model.specs.Children.{Asked, IsOfStart, start_answer}
-use Rattle.child_model.specs.Laws.{asked_append}
+use Rattle.child_model.specs.Lemmas.{asked_append}
 use Rattle.child_model.specs.declared.answer.Entry.{Entry}
 use Rattle.child_model.proofs.laws.lemma_starts_asked.Goals as goal
 

@@ -3,7 +3,7 @@ use Rattle.ocf_types.specs.Answer.{moment}
 use Rattle.ocf_types.specs.State.{State}
 use Rattle.ocf_types.specs.declared.reply.Notice.{Notice}
 use Rattle.ocf_types.specs.declared.reply.TurnEnd.TheVariants as turn_end
-use Rattle.exec_ledger.specs.Laws.{settled_found, settled_reserved, whole}
+use Rattle.exec_ledger.specs.Lemmas.{settled_found, settled_reserved, whole}
 use Rattle.exec_ledger.specs.BatchStarts.{batch_start_of}
 use Rattle.exec_ledger.specs.LedgerView.{due_in}
 use Rattle.exec_turn.specs.Turn.{IsFinish}

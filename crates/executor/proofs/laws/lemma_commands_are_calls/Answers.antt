@@ -1,4 +1,4 @@
-use Rattle.executor.specs.BatchLaws.{commands_called}
+use Rattle.executor.specs.BatchLemmas.{commands_called}
 use Rattle.executor.proofs.laws.lemma_commands_are_calls.Goals as goal
 
 pub returns : goal.returns

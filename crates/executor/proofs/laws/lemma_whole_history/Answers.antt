@@ -1,4 +1,4 @@
-use Rattle.exec_ledger.specs.Laws.{JournalLemmas}
+use Rattle.exec_ledger.specs.Lemmas.{JournalLemmas}
 use Rattle.executor.proofs.Incarnations.Whole.{OneFinding, first_begins, fresh_begins, incarnations_leave, opened_after, opens_after, looked_sits, refused_sits}
 use Rattle.executor.proofs.laws.lemma_whole_history.Goals as goal
 

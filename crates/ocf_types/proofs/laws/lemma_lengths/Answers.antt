@@ -5,7 +5,7 @@ use Rattle.ocf_types.specs.Layouts.{current}
 use Rattle.ocf_types.proofs.Lengths.{length-event, length-step, length-begin, length-result, event_short}
 use Rattle.ocf_types.proofs.StateLengths.{state_short}
 use Rattle.ocf_types.proofs.laws.lemma_lengths.Goals as goal
-use Rattle.ocf_types.specs.LengthLaws.{id_short}
+use Rattle.ocf_types.specs.LengthLemmas.{id_short}
 
 pub returns-clause-result : goal.returns-clause-result
 returns-clause-result c at run id end h =

@@ -1,5 +1,5 @@
 use Rattle.std.proofs.Common.{refl, sym, ◌∙◌}
-use Rattle.exec_ledger.specs.Laws.{while_closed, while_open}
+use Rattle.exec_ledger.specs.Lemmas.{while_closed, while_open}
 use Rattle.executor.proofs.executor.Executor.ask.Goals as goal
 
 pub returns-then-not-is_open : goal.returns-then-not-is_open

@@ -4,7 +4,7 @@ use Rattle.std.specs.Vec.{vec_len}
 use Rattle.std.specs.Vec.Iter.{into_iter_items}
 use Rattle.ocf_types.specs.Kinds.{Reply}
 use Rattle.executor.specs.Sessions.{Input, Sits}
-use Rattle.exec_ledger.specs.Laws.{JournalLemmas}
+use Rattle.exec_ledger.specs.Lemmas.{JournalLemmas}
 use Rattle.executor.proofs.Sessions.Growing.{sits_more, sits_start}
 use Rattle.executor.proofs.executor.Executor.session.Goals as goal
 

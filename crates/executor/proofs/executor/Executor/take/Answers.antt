@@ -2,7 +2,7 @@ use Rattle.std.proofs.Common.{subst, sym}
 use Rattle.ocf_types.specs.declared.reply.ReplyOf.TheVariants.{Turn}
 use Rattle.exec_ledger.specs.Pieces.{Effects}
 use Rattle.executor.specs.Sessions.{Input, TakesWhile}
-use Rattle.executor.specs.CallLaws.{request_taken, turn_taken}
+use Rattle.executor.specs.CallLemmas.{request_taken, turn_taken}
 use Rattle.executor.proofs.executor.Executor.take.Goals as goal
 
 pub returns-in-Request : goal.returns-in-Request

@@ -1,5 +1,5 @@
 use Rattle.std.proofs.Common.{[]}
-use Rattle.file_disk.specs.RecordLaws.{called_refused}
+use Rattle.file_disk.specs.RecordLemmas.{called_refused}
 use Rattle.file_disk.proofs.ram.RamDiskDisk.write_at.Goals as goal
 
 pub returns-then-not-goes_on-clause-called : goal.returns-then-not-goes_on-clause-called

@@ -5,8 +5,8 @@ use Rattle.std.proofs.Common.{inl, inr, arith, refl}
 use Rattle.std.proofs.lemmas.Bool.{cases_lt}
 use Rattle.disk_model.specs.Image.{Image, bytes_of}
 use Rattle.disk_model.specs.View.{LAST, Elapses, Lawful, Passed}
-use Rattle.disk_model.specs.PastLaws.{torn_put}
-use Rattle.disk_model.specs.Laws.{torn_same}
+use Rattle.disk_model.specs.PastLemmas.{torn_put}
+use Rattle.disk_model.specs.Lemmas.{torn_same}
 use Rattle.file_disk.specs.declared.call.Call.{Call}
 use Rattle.file_disk.specs.declared.call.Call.TheVariants.{Measured, Read, Wrote, Tried, Synced, Failed, Refused}
 use Rattle.file_disk.specs.Past.{Event, agrees, honest_of, read_after, left_after, failures_after, reads_of, now_of, clock_of, failures_of}

@@ -7,10 +7,10 @@ use Rattle.std.proofs.lemmas.List.{append-nil}
 use Rattle.std.proofs.lemmas.List.Elements.{Contains-append_cases, Contains-push_cases}
 use Rattle.ocf_types.specs.Due.{Due, due_after}
 use Rattle.ocf_types.specs.Kinds.{Event}
-use Rattle.ocf_types.specs.Laws.{after_all-append}
+use Rattle.ocf_types.specs.Lemmas.{after_all-append}
 use Rattle.ocf_types.specs.State.{State, after, after_all, empty}
 use Rattle.disk_model.specs.Image.{Image}
-use Rattle.disk_model.specs.Laws.{joined as runs_joined, started, weakened}
+use Rattle.disk_model.specs.Lemmas.{joined as runs_joined, started, weakened}
 use Rattle.disk_model.specs.Runs.{CrashesTo}
 use Rattle.disk_model.specs.View.{Lawful, View}
 use Rattle.child_model.specs.Children.{Asked}

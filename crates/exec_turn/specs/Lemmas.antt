@@ -5,10 +5,10 @@ use Rattle.std.proofs.Common.{⊎_elim, refl, sym, ◌∙◌, ap, subst}
 use Rattle.std.proofs.lemmas.Bool.{or_left, or_right}
 use Rattle.std.proofs.lemmas.List.{append-nil}
 use Rattle.ocf_types.specs.Kinds.{Event}
-use Rattle.ocf_types.specs.Laws.{same_number}
+use Rattle.ocf_types.specs.Lemmas.{same_number}
 use Rattle.ocf_types.specs.State.{State, after_all}
 use Rattle.disk_model.specs.Image.{Image}
-use Rattle.disk_model.specs.Laws.{started}
+use Rattle.disk_model.specs.Lemmas.{started}
 use Rattle.disk_model.specs.Runs.{CrashesTo}
 use Rattle.disk_model.specs.View.{Lawful, View}
 use Rattle.child_model.specs.Children.{Asked}
@@ -18,7 +18,7 @@ use Rattle.exec_ledger.specs.Actives.{Active}
 use Rattle.exec_turn.specs.Picks.{begins}
 use Rattle.exec_ledger.specs.Pieces.{HasBegin, CrashCondition, Prefix, is_begin}
 use Rattle.exec_turn.specs.Starts.{Started, starts}
-use Rattle.exec_ledger.specs.Laws.{asked_in, asked_none, asked_one, settles}
+use Rattle.exec_ledger.specs.Lemmas.{asked_in, asked_none, asked_one, settles}
 
 -- each start that was asked has its begin in the batch
 pub asked_starts : (at clock : ℕ) (xs : List Started) (run u : ℕ) → Asked (starts clock xs) run u

@@ -6,7 +6,7 @@ use Rattle.std.specs.Str.{IsAscii, IsUtf8}
 use Rattle.std.proofs.lemmas.Str.{IsUtf8-from_ascii}
 use Rattle.std.proofs.lemmas.Str.Ascii.{IsAscii-nil, IsAscii-cons}
 use Rattle.std.proofs.lemmas.Bool.Decides.{nat_tests}
-use Rattle.ocf_types.specs.Laws.{both}
+use Rattle.ocf_types.specs.Lemmas.{both}
 use Rattle.ocf_types.specs.Names.{is_name_byte, is_id_byte, is_word_byte, is_rsc_id, is_provider, is_agent_type, is_param_name}
 
 -- ASCII bytes are UTF-8

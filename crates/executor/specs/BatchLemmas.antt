@@ -7,11 +7,11 @@ use Rattle.ocf_types.specs.declared.command.RequestOf.TheVariants as asked
 use Rattle.disk_model.specs.View.{View}
 use Rattle.exec_ledger.specs.Commands.{TakesCommand}
 use Rattle.exec_ledger.specs.LedgerView.{LedgerView}
-use Rattle.exec_ledger.specs.Laws.{of_closed, of_open, while_closed, while_open}
+use Rattle.exec_ledger.specs.Lemmas.{of_closed, of_open, while_closed, while_open}
 use Rattle.exec_ledger.specs.Pieces.{Effects, followed_by, no_effects, batch_effects}
 use Rattle.exec_ledger.specs.CommitGroups.{CommitGroup, Single, TakesGroup, TakesGroups, commands_of as grouped_commands, replies_of as grouped_replies}
 use Rattle.exec_ledger.specs.CommitGroups.{Batch as GroupedBatch}
-use Rattle.executor.specs.CallLaws.{request_taken, same_view}
+use Rattle.executor.specs.CallLemmas.{request_taken, same_view}
 use Rattle.executor.specs.Commands.{Serves}
 use Rattle.executor.specs.Incarnations.{Calls, Does, Exchange, Batch, Took}
 use Rattle.executor.specs.CommandBatches.{CallsCommands, IsAt, TakesCommands, commands_of, replies_of}

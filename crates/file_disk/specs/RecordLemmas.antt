@@ -6,13 +6,13 @@ use Rattle.ocf_types.specs.declared.part.Part.TheVariants.{A, B}
 use Rattle.disk_model.specs.Image.{Image, Written, bytes_of}
 use Rattle.disk_model.specs.View.{LAST, View, Called, Elapses, Unwritten, Spent, Synced, Tears}
 use Rattle.disk_model.specs.declared.disk.DiskFault.{DiskFault}
-use Rattle.disk_model.specs.Laws.{rested, torn_same}
-use Rattle.disk_model.specs.PastLaws.{torn_put}
+use Rattle.disk_model.specs.Lemmas.{rested, torn_same}
+use Rattle.disk_model.specs.PastLemmas.{torn_put}
 use Rattle.file_disk.specs.declared.call.Call.{Call}
 use Rattle.file_disk.specs.declared.call.Call.TheVariants as call
 use Rattle.file_disk.specs.declared.record.Record.{Record}
 use Rattle.file_disk.specs.Past.{Event, agrees, reads_of, now_of, clock_of, failures_of, past_view, failures_after}
-use Rattle.file_disk.specs.PastLaws.{past_lawful, elapses, elapses_refused, passes}
+use Rattle.file_disk.specs.PastLemmas.{past_lawful, elapses, elapses_refused, passes}
 use Rattle.file_disk.specs.Record.{Noted, IsDone, IsFault, view_by}
 
 -- a call with its bytes
