@@ -14,4 +14,4 @@ pub record Asks {M : Type 0} (c : Command M) (call : Call) : Type 0 where
   pub arguments : command_args c ≡ call.arguments
   pub cleared : clears_env c ≡ true
   pub variables : (name : List ℕ) → command_var c name ≡ given call.environment name
-  pub folder : command_dir c ≡ Some (codes "/")
+  pub directory : command_dir c ≡ Some (codes "/")

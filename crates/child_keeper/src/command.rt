@@ -10,14 +10,14 @@ use std::alloc::{AllocError, Allocator};
 use std::process::{Command, Stdio};
 
 // Each agent runs in this directory, so that it keeps no other from being unmounted.
-const FOLDER: &str = "/";
+const DIRECTORY: &str = "/";
 
 fn push_argument<A: Grows>(command: &mut Command<A>, argument: &str) -> Result<(), AllocError>
     ensures program { OnOk result (command_program command.new ≡ command_program command.old) }
     ensures arguments { OnOk result (command_args command.new
         ≡ command_args command.old ++ argument.now ∷ []) }
     ensures environment { OnOk result (SameEnv command.old command.new) }
-    ensures folder { OnOk result (SameDir command.old command.new) }
+    ensures directory { OnOk result (SameDir command.old command.new) }
     ensures memory { OnErr result (IsTrue A.refuses) }
 {
     // TRUSTED: a command grows its own memory.
@@ -33,7 +33,7 @@ fn push_arguments<A: Grows, L: Allocator>(
     ensures arguments { OnOk result (command_args command.new
         ≡ command_args command.old ++ arguments.now) }
     ensures environment { OnOk result (SameEnv command.old command.new) }
-    ensures folder { OnOk result (SameDir command.old command.new) }
+    ensures directory { OnOk result (SameDir command.old command.new) }
     ensures memory { OnErr result (IsTrue A.refuses) }
 {
     for argument in arguments {
@@ -52,7 +52,7 @@ fn set_variable<A: Grows>(
         → command_var command.new k
         ≡ (if bytes_eq name.now k then Some (Some value.now) else command_var command.old k)) }
     ensures cleared { OnOk result (clears_env command.new ≡ clears_env command.old) }
-    ensures folder { OnOk result (SameDir command.old command.new) }
+    ensures directory { OnOk result (SameDir command.old command.new) }
     ensures memory { OnErr result (IsTrue A.refuses) }
 {
     // TRUSTED: a command grows its own memory.
@@ -69,7 +69,7 @@ fn push_variables<A: Grows, L: Allocator>(
         → command_var command.new name
         ≡ var_after Some Some name (command_var command.old name) variables.now) }
     ensures cleared { OnOk result (clears_env command.new ≡ clears_env command.old) }
-    ensures folder { OnOk result (SameDir command.old command.new) }
+    ensures directory { OnOk result (SameDir command.old command.new) }
     ensures memory { OnErr result (IsTrue A.refuses) }
 {
     for (name, value) in variables {
@@ -84,14 +84,14 @@ fn bare<A: Grows>(alloc: A, program: &str) -> Result<Command<A>, AllocError>
     ensures arguments { IfOk result (λ c. command_args c ≡ []) }
     ensures cleared { IfOk result (λ c. clears_env c ≡ true) }
     ensures variables { IfOk result (λ c. (name : List ℕ) → command_var c name ≡ None) }
-    ensures folder { IfOk result (λ c. command_dir c ≡ Some (codes "/")) }
+    ensures directory { IfOk result (λ c. command_dir c ≡ Some (codes "/")) }
     ensures memory { OnErr result (IsTrue A.refuses) }
 {
     // TRUSTED: a command grows its own memory.
     let mut command = A::library_growth(Command::new(alloc, program))?;
     command.env_clear();
     // TRUSTED: a command grows its own memory.
-    A::library_growth(command.current_dir(FOLDER))?;
+    A::library_growth(command.current_dir(DIRECTORY))?;
     Ok(command)
 }
 
@@ -99,7 +99,7 @@ fn bare<A: Grows>(alloc: A, program: &str) -> Result<Command<A>, AllocError>
 pub fn write_to<A: Grows>(command: &mut Command<A>, output: Stdio, errors: Stdio)
     ensures call { SameProgramAndArgs command.old command.new }
     ensures environment { SameEnv command.old command.new }
-    ensures folder { SameDir command.old command.new }
+    ensures directory { SameDir command.old command.new }
 {
     command.stdout(output);
     command.stderr(errors);
@@ -109,7 +109,7 @@ pub fn write_to<A: Grows>(command: &mut Command<A>, output: Stdio, errors: Stdio
 fn silence<A: Grows>(command: &mut Command<A>)
     ensures call { SameProgramAndArgs command.old command.new }
     ensures environment { SameEnv command.old command.new }
-    ensures folder { SameDir command.old command.new }
+    ensures directory { SameDir command.old command.new }
 {
     command.stdin(Stdio::null());
     command.stdout(Stdio::null());

@@ -18,6 +18,6 @@ still_asks site c old new call is asks same env dir = (
     arguments = same.1 ∙ asks.arguments;
     cleared = env.0 ∙ asks.cleared;
     variables = λ name. env.1 name ∙ asks.variables name;
-    folder = dir ∙ asks.folder;
+    directory = dir ∙ asks.directory;
   },
 )

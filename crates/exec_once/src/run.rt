@@ -19,7 +19,7 @@ use std::rt::Clock;
 fn write_here(command: &mut Command)
     ensures call { SameProgramAndArgs command.old command.new }
     ensures environment { SameEnv command.old command.new }
-    ensures folder { SameDir command.old command.new }
+    ensures directory { SameDir command.old command.new }
 {
     command.stdout(Stdio::inherit());
     command.stderr(Stdio::inherit());

@@ -12,14 +12,14 @@ use Rattle.exec_options.specs.declared.words.Wanted.{Wanted}
 use Rattle.exec_options.specs.declared.words.Wanted.TheVariants as wanted
 use Rattle.exec_options.specs.declared.options.Subcommand.{Subcommand}
 use Rattle.exec_options.specs.declared.options.JournalLocation.{JournalLocation}
-use Rattle.exec_options.specs.declared.options.JournalLocation.TheVariants.{Folder, Memory}
+use Rattle.exec_options.specs.declared.options.JournalLocation.TheVariants.{Directory, Memory}
 use Rattle.exec_options.specs.App.{default_id, default_orphans, default_path, default_root, default_tidy_at, default_timeout, ocfexec_app}
 use Rattle.exec_options.specs.Subcommands.{is_query, once_word, subcommand_word}
 
 -- the directory of a journal; `None` for one in memory
-abbrev pub folder_of : JournalLocation → Option Text
-folder_of (Folder dir) = Some dir.now
-folder_of Memory = None
+abbrev pub directory_of : JournalLocation → Option Text
+directory_of (Directory dir) = Some dir.now
+directory_of Memory = None
 
 -- the text of a flag that is given
 abbrev pub is_true_text : Option Text → Bool
@@ -27,26 +27,26 @@ is_true_text (Some t) = bytes_eq t (codes "true")
 is_true_text None = false
 
 -- the directory of the package's journal
-abbrev pub package_folder : Text
-package_folder = codes "/var/lib/ocfexec"
+abbrev pub package_directory : Text
+package_directory = codes "/var/lib/ocfexec"
 
 -- the directory that is read if no journal is named: the one that the environment names, or the package's; a subcommand that starts
 -- agents has none
-abbrev pub default_folder : Subcommand → Option Text → Option Text
-default_folder s named = if is_query s then Some (unwrap_or named package_folder) else None
+abbrev pub default_directory : Subcommand → Option Text → Option Text
+default_directory s named = if is_query s then Some (unwrap_or named package_directory) else None
 
 -- where the journal is kept: a directory, or `Some None` for memory, from the text of `--journal` and whether `--memory` is given; `None`
 -- if both are given, or neither and there is no default
 abbrev pub location_of : Option Text → Option Text → Bool → Option (Option Text)
-location_of default (Some folder) true = None
-location_of default (Some folder) false = Some (Some folder)
+location_of default (Some directory) true = None
+location_of default (Some directory) false = Some (Some directory)
 location_of default None true = Some None
 location_of default None false = option_map Some default
 
 -- where the journal is kept by the rows of a subcommand, if the environment names the directory `named`
 abbrev pub location_in : Subcommand → Option Text → List Row → Option (Option Text)
 location_in s named rows =
-    location_of (default_folder s named) (first_of (codes "journal") rows) (is_true_text (first_of (codes "memory") rows))
+    location_of (default_directory s named) (first_of (codes "journal") rows) (is_true_text (first_of (codes "memory") rows))
 
 -- the texts of `--tidy-at`, `--orphans`, `--root` and `--timeout`, or their defaults
 abbrev pub tidy_text : List Row → Text
@@ -86,7 +86,7 @@ is_absolute [] = false
 
 -- the journal of these options is where the rows of the subcommand say, if the environment names the directory `named`
 abbrev pub IsPlacedAt : Option Text → List Row → Options → Type 0
-IsPlacedAt named rows o = location_in o.subcommand named rows ≡ Some (folder_of o.journal)
+IsPlacedAt named rows o = location_in o.subcommand named rows ≡ Some (directory_of o.journal)
 
 -- the other options are those of a subcommand's rows, with the defaults for absent ones
 pub record IsReadFrom (rows : List Row) (o : Options) : Type 0 where

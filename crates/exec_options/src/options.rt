@@ -55,7 +55,7 @@ impl Subcommand {
 #[derive(Clone, Copy, Debug, PartialEq, Eq)]
 pub enum JournalLocation<'a> {
     /// In the files of this directory.
-    Folder(&'a str),
+    Directory(&'a str),
     /// In memory: it is lost when the program ends.
     Memory,
 }

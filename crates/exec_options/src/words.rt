@@ -3,7 +3,7 @@ ghost use Rattle.std.specs.Prelude.{◌≡◌, ℕ, [], true, map, string_bytes,
 ghost use Rattle.clap.specs.Words.{all_of, first_of, rows_of, found_of, fault_of};
 ghost use Rattle.exec_options.specs.App.{ocfexec_app};
 ghost use Rattle.ocf_types.specs.Limits.{part_limit};
-ghost use Rattle.exec_options.specs.Words.{folder_of, is_absolute, is_true_text, longest_wait, orphans_text, location_in, default_folder, root_text, tidy_text, timeout_text};
+ghost use Rattle.exec_options.specs.Words.{directory_of, is_absolute, is_true_text, longest_wait, orphans_text, location_in, default_directory, root_text, tidy_text, timeout_text};
 ghost use Rattle.exec_options.specs.Words.{AsksFor, IsJournalWanted, IsNumberTo, IsOnceWanted, IsReadFrom, IsSince, IsTimeout};
 ghost use Rattle.exec_options.specs.Faults.{HasFlaw, HasOnceFlaw, HasPlacedFlaw, IsFault, OrphansFlaw, RootFlaw, TidyAtFlaw, TimeoutFlaw};
 
@@ -43,9 +43,9 @@ fn is_set(matches: &ArgMatches<'_>, id: &str) -> bool
 }
 
 // The directory to read if no journal is named; a subcommand that starts agents has none.
-fn default_folder<'a>(subcommand: Subcommand, named: Option<&'a str>) -> Option<&'a str>
+fn default_directory<'a>(subcommand: Subcommand, named: Option<&'a str>) -> Option<&'a str>
     ensures { option_map (λ s. s.now) result
-        ≡ default_folder subcommand (option_map (λ s. s.now) named.entry) }
+        ≡ default_directory subcommand (option_map (λ s. s.now) named.entry) }
 {
     if subcommand.is_query() {
         Some(named.unwrap_or(JOURNAL))
@@ -60,14 +60,14 @@ fn journal_location<'a>(
     named: Option<&'a str>,
     matches: &ArgMatches<'a>,
 ) -> Option<JournalLocation<'a>>
-    ensures { option_map folder_of result
+    ensures { option_map directory_of result
         ≡ location_in subcommand (option_map (λ s. s.now) named.entry) (rows_of (found_of matches.now)) }
 {
     match (text_of(matches, "journal"), is_set(matches, "memory")) {
-        (Some(folder), false) => Some(JournalLocation::Folder(folder)),
+        (Some(directory), false) => Some(JournalLocation::Directory(directory)),
         (None, true) => Some(JournalLocation::Memory),
-        (None, false) => match default_folder(subcommand, named) {
-            Some(folder) => Some(JournalLocation::Folder(folder)),
+        (None, false) => match default_directory(subcommand, named) {
+            Some(directory) => Some(JournalLocation::Directory(directory)),
             None => None,
         },
         (Some(_), true) => None,

@@ -73,9 +73,9 @@ fn holder_in(text: &str, boot: &str) -> Option<Holder> {
 }
 
 /// The record that the last executor left in this directory, if that ran in this boot.
-pub fn read_holder(rt: &HostRuntime, folder: &str) -> Option<Holder> {
+pub fn read_holder(rt: &HostRuntime, directory: &str) -> Option<Holder> {
     let (mut room, mut name) = ([0u8; LIMIT], [0u8; LIMIT]);
-    let path = format!(in rt.alloc(); "{folder}/executor").ok()?;
+    let path = format!(in rt.alloc(); "{directory}/executor").ok()?;
     holder_in(
         text_in(rt, path.as_str(), &mut room)?,
         boot_id(rt, &mut name)?,
@@ -83,15 +83,15 @@ pub fn read_holder(rt: &HostRuntime, folder: &str) -> Option<Holder> {
 }
 
 // Writes the record to a new file beside the old one, and renames it over the old one.
-fn put(rt: &HostRuntime, folder: &str, moment: u64) -> io::Result<()> {
+fn put(rt: &HostRuntime, directory: &str, moment: u64) -> io::Result<()> {
     let mut room = [0u8; LIMIT];
     let (Some(boot), Some(uptime)) = (boot_id(rt, &mut room), uptime(rt)) else {
         return Err(io::Error::from(ErrorKind::NotFound));
     };
     let session = rt.own()?.session;
     let alloc = rt.alloc();
-    let path = format!(in alloc; "{folder}/executor")?;
-    let new = format!(in alloc; "{folder}/executor.new")?;
+    let path = format!(in alloc; "{directory}/executor")?;
+    let new = format!(in alloc; "{directory}/executor.new")?;
     let text = format!(in alloc; "{boot} {session} {moment} {uptime}\n")?;
     let mut options = OpenOptions::new();
     options
@@ -104,10 +104,10 @@ fn put(rt: &HostRuntime, folder: &str, moment: u64) -> io::Result<()> {
 }
 
 /// Records this executor, whose clock shows this moment. A failure is reported on standard error.
-pub fn leave_word(system: &System<'_>, folder: &str, moment: u64) {
-    if let Err(error) = put(system.host(), folder, moment) {
+pub fn leave_word(system: &System<'_>, directory: &str, moment: u64) {
+    if let Err(error) = put(system.host(), directory, moment) {
         let _ = system.eprintln(format_args!(
-            "ocfexec: {folder}/executor cannot be written, so the next executor may miss processes that this one leaves: {error}"
+            "ocfexec: {directory}/executor cannot be written, so the next executor may miss processes that this one leaves: {error}"
         ));
     }
 }

@@ -26,7 +26,7 @@ const PAUSE: u64 = 10;
 #[derive(Clone, Copy)]
 pub struct Orphans<'a> {
     /// The directory of the journal.
-    pub folder: &'a str,
+    pub directory: &'a str,
     /// How long it waits for them at most, in milliseconds.
     pub limit: u64,
     /// Whether they are left alone after that, instead of ended.
@@ -215,7 +215,7 @@ fn await_left(
 ) -> io::Result<Vec<Left>> {
     let rt = system.host();
     let alloc = rt.alloc();
-    let holder = read_holder(rt, how.folder);
+    let holder = read_holder(rt, how.directory);
     let times = Times::new(rt, holder, how.limit);
     let actions = all_interrupted(alloc, site, state, &times)?;
     if actions.is_empty() {

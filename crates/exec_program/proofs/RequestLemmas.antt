@@ -2,16 +2,16 @@
 use Rattle.std.proofs.Common.{◌≡◌, ◌∙◌, ⊎_elim, ℕ, List, Option, Some, None, ap, inl, inr, refl, subst, sym, Bor}
 use Rattle.ocf_types.specs.State.{State}
 use Rattle.disk_model.specs.View.{View}
-use Rattle.exec_options.specs.Words.{AsksFor, folder_of}
+use Rattle.exec_options.specs.Words.{AsksFor, directory_of}
 use Rattle.exec_options.specs.declared.once.OnceOptions.{OnceOptions}
 use Rattle.exec_options.specs.declared.options.JournalLocation.{JournalLocation}
-use Rattle.exec_options.specs.declared.options.JournalLocation.TheVariants.{Folder, Memory}
+use Rattle.exec_options.specs.declared.options.JournalLocation.TheVariants.{Directory, Memory}
 use Rattle.exec_options.specs.declared.options.Options.{Options}
 use Rattle.exec_options.specs.declared.options.Subcommand.{Subcommand}
 use Rattle.exec_options.specs.declared.words.Wanted.{Wanted}
 use Rattle.exec_options.specs.declared.words.Wanted.TheVariants as wanted
 use Rattle.exec_program.specs.Asked.{Asked}
-use Rattle.exec_program.specs.Requests.{Allows, IsAskedFor, IsFoundIn, IsFoundOn, IsOfFolder, IsOfRun, IsOfSubcommand, Request}
+use Rattle.exec_program.specs.Requests.{Allows, IsAskedFor, IsFoundIn, IsFoundOn, IsOfDirectory, IsOfRun, IsOfSubcommand, Request}
 use Rattle.exec_program.specs.Requests.{AskSite, AwaitOrphans, LeaveWord, MakeAgents, OpenFiles, OpenLog, OpenReader, OpenWriter}
 use Rattle.exec_program.specs.Requests.{PrintText, RunOnce, ShowJournal, WatchPaths, WriteLine}
 
@@ -36,12 +36,12 @@ allows_as asked view may o s t is allows = subst (λ (x : Subcommand). Allows ma
 
 -- the requests about the journal's directory at some of these states are requests about it at all of them
 more_found : {L : Type 0} (found more : State → Type 0) (o : Options)
-    → ((folder : List ℕ) (s : State) → folder_of o.journal ≡ Some folder → found s → more s)
-    → (r : Request L) → IsOfFolder found o r → IsOfFolder more o r
-more_found found more o holds (AwaitOrphans folder limit leave site state) h = (h.0, h.1, h.2, h.3, holds folder state h.0 h.4)
-more_found found more o holds (OpenFiles given folder) h = h
-more_found found more o holds (LeaveWord folder) h = h
-more_found found more o holds (OpenLog file folder) h = absurd h
+    → ((directory : List ℕ) (s : State) → directory_of o.journal ≡ Some directory → found s → more s)
+    → (r : Request L) → IsOfDirectory found o r → IsOfDirectory more o r
+more_found found more o holds (AwaitOrphans directory limit leave site state) h = (h.0, h.1, h.2, h.3, holds directory state h.0 h.4)
+more_found found more o holds (OpenFiles given directory) h = h
+more_found found more o holds (LeaveWord directory) h = h
+more_found found more o holds (OpenLog file directory) h = absurd h
 more_found found more o holds (MakeAgents log book) h = absurd h
 more_found found more o holds (AskSite site) h = absurd h
 more_found found more o holds OpenReader h = absurd h
@@ -54,25 +54,25 @@ more_found found more o holds (PrintText text) h = absurd h
 
 -- a session that may ask for more may ask for less
 more_in_run : {F L A S R W H : Type 0} (asked : Asked F L A S R W H) (found more : State → Type 0) (o : Options)
-    → ((folder : List ℕ) (s : State) → folder_of o.journal ≡ Some folder → found s → more s)
+    → ((directory : List ℕ) (s : State) → directory_of o.journal ≡ Some directory → found s → more s)
     → (r : Request L) → IsOfRun found asked o r → IsOfRun more asked o r
 more_in_run asked found more o holds r = ⊎_elim (λ h. inl (more_found found more o holds r h)) (λ h. inr h)
 
 allows_less : {F L A S R W H : Type 0} (asked : Asked F L A S R W H) (may : Request L → Type 0) (found more : State → Type 0) (o : Options)
-    → ((folder : List ℕ) (s : State) → folder_of o.journal ≡ Some folder → found s → more s)
+    → ((directory : List ℕ) (s : State) → directory_of o.journal ≡ Some directory → found s → more s)
     → Allows may (IsOfRun more asked o) → Allows may (IsOfRun found asked o)
 allows_less asked may found more o holds allows r h = allows r (more_in_run asked found more o holds r h)
 
 -- a session over files that were asked for, and one in memory, which has no directory
 pub allows_on_files : {F L A S R W H : Type 0} (asked : Asked F L A S R W H) (view : F → View) (may : Request L → Type 0) (o : Options)
-    (folder : Bor (List ℕ)) (disk : F) → o.journal ≡ Folder folder → asked.files folder.now o.any_owner disk
+    (directory : Bor (List ℕ)) (disk : F) → o.journal ≡ Directory directory → asked.files directory.now o.any_owner disk
     → Allows may (IsOfRun (IsFoundIn asked view o) asked o) → Allows may (IsOfRun (IsFoundOn view disk) asked o)
-allows_on_files asked view may o folder disk is given =
-    allows_less asked may (IsFoundOn view disk) (IsFoundIn asked view o) o (λ d s names found. (folder.now, (disk, ap folder_of is, given, found)))
+allows_on_files asked view may o directory disk is given =
+    allows_less asked may (IsFoundOn view disk) (IsFoundIn asked view o) o (λ d s names found. (directory.now, (disk, ap directory_of is, given, found)))
 
 pub allows_in_memory : {F L A S R W H D : Type 0} (asked : Asked F L A S R W H) (view : F → View) (view : D → View) (may : Request L → Type 0)
     (o : Options) (disk : D) → o.journal ≡ Memory
     → Allows may (IsOfRun (IsFoundIn asked view o) asked o) → Allows may (IsOfRun (IsFoundOn view disk) asked o)
 allows_in_memory asked view view may o disk is =
     allows_less asked may (IsFoundOn view disk) (IsFoundIn asked view o) o
-    (λ d s names found. let none : None ≡ Some d = sym (ap folder_of is) ∙ names in cc)
+    (λ d s names found. let none : None ≡ Some d = sym (ap directory_of is) ∙ names in cc)

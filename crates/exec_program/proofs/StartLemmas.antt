@@ -6,7 +6,7 @@ use Rattle.executor.specs.declared.opening.OpenError.{OpenError}
 use Rattle.executor.specs.declared.opening.OpenError.TheVariants as opening
 use Rattle.executor.specs.declared.report.Report.{Report}
 use Rattle.exec_options.specs.Faults.{IsFault}
-use Rattle.exec_options.specs.Words.{AsksFor, Gives, GivesOnce, folder_of}
+use Rattle.exec_options.specs.Words.{AsksFor, Gives, GivesOnce, directory_of}
 use Rattle.exec_options.specs.declared.once.OnceOptions.{OnceOptions}
 use Rattle.exec_options.specs.declared.words.Wanted.{Wanted}
 use Rattle.exec_options.specs.declared.words.Wanted.TheVariants as wanted
@@ -21,7 +21,7 @@ use Rattle.exec_session.specs.Answers.{Source}
 use Rattle.exec_session.specs.Rules.{Rules}
 use Rattle.exec_session.specs.SessionViews.{SessionPosition, session_position, session_view}
 use Rattle.exec_session.specs.Ends.{Ended, EndsAs}
-use Rattle.journal_folder.specs.Ends.{IsFolderEnd}
+use Rattle.journal_directory.specs.Ends.{IsDirectoryEnd}
 use Rattle.exec_program.specs.Starts.{EndsFor, IsEndOf, IsWrittenAs, StartEndsFor, opening_fault, with_status}
 
 -- a session does not end because of its arguments
@@ -122,9 +122,9 @@ journal_ends named words o (Err fault.ReplyMemory) gives ends = (o, gives)
 journal_ends named words o (Err fault.ChildrenIgnored) gives ends = (o, gives)
 
 -- arguments that ask for a journal in the files of a directory
-pub folder_ends : {T : Type 0} (named : Option (List ℕ)) (words : List (List ℕ)) (o : Options) (r : Result T Fault) → Gives named words o
-    → is_some (folder_of o.journal) ≡ true → IsFolderEnd r → EndsFor named words r
-folder_ends named words o r gives is_in =
+pub directory_ends : {T : Type 0} (named : Option (List ℕ)) (words : List (List ℕ)) (o : Options) (r : Result T Fault) → Gives named words o
+    → is_some (directory_of o.journal) ≡ true → IsDirectoryEnd r → EndsFor named words r
+directory_ends named words o r gives is_in =
     ⊎_elim (journal_ends named words o r gives)
     (⊎_elim (λ is. subst (λ x. EndsFor named words x) (sym is) (o, gives, is_in)) (λ is. subst (λ x. EndsFor named words x) (sym is) (o, gives, is_in)))
 
@@ -133,7 +133,7 @@ pub options_end : {T : Type 0} (home : Option (List ℕ)) (words : List (List �
     → IsEndOf o r → EndsFor home words r
 options_end {T} home words o r gives =
     ⊎_elim (journal_ends home words o r gives)
-    (⊎_elim (λ is. subst (λ x. EndsFor home words x) (sym is.0) (o, gives, is.1)) (λ is. folder_ends home words o r gives is.0 is.1))
+    (⊎_elim (λ is. subst (λ x. EndsFor home words x) (sym is.0) (o, gives, is.1)) (λ is. directory_ends home words o r gives is.0 is.1))
 
 -- why the program ends as it does with these arguments: they ask for a journal, for one action by itself, or for nothing
 pub starts_journal : (home : Option (List ℕ)) (words : List (List ℕ)) (o : Options) (r : Result (Unit {0}) Fault) (ended : Result ℕ Fault)
@@ -164,8 +164,8 @@ starts_asked_once home words w o ended asks is =
 pub ends_on_disk : {T : Type 0} (o : Options) (r : Result T Fault) → IsRunEnd r → IsEndOf o r
 ends_on_disk o r ends = inl ends
 
-pub ends_in_folder : {T : Type 0} (o : Options) (r : Result T Fault) → is_some (folder_of o.journal) ≡ true → IsFolderEnd r → IsEndOf o r
-ends_in_folder o r is_in ends = inr (inr (is_in, ends))
+pub ends_in_directory : {T : Type 0} (o : Options) (r : Result T Fault) → is_some (directory_of o.journal) ≡ true → IsDirectoryEnd r → IsEndOf o r
+ends_in_directory o r is_in ends = inr (inr (is_in, ends))
 
 pub ends_without_log : {T : Type 0} (o : Options) (f : Fault) → f ≡ fault.Log → (is_some o.log || is_some o.logs) ≡ true → IsEndOf {T = T} o (Err f)
 ends_without_log o f is named = inr (inl (ap Err is, named))

@@ -11,7 +11,7 @@ use Rattle.exec_options.specs.declared.fault.WordsFault.{WordsFault}
 use Rattle.exec_options.specs.declared.fault.WordsFault.TheVariants as words_fault
 use Rattle.exec_options.specs.declared.once.OnceOptions.{OnceOptions}
 use Rattle.exec_options.specs.declared.options.JournalLocation.{JournalLocation}
-use Rattle.exec_options.specs.declared.options.JournalLocation.TheVariants.{Folder, Memory}
+use Rattle.exec_options.specs.declared.options.JournalLocation.TheVariants.{Directory, Memory}
 use Rattle.exec_options.specs.declared.options.Options.{Options}
 use Rattle.exec_options.specs.declared.options.Subcommand.{Subcommand}
 use Rattle.exec_options.specs.declared.options.Subcommand.TheVariants as subcommand
@@ -25,16 +25,16 @@ use Rattle.exec_program.specs.Starts.{IsWrittenAs, with_status}
 
 -- a view of a journal shows what the options ask for, of that directory or of memory, and ends as that did
 abbrev pub Looks : {F L A S R W H : Type 0} → Asked F L A S R W H → Options → JournalLocation → Result Unit Fault → Type 0
-Looks asked o (Folder folder) ended = asked.shown o (Some folder.now) ended
+Looks asked o (Directory directory) ended = asked.shown o (Some directory.now) ended
 Looks asked o Memory ended = asked.shown o None ended
 
 -- How the program ends in `run` and `serve`, with agents that write to this log: over the files of the directory, which may not be there,
 -- or over a fresh disk in memory. Over a disk it ends for want of memory only where the allocator refuses growths.
 abbrev pub RunsAt : {F L A S R W H : Type 0} → Bool → Asked F L A S R W H → (A → ChildrenView) → (S → Source)
     → (R → Option (List ℕ)) → (W → Option (List ℕ)) → (F → View) → Options → L → JournalLocation → Result Unit Fault → Type 0
-RunsAt {F} refuses asked tend gives left contents view o log (Folder folder) ended =
-    ((disk : F) × asked.files folder.now o.any_owner disk × RunsOn asked tend gives left contents view o log disk ended × IfErr ended (HasCause refuses))
-    ⊎ ((f : Fault) × asked.no_files folder.now o.any_owner f × (ended ≡ Err f))
+RunsAt {F} refuses asked tend gives left contents view o log (Directory directory) ended =
+    ((disk : F) × asked.files directory.now o.any_owner disk × RunsOn asked tend gives left contents view o log disk ended × IfErr ended (HasCause refuses))
+    ⊎ ((f : Fault) × asked.no_files directory.now o.any_owner f × (ended ≡ Err f))
 RunsAt refuses asked tend gives left contents view o log Memory ended =
     (disk : RamDisk Global) × IsFresh (record { a = []; b = [] }) disk × RunsOn asked tend gives left contents view_of o log disk ended
     × IfErr ended (HasCause refuses)

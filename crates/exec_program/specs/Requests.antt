@@ -7,7 +7,7 @@ use Rattle.disk_model.specs.View.{View}
 use Rattle.exec_journal.specs.Opening.{OpensAt}
 use Rattle.exec_journal.specs.Position.{Position}
 use Rattle.exec_options.specs.Faults.{IsFault}
-use Rattle.exec_options.specs.Words.{Gives, GivesOnce, folder_of}
+use Rattle.exec_options.specs.Words.{Gives, GivesOnce, directory_of}
 use Rattle.exec_options.specs.declared.fault.WordsFault.{WordsFault}
 use Rattle.exec_options.specs.declared.fault.WordsFault.TheVariants as words_fault
 use Rattle.exec_options.specs.declared.once.OnceOptions.{OnceOptions}
@@ -16,7 +16,7 @@ use Rattle.exec_options.specs.declared.options.Subcommand.{Subcommand}
 use Rattle.exec_options.specs.declared.options.Subcommand.TheVariants as subcommand
 use Rattle.exec_program.specs.Asked.{Asked}
 use Rattle.exec_program.specs.Limits.{book_room}
-use Rattle.exec_program.specs.Runs.{disk_line, served_folder}
+use Rattle.exec_program.specs.Runs.{disk_line, served_directory}
 use Rattle.exec_program.specs.Starts.{site_of}
 
 -- A request to open, spawn, await, read, write or show something, with its arguments. Texts are bytes, times are milliseconds.
@@ -51,19 +51,19 @@ IsFoundOn {D} view disk state = (p : Position) × ((new : D) × OpensAt p state 
 -- the same on files that were asked for, of the directory that the options name
 abbrev pub IsFoundIn : {F L A S R W H : Type 0} → Asked F L A S R W H → (F → View) → Options → State → Type 0
 IsFoundIn {F} asked view o state =
-    (folder : List ℕ) × ((disk : F) × (folder_of o.journal ≡ Some folder) × asked.files folder o.any_owner disk × IsFoundOn view disk state)
+    (directory : List ℕ) × ((disk : F) × (directory_of o.journal ≡ Some directory) × asked.files directory o.any_owner disk × IsFoundOn view disk state)
 
 -- the requests of a session about the directory of its journal, which opens at these states
-abbrev pub IsOfFolder : {L : Type 0} → (State → Type 0) → Options → Request L → Type 0
-IsOfFolder found o (OpenFiles given folder) = (given ≡ o) × (folder_of o.journal ≡ Some folder)
-IsOfFolder found o (AwaitOrphans folder limit leave site state) =
-    (folder_of o.journal ≡ Some folder) × (limit ≡ o.orphans) × (leave ≡ o.leave_orphans) × (site ≡ site_of o) × found state
-IsOfFolder found o (LeaveWord folder) = folder_of o.journal ≡ Some folder
-IsOfFolder found o _ = ⊥
+abbrev pub IsOfDirectory : {L : Type 0} → (State → Type 0) → Options → Request L → Type 0
+IsOfDirectory found o (OpenFiles given directory) = (given ≡ o) × (directory_of o.journal ≡ Some directory)
+IsOfDirectory found o (AwaitOrphans directory limit leave site state) =
+    (directory_of o.journal ≡ Some directory) × (limit ≡ o.orphans) × (leave ≡ o.leave_orphans) × (site ≡ site_of o) × found state
+IsOfDirectory found o (LeaveWord directory) = directory_of o.journal ≡ Some directory
+IsOfDirectory found o _ = ⊥
 
 -- its requests about agents, which write to the log that the options name
 abbrev pub IsOfAgents : {F L A S R W H : Type 0} → Asked F L A S R W H → Options → Request L → Type 0
-IsOfAgents asked o (OpenLog file folder) = (file ≡ option_map (λ s. s.now) o.log) × (folder ≡ option_map (λ s. s.now) o.logs)
+IsOfAgents asked o (OpenLog file directory) = (file ≡ option_map (λ s. s.now) o.log) × (directory ≡ option_map (λ s. s.now) o.logs)
 IsOfAgents asked o (MakeAgents log book) =
     asked.log (option_map (λ s. s.now) o.log) (option_map (λ s. s.now) o.logs) log × (book ≡ book_room)
 IsOfAgents asked o (AskSite site) = site ≡ site_of o
@@ -72,19 +72,19 @@ IsOfAgents asked o _ = ⊥
 -- its requests about the standard streams: a line by itself only where the served journal is gone
 abbrev pub IsOfStreams : {F L A S R W H : Type 0} → Asked F L A S R W H → Options → Request L → Type 0
 IsOfStreams asked o OpenReader = ⊤
-IsOfStreams asked o (OpenWriter served) = served ≡ served_folder o
-IsOfStreams asked o (WatchPaths served) = served ≡ served_folder o
-IsOfStreams {H = H} asked o (WriteLine line) = (line ≡ disk_line) × (is_some (served_folder o) ≡ true)
-    × ((watch : H) × asked.watch (served_folder o) watch × asked.moved watch)
+IsOfStreams asked o (OpenWriter served) = served ≡ served_directory o
+IsOfStreams asked o (WatchPaths served) = served ≡ served_directory o
+IsOfStreams {H = H} asked o (WriteLine line) = (line ≡ disk_line) × (is_some (served_directory o) ≡ true)
+    × ((watch : H) × asked.watch (served_directory o) watch × asked.moved watch)
 IsOfStreams asked o _ = ⊥
 
 -- the requests of a session
 abbrev pub IsOfRun : {F L A S R W H : Type 0} → (State → Type 0) → Asked F L A S R W H → Options → Request L → Type 0
-IsOfRun found asked o r = IsOfFolder found o r ⊎ (IsOfAgents asked o r ⊎ IsOfStreams asked o r)
+IsOfRun found asked o r = IsOfDirectory found o r ⊎ (IsOfAgents asked o r ⊎ IsOfStreams asked o r)
 
 -- the request of a view of a journal
 abbrev pub IsOfLook : {L : Type 0} → Options → Request L → Type 0
-IsOfLook o (ShowJournal given location) = (given ≡ o) × (folder_of o.journal ≡ location)
+IsOfLook o (ShowJournal given location) = (given ≡ o) × (directory_of o.journal ≡ location)
 IsOfLook o _ = ⊥
 
 -- the requests of a subcommand, by these options

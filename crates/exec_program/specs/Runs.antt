@@ -12,7 +12,7 @@ use Rattle.exec_commands.specs.declared.notice.NoticeForm.{NoticeForm}
 use Rattle.exec_commands.specs.declared.notice.NoticeForm.TheVariants.{Short, Timed}
 use Rattle.exec_options.specs.declared.texts.TheConstants.{VERSION}
 use Rattle.exec_options.specs.declared.options.JournalLocation.{JournalLocation}
-use Rattle.exec_options.specs.declared.options.JournalLocation.TheVariants.{Folder, Memory}
+use Rattle.exec_options.specs.declared.options.JournalLocation.TheVariants.{Directory, Memory}
 use Rattle.exec_options.specs.declared.options.Options.{Options}
 use Rattle.exec_options.specs.declared.options.Subcommand.{Subcommand}
 use Rattle.exec_options.specs.declared.options.Subcommand.TheVariants as subcommand
@@ -37,12 +37,12 @@ way_of _ = mode.Run
 
 -- the directory whose journal is served; long times may pass without a call of its device
 abbrev pub served_at : Subcommand → JournalLocation → Option (List ℕ)
-served_at subcommand.Serve (Folder folder) = Some folder.now
+served_at subcommand.Serve (Directory directory) = Some directory.now
 served_at _ _ = None
 
 -- the same, by the options
-abbrev pub served_folder : Options → Option (List ℕ)
-served_folder o = served_at o.subcommand o.journal
+abbrev pub served_directory : Options → Option (List ℕ)
+served_directory o = served_at o.subcommand o.journal
 
 -- what a session in `serve` says of itself: the version, the directory of its journal, if it has one, and the processes that live on from
 -- interrupted actions
@@ -55,12 +55,12 @@ pub record ServiceView : Type 0 where
 abbrev pub service_in : NoticeForm → Option ServiceView
 service_in Short = None
 service_in (Timed s) =
-    Some (record { version = s.version.now; journal = option_map (λ folder. folder.now) s.journal; left = s.left.now })
+    Some (record { version = s.version.now; journal = option_map (λ directory. directory.now) s.journal; left = s.left.now })
 
 -- A client of `serve` is sent the program's version, the directory as the options name it, and the processes that live on.
 abbrev pub service_of : Options → List Left → Mode → Option ServiceView
 service_of o left mode.Run = None
-service_of o left mode.Serve = Some (record { version = VERSION.now; journal = served_folder o; left = left })
+service_of o left mode.Serve = Some (record { version = VERSION.now; journal = served_directory o; left = left })
 
 -- a session keeps to these options, where these processes live on
 pub record IsHeldTo (o : Options) (left : List Left) (rules : Rules) : Type 0 where
@@ -71,7 +71,7 @@ pub record IsHeldTo (o : Options) (left : List Left) (rules : Rules) : Type 0 wh
 
 -- the executor of a journal is recorded in a directory
 abbrev pub LeavesWord : {F L A S R W H : Type 0} → Asked F L A S R W H → JournalLocation → Type 0
-LeavesWord asked (Folder folder) = asked.word folder.now
+LeavesWord asked (Directory directory) = asked.word directory.now
 LeavesWord asked Memory = ⊤
 
 -- the last line of a session in `serve` that its disk ends
@@ -82,7 +82,7 @@ disk_line = codes "{\"end\":\"disk\"}\n"
 abbrev pub EndsBy : {F L A S R W H : Type 0} → Asked F L A S R W H → Options → H → Result Unit Fault → Result Unit Fault → Type 0
 EndsBy asked o watch ran ended =
     (ended ≡ ran)
-    ⊎ ((ran ≡ Err fault.InputOrOutput) × (ended ≡ Err fault.Disk) × (is_some (served_folder o) ≡ true) × asked.moved watch × asked.line disk_line)
+    ⊎ ((ran ≡ Err fault.InputOrOutput) × (ended ≡ Err fault.Disk) × (is_some (served_directory o) ≡ true) × asked.moved watch × asked.line disk_line)
 
 -- What a session is given before its executor is opened: its agents, which write to this log, with a book of the capacity that a turn
 -- needs; the wait for what is left, which takes its disk from one state to another; and the time of the opening.
@@ -119,8 +119,8 @@ pub record Runs {F L A S R W H D : Type 0} (asked : Asked F L A S R W H) (tend :
   pub of_site : asked.source (site_of o) source
   pub word : LeavesWord asked o.journal
   pub reads : asked.reader reader
-  pub writes : asked.writer (served_folder o) writer
-  pub watches : asked.watch (served_folder o) watch
+  pub writes : asked.writer (served_directory o) writer
+  pub watches : asked.watch (served_directory o) watch
   pub held : IsHeldTo o lives rules
   pub runs : Ended view tend (gives source) rules report
       (at_of executor (record { left = left reader; client_view = record { opened = executor; reported = []; written = contents writer }; events = [] }))

@@ -2,7 +2,7 @@
 use Rattle.std.specs.Prelude.{◌≡◌, ◌⊎◌, ◌||◌, ℕ, ⊤, true, List, Option, is_some, option_map, Result, Ok, Err}
 use Rattle.ocf_env.specs.Locations.{SiteView}
 use Rattle.exec_options.specs.Faults.{AsksForText, IsFault, IsMisused}
-use Rattle.exec_options.specs.Words.{Gives, GivesOnce, folder_of}
+use Rattle.exec_options.specs.Words.{Gives, GivesOnce, directory_of}
 use Rattle.exec_options.specs.declared.fault.WordsFault.{WordsFault}
 use Rattle.exec_options.specs.declared.fault.WordsFault.TheVariants as words_fault
 use Rattle.exec_options.specs.declared.once.OnceOptions.{OnceOptions}
@@ -12,7 +12,7 @@ use Rattle.exec_faults.specs.declared.fault.Fault.{Fault}
 use Rattle.exec_faults.specs.declared.fault.Fault.TheVariants as fault
 use Rattle.executor.specs.declared.opening.OpenError.{OpenError}
 use Rattle.executor.specs.declared.opening.OpenError.TheVariants as opening
-use Rattle.journal_folder.specs.Ends.{IsFolderEnd}
+use Rattle.journal_directory.specs.Ends.{IsDirectoryEnd}
 
 -- the exit status: the one that was asked for, or that of the fault
 abbrev pub status_of_end : Result ℕ Fault → ℕ
@@ -58,8 +58,8 @@ abbrev pub AsksForJournal : Option (List ℕ) → List (List ℕ) → Type 0
 AsksForJournal named words = (o : Options) × Gives named words o
 
 -- the arguments ask for a journal in the files of a directory
-abbrev pub IsInFolder : Option (List ℕ) → List (List ℕ) → Type 0
-IsInFolder named words = (o : Options) × Gives named words o × (is_some (folder_of o.journal) ≡ true)
+abbrev pub IsInDirectory : Option (List ℕ) → List (List ℕ) → Type 0
+IsInDirectory named words = (o : Options) × Gives named words o × (is_some (directory_of o.journal) ≡ true)
 
 -- the arguments name a file or a directory for the output of agents
 abbrev pub AsksForLog : Option (List ℕ) → List (List ℕ) → Type 0
@@ -70,7 +70,7 @@ AsksForLog named words = (o : Options) × Gives named words o × ((is_some o.log
 abbrev pub IsEndOf : {T : Type 0} → Options → Result T Fault → Type 0
 IsEndOf o ended =
     IsRunEnd ended
-    ⊎ (((ended ≡ Err fault.Log) × ((is_some o.log || is_some o.logs) ≡ true)) ⊎ ((is_some (folder_of o.journal) ≡ true) × IsFolderEnd ended))
+    ⊎ (((ended ≡ Err fault.Log) × ((is_some o.log || is_some o.logs) ≡ true)) ⊎ ((is_some (directory_of o.journal) ≡ true) × IsDirectoryEnd ended))
 
 -- why the program ends like this: the arguments ask for a journal, or for nothing
 abbrev pub EndsFor : {T : Type 0} → Option (List ℕ) → List (List ℕ) → Result T Fault → Type 0
@@ -83,8 +83,8 @@ EndsFor named words (Err fault.Orphans) = IsFault named words words_fault.Orphan
 EndsFor named words (Err fault.NotText) = ⊥
 EndsFor named words (Err fault.Memory) = ⊤
 EndsFor named words (Err fault.Log) = AsksForLog named words
-EndsFor named words (Err fault.NotOpened) = IsInFolder named words
-EndsFor named words (Err fault.NoJournal) = IsInFolder named words
+EndsFor named words (Err fault.NotOpened) = IsInDirectory named words
+EndsFor named words (Err fault.NoJournal) = IsInDirectory named words
 EndsFor named words (Err fault.InputOrOutput) = AsksForText named words ⊎ AsksForJournal named words
 EndsFor named words (Err _) = AsksForJournal named words
 

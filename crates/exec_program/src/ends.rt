@@ -2,11 +2,11 @@
 ghost use Rattle.std.specs.Prelude.{◌≡◌, IfErr};
 ghost use Rattle.exec_faults.specs.Faults.{HasCause, IsRunEnd};
 ghost use Rattle.exec_program.specs.Requests.{Allows, IsOfStreams};
-ghost use Rattle.exec_program.specs.Runs.{EndsBy, served_folder};
+ghost use Rattle.exec_program.specs.Runs.{EndsBy, served_directory};
 ghost use Rattle.exec_program.specs.Starts.{opening_fault};
 
 use crate::host::Host;
-use crate::options::served_folder;
+use crate::options::served_directory;
 use exec_faults::Fault;
 use exec_options::Options;
 use executor::OpenError;
@@ -54,14 +54,14 @@ pub fn ended_over<H: Host>(
     watch: &H::Watch,
     ended: Result<(), Fault>,
 ) -> Result<(), Fault>
-    requires watched { (H.asked host.now).watch (served_folder options) watch.now }
+    requires watched { (H.asked host.now).watch (served_directory options) watch.now }
     requires may { Allows (H.may host.now) (IsOfStreams (H.asked host.now) options) }
     ensures run { IsRunEnd ended → IsRunEnd result }
     ensures memory { IfErr ended (HasCause ⟦<Global as Grows>⟧.refuses)
         → IfErr result (HasCause ⟦<Global as Grows>⟧.refuses) }
     ensures ends { EndsBy (H.asked host.now) options.entry watch.now ended result }
 {
-    let (Err(Fault::InputOrOutput), Some(_)) = (ended, served_folder(options)) else {
+    let (Err(Fault::InputOrOutput), Some(_)) = (ended, served_directory(options)) else {
         return ended;
     };
     let Err(error) = host.check(watch) else {

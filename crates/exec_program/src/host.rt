@@ -1,7 +1,7 @@
 //! The system that the program runs on.
 ghost use Rattle.std.specs.Prelude.{◌≡◌, ◌≤◌, ◌||◌, true, is_some, option_map, IfErr, IfOk, IsTrue, OnErr, None, Some};
 ghost use Rattle.exec_faults.specs.Faults.{IsRunEnd};
-ghost use Rattle.journal_folder.specs.Ends.{IsFolderEnd, IsNotOpened};
+ghost use Rattle.journal_directory.specs.Ends.{IsDirectoryEnd, IsNotOpened};
 ghost use Rattle.exec_program.specs.Asked.{Asked, fresh_agents};
 ghost use Rattle.exec_program.specs.Requests.{Request, AskSite, AwaitOrphans, LeaveWord, MakeAgents, OpenFiles, OpenLog, OpenReader, OpenWriter, PrintText, RunOnce, ShowJournal, WatchPaths, WriteLine};
 
@@ -25,7 +25,7 @@ use std::rt::Clock;
 #[derive(Clone, Copy)]
 pub struct Wait<'a> {
     /// The directory of the journal.
-    pub folder: &'a str,
+    pub directory: &'a str,
     /// The limit, in milliseconds.
     pub limit: u64,
     /// Whether to leave alive what outlives the wait, and not to kill it.
@@ -75,10 +75,10 @@ pub trait Host {
     fn alloc(&self) -> Global;
 
     /// The files of the journal in this directory, of any owner or not as the options say. The host reports why they were not opened.
-    fn files(&self, options: Options, folder: &str) -> Result<Self::Files, Fault>
-        requires { may self.now (OpenFiles options folder.now) }
-        ensures files { IfOk result ((asked self.now).files folder.now options.entry.any_owner) }
-        ensures none { IfErr result ((asked self.now).no_files folder.now options.entry.any_owner) }
+    fn files(&self, options: Options, directory: &str) -> Result<Self::Files, Fault>
+        requires { may self.now (OpenFiles options directory.now) }
+        ensures files { IfOk result ((asked self.now).files directory.now options.entry.any_owner) }
+        ensures none { IfErr result ((asked self.now).no_files directory.now options.entry.any_owner) }
         ensures fault { IsNotOpened result };
 
     /// Where agents write: in the files of a directory, if one is named, else in one file. The host reports why it was not opened.
@@ -140,14 +140,14 @@ pub trait Host {
     /// Waits for what is left of the actions that run at this state, of agents at this site. Gives the processes that live on, with their
     /// runs; `None` once nobody can read the report.
     fn await_orphans(&self, wait: Wait<'_>, site: &Site, state: &State) -> Option<Vec<Left>>
-        requires { may self.now (AwaitOrphans wait.folder.now wait.limit wait.leave site.now state.now.state) }
-        ensures { (asked self.now).orphans wait.entry.folder.now wait.entry.limit wait.entry.leave site.now
+        requires { may self.now (AwaitOrphans wait.directory.now wait.limit wait.leave site.now state.now.state) }
+        ensures { (asked self.now).orphans wait.entry.directory.now wait.entry.limit wait.entry.leave site.now
             state.now.state (option_map (λ v. v.items) result) };
 
     /// Records in this directory the executor whose clock shows this time.
-    fn leave_word(&self, folder: &str, moment: u64)
-        requires { may self.now (LeaveWord folder.now) }
-        ensures { (asked self.now).word folder.now };
+    fn leave_word(&self, directory: &str, moment: u64)
+        requires { may self.now (LeaveWord directory.now) }
+        ensures { (asked self.now).word directory.now };
 
     /// The paths of the journal in this directory, if one is named, as they are now.
     fn watch(&self, served: Option<&str>) -> Self::Watch
@@ -164,10 +164,10 @@ pub trait Host {
         ensures { (asked self.now).line line.now };
 
     /// Shows the journal in this directory, as the options say.
-    fn show_files(&self, options: Options, folder: &str) -> Result<(), Fault>
-        requires { may self.now (ShowJournal options (Some folder.now)) }
-        ensures shown { (asked self.now).shown options.entry (Some folder.now) result }
-        ensures ends { IsFolderEnd result };
+    fn show_files(&self, options: Options, directory: &str) -> Result<(), Fault>
+        requires { may self.now (ShowJournal options (Some directory.now)) }
+        ensures shown { (asked self.now).shown options.entry (Some directory.now) result }
+        ensures ends { IsDirectoryEnd result };
 
     /// Shows an empty journal in memory, as the options say.
     fn show_memory(&self, options: Options) -> Result<(), Fault>

@@ -1,6 +1,6 @@
 //! What the options set for a session.
 ghost use Rattle.std.specs.Prelude.{◌≡◌, option_map};
-ghost use Rattle.exec_program.specs.Runs.{IsHeldTo, served_folder, service_in, service_of, way_of};
+ghost use Rattle.exec_program.specs.Runs.{IsHeldTo, served_directory, service_in, service_of, way_of};
 ghost use Rattle.exec_session.specs.Rules.{rules_of};
 
 use crate::host::Host;
@@ -26,11 +26,11 @@ fn way_of(subcommand: Subcommand) -> Mode
 }
 
 /// The directory whose journal is served; long times may pass without a call of its device.
-pub fn served_folder<'a>(options: Options<'a>) -> Option<&'a str>
-    ensures { option_map (λ s. s.now) result ≡ served_folder options.entry }
+pub fn served_directory<'a>(options: Options<'a>) -> Option<&'a str>
+    ensures { option_map (λ s. s.now) result ≡ served_directory options.entry }
 {
     match (options.subcommand, options.journal) {
-        (Subcommand::Serve, JournalLocation::Folder(folder)) => Some(folder),
+        (Subcommand::Serve, JournalLocation::Directory(directory)) => Some(directory),
         _ => None,
     }
 }
@@ -44,7 +44,7 @@ fn form_of<'a>(options: Options<'a>, left: &'a [Left]) -> NoticeForm<'a>
         Mode::Run => NoticeForm::Short,
         Mode::Serve => NoticeForm::Timed(Service {
             version: VERSION,
-            journal: served_folder(options),
+            journal: served_directory(options),
             left,
         }),
     }

@@ -1,6 +1,6 @@
 //! A session over a journal: its executor, its standard streams, and how it ends.
 ghost use Rattle.std.specs.Prelude.{◌≡◌, ℕ, List, Some, IfErr, IfOk, IsTrue, OnErr, option_map};
-ghost use Rattle.exec_options.specs.Words.{folder_of};
+ghost use Rattle.exec_options.specs.Words.{directory_of};
 ghost use Rattle.exec_faults.specs.Faults.{HasCause, IsRunEnd};
 ghost use Rattle.exec_program.specs.Asked.{fresh_agents};
 ghost use Rattle.exec_program.specs.Limits.{book_room};
@@ -11,7 +11,7 @@ ghost use Rattle.exec_program.specs.Starts.{site_of};
 use crate::ends::{ended_over, opening_fault, reported};
 use crate::host::Host;
 use crate::limits::BOOK_ROOM;
-use crate::options::{context_of, events_of, served_folder};
+use crate::options::{context_of, events_of, served_directory};
 use crate::site::site_of;
 use crate::wait::await_interrupted;
 use disk_model::Disk;
@@ -51,12 +51,12 @@ fn prepared<H: Host>(
 
 // Records this executor beside its journal, if that is in files, with the time of its clock.
 fn leave_own_word<H: Host>(host: &H, options: Options, clock: &impl Clock)
-    requires may { (folder : List ℕ) → folder_of options.journal ≡ Some folder
-        → H.may host.now (LeaveWord folder) }
+    requires may { (directory : List ℕ) → directory_of options.journal ≡ Some directory
+        → H.may host.now (LeaveWord directory) }
     ensures { LeavesWord (H.asked host.now) options.entry.journal }
 {
-    if let JournalLocation::Folder(folder) = options.journal {
-        host.leave_word(folder, moment_now(clock).get());
+    if let JournalLocation::Directory(directory) = options.journal {
+        host.leave_word(directory, moment_now(clock).get());
     }
 }
 
@@ -84,7 +84,7 @@ pub fn serve_agents<H: Host, D: Disk + ReportsError + Drop>(
     let Ok((agents, own, site, room)) = prepared(host, options, log) else {
         return Err(Fault::Memory);
     };
-    let watch = host.watch(served_folder(options));
+    let watch = host.watch(served_directory(options));
     let (disk, left) = await_interrupted(host, options, &site, disk)?;
     match Executor::open(alloc, disk, agents, own, host.moment()) {
         Ok((executor, report)) => {
@@ -93,7 +93,7 @@ pub fn serve_agents<H: Host, D: Disk + ReportsError + Drop>(
             leave_own_word(host, options, &clock);
             let source = host.source(site);
             let context = context_of(alloc, options, &source, left.as_slice());
-            let json_client = JsonClient::new(alloc, host.writer(served_folder(options)), &executor);
+            let json_client = JsonClient::new(alloc, host.writer(served_directory(options)), &executor);
             let client = Eventful::new(alloc, json_client, host.errors(), events_of(host, options));
             let edge = Edge::new(reader, client, &clock);
             let run = run_lines(&context, edge, (executor, report), room);

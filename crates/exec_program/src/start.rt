@@ -93,20 +93,20 @@ fn on_journal<H: Host>(host: &H, options: Options) -> Result<(), Fault>
 }
 
 // Shows a view of a journal, as these options ask.
-#[tactic(auto, using(crate::proofs::StartLemmas::ends_on_disk, crate::proofs::StartLemmas::ends_in_folder))]
+#[tactic(auto, using(crate::proofs::StartLemmas::ends_on_disk, crate::proofs::StartLemmas::ends_in_directory))]
 fn look<H: Host>(host: &H, options: Options) -> Result<(), Fault>
     requires may { Allows (H.may host.now) (IsOfLook options) }
     ensures ends { IsEndOf options.entry result }
     ensures looks { Looks (H.asked host.now) options.entry options.entry.journal result }
 {
     match options.journal {
-        JournalLocation::Folder(folder) => host.show_files(options, folder),
+        JournalLocation::Directory(directory) => host.show_files(options, directory),
         JournalLocation::Memory => host.show_memory(options),
     }
 }
 
 // Opens a session over a journal, as these options ask.
-#[tactic(auto, using(crate::proofs::StartLemmas::ends_on_disk, crate::proofs::StartLemmas::ends_in_folder, crate::proofs::StartLemmas::ends_without_log))]
+#[tactic(auto, using(crate::proofs::StartLemmas::ends_on_disk, crate::proofs::StartLemmas::ends_in_directory, crate::proofs::StartLemmas::ends_without_log))]
 fn start_agents<H: Host>(host: &H, options: Options) -> Result<(), Fault>
     requires may { Allows (H.may host.now) (IsOfRun
         (IsFoundIn (H.asked host.now) H.Files.view options) (H.asked host.now) options) }
@@ -123,7 +123,7 @@ fn start_agents<H: Host>(host: &H, options: Options) -> Result<(), Fault>
         Err(fault) => return Err(fault),
     };
     match options.journal {
-        JournalLocation::Folder(folder) => match host.files(options, folder) {
+        JournalLocation::Directory(directory) => match host.files(options, directory) {
             Ok(disk) => serve_agents(host, options, log, disk),
             Err(fault) => Err(fault),
         },

@@ -1,6 +1,6 @@
 //! The wait for what is left of interrupted actions.
 ghost use Rattle.std.specs.Prelude.{◌≡◌, IfErr, IfOk};
-ghost use Rattle.exec_program.specs.Requests.{Allows, IsFoundOn, IsOfFolder};
+ghost use Rattle.exec_program.specs.Requests.{Allows, IsFoundOn, IsOfDirectory};
 ghost use Rattle.exec_program.specs.Starts.{site_of};
 ghost use Rattle.exec_program.specs.Waits.{IsUnheard, WaitsFor};
 
@@ -21,7 +21,7 @@ pub fn await_interrupted<H: Host, D: Disk + Drop>(
     disk: D,
 ) -> Result<(D, Vec<Left>), Fault>
     requires site { site.now ≡ site_of options }
-    requires may { Allows (H.may host.now) (IsOfFolder (IsFoundOn D.view disk) options) }
+    requires may { Allows (H.may host.now) (IsOfDirectory (IsFoundOn D.view disk) options) }
     ensures waits { IfOk result
         (λ r. WaitsFor (H.asked host.now) D.view options.entry disk r.0 r.1.items
         options.entry.journal) }
@@ -30,11 +30,11 @@ pub fn await_interrupted<H: Host, D: Disk + Drop>(
         × IsUnheard (H.asked host.now) D.view options.entry disk options.entry.journal) }
 {
     let alloc = host.alloc();
-    let JournalLocation::Folder(folder) = options.journal else {
+    let JournalLocation::Directory(directory) = options.journal else {
         return Ok((disk, Vec::new(alloc)));
     };
     let wait = Wait {
-        folder,
+        directory,
         limit: options.orphans,
         leave: options.leave_orphans,
     };

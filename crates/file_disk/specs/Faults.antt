@@ -2,14 +2,14 @@
 use Rattle.std.specs.Prelude.{◌≡◌, ⊤}
 use Rattle.ocf_types.specs.declared.part.Part.{Part}
 use Rattle.file_disk.specs.declared.fault.OpenFault.{OpenFault}
-use Rattle.file_disk.specs.declared.fault.OpenFault.TheVariants.{Folder, File, NotPlain, FolderDistrusted, Distrusted, Locked, InUse, Gone, NoJournal, Emptied, Changing, Memory}
+use Rattle.file_disk.specs.declared.fault.OpenFault.TheVariants.{Directory, File, NotPlain, DirectoryDistrusted, Distrusted, Locked, InUse, Gone, NoJournal, Emptied, Changing, Memory}
 
 -- the fault is of the file of this part, or memory was refused
 abbrev pub IsOfPart : Part → OpenFault → Type 0
-IsOfPart part (Folder error) = ⊥
+IsOfPart part (Directory error) = ⊥
 IsOfPart part (File p error) = p ≡ part
 IsOfPart part (NotPlain p) = p ≡ part
-IsOfPart part (FolderDistrusted why) = ⊥
+IsOfPart part (DirectoryDistrusted why) = ⊥
 IsOfPart part (Distrusted p why) = p ≡ part
 IsOfPart part (Locked p) = p ≡ part
 IsOfPart part InUse = ⊥

@@ -7,7 +7,7 @@ use crate::call::Call;
 use crate::entry::{entry_of, refuse_loss};
 use crate::error::{FileError, ReportsError};
 use crate::fault::{OpenFault, of_part};
-use crate::folder::open_folder;
+use crate::directory::open_directory;
 use crate::log::Log;
 use crate::look::examined;
 use crate::part_file::PartFile;
@@ -50,7 +50,7 @@ fn open_files<R: Files<File = File>, A: Allocator + Copy>(
 pub struct FileDisk<R: Files<File = File> + Copy, A: Allocator + Copy = Global> {
     rt: R,
     // the directory, locked as long as it is open
-    _folder: File,
+    _directory: File,
     a: PartFile<A>,
     b: PartFile<A>,
     first_error: Option<FileError>,
@@ -72,15 +72,15 @@ impl<R: Files<File = File> + Copy, A: Allocator + Copy> FileDisk<R, A> {
         ensures fresh { IfOk result IsFresh }
         ensures no_name { dir.now ≡ [] → IsErr result }
     {
-        let folder = open_folder(rt, alloc, dir, owners)?;
+        let directory = open_directory(rt, alloc, dir, owners)?;
         let (a, b) = open_files(rt, alloc, dir, owners)?;
-        folder.sync_all().map_err(OpenFault::folder)?;
+        directory.sync_all().map_err(OpenFault::directory)?;
         let a_bytes = of_part(Part::A, a.contents(alloc))?;
         let b_bytes = of_part(Part::B, b.contents(alloc))?;
         let log = Log::new(&a_bytes, &b_bytes);
         Ok(FileDisk {
             rt: *rt,
-            _folder: folder,
+            _directory: directory,
             a,
             b,
             first_error: None,

@@ -16,7 +16,7 @@ use thiserror::Error;
 pub enum OpenFault {
     /// The directory has no name, is not there, is no directory, or can't be read or synced.
     #[error("{0}")]
-    Folder(io::Error),
+    Directory(io::Error),
     /// The file of the part can't be made, opened, locked, synced or read.
     #[error("{1}")]
     File(Part, io::Error),
@@ -25,7 +25,7 @@ pub enum OpenFault {
     NotPlain(Part),
     /// The executor runs as root, and another user may write the directory.
     #[error("{0}")]
-    FolderDistrusted(Distrust),
+    DirectoryDistrusted(Distrust),
     /// The executor runs as root, and another user may write the part's file.
     #[error("{1}")]
     Distrusted(Part, Distrust),
@@ -86,11 +86,11 @@ pub(crate) fn of_part<T>(part: Part, found: io::Result<T>) -> Result<T, OpenFaul
 
 impl OpenFault {
     // A fault of the directory.
-    pub(crate) fn folder(error: io::Error) -> OpenFault {
+    pub(crate) fn directory(error: io::Error) -> OpenFault {
         if error.kind() == io::ErrorKind::OutOfMemory {
             OpenFault::Memory
         } else {
-            OpenFault::Folder(error)
+            OpenFault::Directory(error)
         }
     }
 
@@ -115,8 +115,8 @@ impl OpenFault {
             | OpenFault::Gone(part)
             | OpenFault::NoJournal(part)
             | OpenFault::Emptied(part) => Some(file_name(*part)),
-            OpenFault::Folder(_)
-            | OpenFault::FolderDistrusted(_)
+            OpenFault::Directory(_)
+            | OpenFault::DirectoryDistrusted(_)
             | OpenFault::InUse
             | OpenFault::Changing
             | OpenFault::Memory => None,
@@ -127,13 +127,13 @@ impl OpenFault {
     pub fn is_distrust(&self) -> bool {
         matches!(
             self,
-            OpenFault::FolderDistrusted(_) | OpenFault::Distrusted(_, _)
+            OpenFault::DirectoryDistrusted(_) | OpenFault::Distrusted(_, _)
         )
     }
 
     /// The fault with its path, in the directory that was to be opened.
     pub fn located(self, dir: &str) -> Located<'_>
-        ensures folder { result.dir.now ≡ dir.now }
+        ensures directory { result.dir.now ≡ dir.now }
         ensures fault { result.fault ≡ self }
     {
         Located { dir, fault: self }

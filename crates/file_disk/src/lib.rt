@@ -12,7 +12,7 @@ mod disk;
 mod entry;
 mod error;
 mod fault;
-mod folder;
+mod directory;
 mod journal_paths;
 mod known_path;
 mod log;

@@ -5,7 +5,7 @@ ghost use Rattle.file_disk.specs.RamDisk.{IsFresh, view_of};
 
 use crate::entry::{Entry, entry_of, refuse_loss, reported_loss};
 use crate::fault::{OpenFault, file_name, of_part};
-use crate::folder::find_folder;
+use crate::directory::find_directory;
 use crate::ram::RamDisk;
 use disk_model::other_part;
 use ocf_types::{HEAD_LEN, PART_LIMIT, Part};
@@ -163,7 +163,7 @@ pub fn read_parts<R: Files<File = File>, A: Allocator + Copy>(
     ensures honest { IfOk result (λ d. (view_of d).honest) }
     ensures no_name { dir.now ≡ [] → IsErr result }
 {
-    find_folder(rt, alloc, dir)?;
+    find_directory(rt, alloc, dir)?;
     for _ in 0..TRIES {
         if let Some(disk) = look(rt, alloc, dir)? {
             return Ok(disk);

@@ -21,7 +21,7 @@ use exec_program::{Host, Wait};
 use exec_state::State;
 use file_disk::{FileDisk, FileError, JournalPaths, RamDisk};
 use growth::Grows;
-use journal_folder::{found, not_emptied, open_files, show_files, show_on, report_device};
+use journal_directory::{found, not_emptied, open_files, show_files, show_on, report_device};
 use ocf_env::Site;
 use std::alloc::{AllocError, Global};
 use std::io::{self, BufReader, Eprint, StdinLock};
@@ -80,18 +80,18 @@ impl<'a> Host for SystemHost<'a> {
 
     // nothing is stated about the system's actions: that each method asks for exactly those of its name is trusted
     ghost asked = { λ host. record {
-      files = λ folder any disk. ⊤;
-      no_files = λ folder any fault. ⊤;
-      log = λ file folder log. ⊤;
-      no_log = λ file folder. ⊤;
+      files = λ directory any disk. ⊤;
+      no_files = λ directory any fault. ⊤;
+      log = λ file directory log. ⊤;
+      no_log = λ file directory. ⊤;
       agents = λ log agents. ⊤;
       source = λ site source. ⊤;
       reader = λ reader. ⊤;
       writer = λ served writer. ⊤;
       moment = λ now. ⊤;
       ignored = λ is. ⊤;
-      orphans = λ folder limit leave site state left. ⊤;
-      word = λ folder. ⊤;
+      orphans = λ directory limit leave site state left. ⊤;
+      word = λ directory. ⊤;
       watch = λ served watch. ⊤;
       moved = λ watch. ⊤;
       line = λ bytes. ⊤;
@@ -109,9 +109,9 @@ impl<'a> Host for SystemHost<'a> {
 
     // TRUSTED: the files are those of this directory.
     #[tactic(auto, using(crate::proofs::HostLemmas::if_ok_any, crate::proofs::HostLemmas::if_err_any))]
-    fn files(&self, options: Options, folder: &str) -> Result<FileDisk<HostRuntime>, Fault> {
-        let opened = open_files(self.system.host(), options, folder);
-        found(self.system, folder, not_emptied(opened))
+    fn files(&self, options: Options, directory: &str) -> Result<FileDisk<HostRuntime>, Fault> {
+        let opened = open_files(self.system.host(), options, directory);
+        found(self.system, directory, not_emptied(opened))
     }
 
     // TRUSTED: agents write there.
@@ -185,7 +185,7 @@ impl<'a> Host for SystemHost<'a> {
     // TRUSTED: what is left is waited for so, and ended or left.
     fn await_orphans(&self, wait: Wait<'_>, site: &Site, state: &State) -> Option<Vec<Left>> {
         let how = Orphans {
-            folder: wait.folder,
+            directory: wait.directory,
             limit: wait.limit,
             leave: wait.leave,
         };
@@ -193,8 +193,8 @@ impl<'a> Host for SystemHost<'a> {
     }
 
     // TRUSTED: the record is in this directory.
-    fn leave_word(&self, folder: &str, moment: u64) {
-        leave_word(self.system, folder, moment);
+    fn leave_word(&self, directory: &str, moment: u64) {
+        leave_word(self.system, directory, moment);
     }
 
     // TRUSTED: the paths are those of this directory.
@@ -217,8 +217,8 @@ impl<'a> Host for SystemHost<'a> {
     }
 
     // TRUSTED: what is shown is of this directory.
-    fn show_files(&self, options: Options, folder: &str) -> Result<(), Fault> {
-        show_files(self.system, options, folder)
+    fn show_files(&self, options: Options, directory: &str) -> Result<(), Fault> {
+        show_files(self.system, options, directory)
     }
 
     // TRUSTED: what is shown is of an empty journal.

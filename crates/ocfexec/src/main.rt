@@ -35,7 +35,7 @@ fn start(system: &System<'_>) -> Result<u8, Fault> {
     let words = words_of(system.host())?;
     let named = named_journal(system.host())?;
     let named = match &named {
-        Some(folder) => Some(folder.as_str()),
+        Some(directory) => Some(directory.as_str()),
         None => None,
     };
     let (unread, unwritten) = (FirstError::none(), FirstError::none());

@@ -20,8 +20,8 @@ pub fn words_of(rt: &HostRuntime) -> Result<Vec<String>, Fault> {
 /// The directory that the environment names for the journal: `None` also for an empty text.
 pub fn named_journal(rt: &HostRuntime) -> Result<Option<String>, Fault> {
     match env::var(rt, JOURNAL) {
-        Ok(folder) if folder.is_empty() => Ok(None),
-        Ok(folder) => Ok(Some(folder)),
+        Ok(directory) if directory.is_empty() => Ok(None),
+        Ok(directory) => Ok(Some(directory)),
         Err(VarError::NotPresent) => Ok(None),
         Err(VarError::NotUnicode) => Err(Fault::NotText),
         Err(VarError::OutOfMemory) => Err(Fault::Memory),

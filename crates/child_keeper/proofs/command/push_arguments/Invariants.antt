@@ -7,5 +7,5 @@ invariant-loop-argument g l = record {
   program : command_program l.command ≡ command_program l.fn.command;
   arguments : command_args l.command ≡ command_args l.fn.command ++ take l.argument-index l.arguments;
   environment : SameEnv l.fn.command l.command;
-  folder : SameDir l.fn.command l.command;
+  directory : SameDir l.fn.command l.command;
 }

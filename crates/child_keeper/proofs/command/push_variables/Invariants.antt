@@ -8,5 +8,5 @@ invariant-loop-name g l = record {
   variables : (name : List ℕ)
       → command_var l.command name ≡ var_after Some Some name (command_var l.fn.command name) (take l.name-index l.variables);
   cleared : clears_env l.command ≡ clears_env l.fn.command;
-  folder : SameDir l.fn.command l.command;
+  directory : SameDir l.fn.command l.command;
 }

@@ -1,6 +1,6 @@
 use Rattle.std.proofs.Common.{ap}
-use Rattle.exec_options.specs.Words.{folder_of}
+use Rattle.exec_options.specs.Words.{directory_of}
 use Rattle.exec_program.proofs.run.leave_own_word.Goals as goal
 
 pub leave_word-requires : goal.leave_word-requires
-leave_word-requires g c = c.requires.may c.in-Folder.folder.now (ap folder_of c.in-Folder.is)
+leave_word-requires g c = c.requires.may c.in-Directory.directory.now (ap directory_of c.in-Directory.is)

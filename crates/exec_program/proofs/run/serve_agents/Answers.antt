@@ -16,23 +16,23 @@ pub prepared-requires : goal.prepared-requires
 prepared-requires g c = record { may = c.requires.may (MakeAgents c.args.log book_room) (inr (inl (c.requires.log, refl))) }
 
 pub watch-watch-requires : goal.watch-watch-requires
-watch-watch-requires g c = c.requires.may (WatchPaths _) (inr (inr c.served_folder.ensures))
+watch-watch-requires g c = c.requires.may (WatchPaths _) (inr (inr c.served_directory.ensures))
 
 pub await_interrupted-requires-clause-may : goal.await_interrupted-requires-clause-may
 await_interrupted-requires-clause-may g c = λ r h. c.requires.may r (inl h)
 
 pub leave_own_word-requires : goal.leave_own_word-requires
-leave_own_word-requires g c = record { may = λ folder is. c.requires.may (LeaveWord folder) (inl is) }
+leave_own_word-requires g c = record { may = λ directory is. c.requires.may (LeaveWord directory) (inl is) }
 
 pub source-source-requires : goal.source-source-requires
 source-source-requires g c = c.requires.may (AskSite _) (inr (inl c.in-Ok-prepared.ensures.sites.1))
 
 pub writer-requires : goal.writer-requires
-writer-requires g c = c.requires.may (OpenWriter _) (inr (inr c.served_folder-in-Ok-open.ensures))
+writer-requires g c = c.requires.may (OpenWriter _) (inr (inr c.served_directory-in-Ok-open.ensures))
 
 pub ended_over-ended-requires-clause-watched : goal.ended_over-ended-requires-clause-watched
 ended_over-ended-requires-clause-watched g c =
-    subst (λ (x : Option (List ℕ)). (g.H.Host.asked c.args.host.now).watch x c.watch-watch.result) c.served_folder.ensures c.watch-watch.ensures
+    subst (λ (x : Option (List ℕ)). (g.H.Host.asked c.args.host.now).watch x c.watch-watch.result) c.served_directory.ensures c.watch-watch.ensures
 
 pub ended_over-ended-requires-clause-may : goal.ended_over-ended-requires-clause-may
 ended_over-ended-requires-clause-may g c = λ r h. c.requires.may r (inr (inr h))
@@ -60,8 +60,8 @@ returns-in-Ok-open-clause-runs g c = inl (record {
   of_site = subst (λ (x : SiteView). (g.H.Host.asked c.args.host.now).source x c.source-source.result) c.in-Ok-prepared.ensures.sites.1 c.source-source.ensures;
   word = c.leave_own_word.ensures;
   reads = c.in-Ok.ensures.reader;
-  writes = subst (λ (x : Option (List ℕ)). (g.H.Host.asked c.args.host.now).writer x c.writer.result) c.served_folder-in-Ok-open.ensures c.writer.ensures;
-  watches = subst (λ (x : Option (List ℕ)). (g.H.Host.asked c.args.host.now).watch x c.watch-watch.result) c.served_folder.ensures c.watch-watch.ensures;
+  writes = subst (λ (x : Option (List ℕ)). (g.H.Host.asked c.args.host.now).writer x c.writer.result) c.served_directory-in-Ok-open.ensures c.writer.ensures;
+  watches = subst (λ (x : Option (List ℕ)). (g.H.Host.asked c.args.host.now).watch x c.watch-watch.result) c.served_directory.ensures c.watch-watch.ensures;
   held = subst (λ (x : List Left). IsHeldTo c.args.options x (rules_of c.context_of-context.result)) c.as_slice.ensures.value c.context_of-context.ensures.held;
   runs = ended_from g.D.Disk.view g.H.Agents.Children.view g.H.Source.Metadata.gives c.context_of-context.result.metadata.now c.source-source.result
       (rules_of c.context_of-context.result) c.in-Ok-open.report c.in-Ok-open.executor c.new-edge.result _ c.run_lines-run.result.edge

@@ -1,5 +1,5 @@
 use Rattle.std.proofs.Common.{ap, inl, inr, option_map, refl, subst}
-use Rattle.exec_options.specs.Words.{folder_of}
+use Rattle.exec_options.specs.Words.{directory_of}
 use Rattle.file_disk.specs.RamDisk.{view_of}
 use Rattle.exec_program.specs.Requests.{OpenFiles, OpenLog}
 use Rattle.exec_program.proofs.ProgramLemmas.{runs_in_memory}
@@ -11,12 +11,12 @@ log-requires g c =
     c.requires.may (OpenLog (option_map (λ s. s.now) c.args.options.log) (option_map (λ s. s.now) c.args.options.logs)) (inr (inl (refl, refl)))
 
 pub files-requires : goal.files-requires
-files-requires g c = c.requires.may (OpenFiles c.args.options c.in-Folder.folder.now) (inl (refl, ap folder_of c.in-Folder.is))
+files-requires g c = c.requires.may (OpenFiles c.args.options c.in-Directory.directory.now) (inl (refl, ap directory_of c.in-Directory.is))
 
 pub serve_agents-requires-clause-may : goal.serve_agents-requires-clause-may
 serve_agents-requires-clause-may g c =
     allows_on_files (g.H.Host.asked c.args.host.now) g.H.Files.Disk.view (g.H.Host.may c.args.host.now) c.args.options
-    c.in-Folder.folder c.in-Ok-files.disk c.in-Folder.is c.in-Ok-files.ensures.files c.requires.may
+    c.in-Directory.directory c.in-Ok-files.disk c.in-Directory.is c.in-Ok-files.ensures.files c.requires.may
 
 pub serve_agents-requires-in-Memory-clause-may : goal.serve_agents-requires-in-Memory-clause-may
 serve_agents-requires-in-Memory-clause-may g c =

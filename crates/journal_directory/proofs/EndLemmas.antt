@@ -3,17 +3,17 @@ use Rattle.std.proofs.Common.{inl, inr, ap, ⊎_elim, ◌⊎◌, Result, Err, su
 use Rattle.exec_faults.specs.Faults.{IsRunEnd}
 use Rattle.exec_faults.specs.declared.fault.Fault.{Fault}
 use Rattle.exec_faults.specs.declared.fault.Fault.TheVariants as fault
-use Rattle.journal_folder.specs.Ends.{IsFolderEnd}
+use Rattle.journal_directory.specs.Ends.{IsDirectoryEnd}
 
 -- the ends with a journal that was opened, with one that was not, and with a directory that holds none
-pub opened_ends : {T : Type 0} (r : Result T Fault) → IsRunEnd r → IsFolderEnd r
+pub opened_ends : {T : Type 0} (r : Result T Fault) → IsRunEnd r → IsDirectoryEnd r
 opened_ends r ends = inl ends
 
-pub not_opened_ends : {T : Type 0} (f : Fault) → (f ≡ fault.Memory) ⊎ (f ≡ fault.NotOpened) → IsFolderEnd {T = T} (Err f)
+pub not_opened_ends : {T : Type 0} (f : Fault) → (f ≡ fault.Memory) ⊎ (f ≡ fault.NotOpened) → IsDirectoryEnd {T = T} (Err f)
 not_opened_ends {T} f = ⊎_elim (λ is. inl (subst (λ x. IsRunEnd {T = T} (Err x)) (sym is) tt)) (λ is. inr (inl (ap Err is)))
 
 pub not_found_ends : {T : Type 0} (f : Fault) → (f ≡ fault.Memory) ⊎ ((f ≡ fault.NotOpened) ⊎ (f ≡ fault.NoJournal))
-    → IsFolderEnd {T = T} (Err f)
+    → IsDirectoryEnd {T = T} (Err f)
 not_found_ends {T} f =
     ⊎_elim (λ is. inl (subst (λ x. IsRunEnd {T = T} (Err x)) (sym is) tt))
     (⊎_elim (λ is. inr (inl (ap Err is))) (λ is. inr (inr (ap Err is))))

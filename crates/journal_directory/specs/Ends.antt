@@ -13,5 +13,5 @@ abbrev pub IsNotFound : {T : Type 0} → Result T Fault → Type 0
 IsNotFound ended = IfErr ended (λ f. f ≡ fault.Memory ⊎ (f ≡ fault.NotOpened ⊎ f ≡ fault.NoJournal))
 
 -- how a session or a show of a journal in files may end: as on any disk, or because the files cannot be opened or hold no journal
-abbrev pub IsFolderEnd : {T : Type 0} → Result T Fault → Type 0
-IsFolderEnd ended = IsRunEnd ended ⊎ (ended ≡ Err fault.NotOpened ⊎ ended ≡ Err fault.NoJournal)
+abbrev pub IsDirectoryEnd : {T : Type 0} → Result T Fault → Type 0
+IsDirectoryEnd ended = IsRunEnd ended ⊎ (ended ≡ Err fault.NotOpened ⊎ ended ≡ Err fault.NoJournal)

@@ -10,30 +10,30 @@ use std::io::{self, ErrorKind};
 use std::rt::Files;
 
 // The path of a directory, with a dot after it: it leads nowhere unless it is a directory.
-fn folder_path<A: Allocator>(alloc: A, dir: &str) -> Result<String<A>, OpenFault>
+fn directory_path<A: Allocator>(alloc: A, dir: &str) -> Result<String<A>, OpenFault>
     ensures { dir.now ≡ [] → IsErr result }
 {
     if dir.is_empty() {
         let error = io::Error::new(ErrorKind::InvalidInput, "the folder has no name");
-        return Err(OpenFault::Folder(error));
+        return Err(OpenFault::Directory(error));
     }
     Ok(format!(in alloc; "{dir}/.")?)
 }
 
 /// Fails unless the directory exists.
-pub fn find_folder<R: Files, A: Allocator>(rt: &R, alloc: A, dir: &str) -> Result<(), OpenFault>
+pub fn find_directory<R: Files, A: Allocator>(rt: &R, alloc: A, dir: &str) -> Result<(), OpenFault>
     ensures { dir.now ≡ [] → IsErr result }
 {
-    let path = folder_path(alloc, dir)?;
+    let path = directory_path(alloc, dir)?;
     match fs::metadata(rt, path.as_str()) {
         Ok(_) => Ok(()),
-        Err(error) => Err(OpenFault::folder(error)),
+        Err(error) => Err(OpenFault::directory(error)),
     }
 }
 
 /// Opens a directory whose owner and mode are accepted, so that its entries can be synced, and locks it for as long as it
 /// is open.
-pub fn open_folder<R: Files<File = File>, A: Allocator>(
+pub fn open_directory<R: Files<File = File>, A: Allocator>(
     rt: &R,
     alloc: A,
     dir: &str,
@@ -41,15 +41,15 @@ pub fn open_folder<R: Files<File = File>, A: Allocator>(
 ) -> Result<File, OpenFault>
     ensures { dir.now ≡ [] → IsErr result }
 {
-    let path = folder_path(alloc, dir)?;
-    let folder = File::open(rt, path.as_str()).map_err(OpenFault::folder)?;
-    let folder = above_streams(folder).map_err(OpenFault::folder)?;
-    if let Some(why) = owners.distrust_of(&folder).map_err(OpenFault::folder)? {
-        return Err(OpenFault::FolderDistrusted(why));
+    let path = directory_path(alloc, dir)?;
+    let directory = File::open(rt, path.as_str()).map_err(OpenFault::directory)?;
+    let directory = above_streams(directory).map_err(OpenFault::directory)?;
+    if let Some(why) = owners.distrust_of(&directory).map_err(OpenFault::directory)? {
+        return Err(OpenFault::DirectoryDistrusted(why));
     }
-    match folder.try_lock() {
-        Ok(()) => Ok(folder),
+    match directory.try_lock() {
+        Ok(()) => Ok(directory),
         Err(TryLockError::WouldBlock) => Err(OpenFault::InUse),
-        Err(TryLockError::Error(error)) => Err(OpenFault::folder(error)),
+        Err(TryLockError::Error(error)) => Err(OpenFault::directory(error)),
     }
 }

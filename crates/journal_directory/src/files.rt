@@ -1,6 +1,6 @@
 //! The files of a journal: how they are opened, and how their faults are reported on standard error.
 ghost use Rattle.std.specs.Prelude.{◌≡◌};
-ghost use Rattle.journal_folder.specs.Ends.{IsNotOpened};
+ghost use Rattle.journal_directory.specs.Ends.{IsNotOpened};
 
 use diagnostics::{explain, report, report_cause};
 use exec_faults::Fault;
@@ -39,7 +39,7 @@ fn advice_of(why: &OpenFault) -> Option<&'static str> {
     match why {
         distrust if distrust.is_distrust() => Some(OWNER_ADVICE),
         OpenFault::InUse | OpenFault::Locked(_) => Some(IN_USE_ADVICE),
-        OpenFault::Folder(error) | OpenFault::File(_, error) => advice_of_kind(error.kind()),
+        OpenFault::Directory(error) | OpenFault::File(_, error) => advice_of_kind(error.kind()),
         _ => None,
     }
 }
@@ -58,22 +58,22 @@ fn owners_of(options: Options) -> Owners {
 pub fn open_files(
     rt: &HostRuntime,
     options: Options,
-    folder: &str,
+    directory: &str,
 ) -> Result<FileDisk<HostRuntime>, OpenFault> {
     let owners = owners_of(options);
     for _ in 0..10 {
-        match FileDisk::open(rt, rt.alloc(), folder, owners) {
+        match FileDisk::open(rt, rt.alloc(), directory, owners) {
             Err(OpenFault::InUse | OpenFault::Locked(_)) => sleep(rt, Duration::from_millis(20)),
             opened => return opened,
         }
     }
-    FileDisk::open(rt, rt.alloc(), folder, owners)
+    FileDisk::open(rt, rt.alloc(), directory, owners)
 }
 
 /// The disk of a journal in this directory. If it was not opened, the cause is reported here.
 pub fn found<D: Drop>(
     system: &System<'_>,
-    folder: &str,
+    directory: &str,
     disk: Result<D, OpenFault>,
 ) -> Result<D, Fault>
     ensures { IsNotOpened result }
@@ -82,7 +82,7 @@ pub fn found<D: Drop>(
         Ok(disk) => Ok(disk),
         Err(OpenFault::Memory) => Err(Fault::Memory),
         Err(why) => {
-            report_cause(system, Fault::NotOpened, why.located(folder));
+            report_cause(system, Fault::NotOpened, why.located(directory));
             if let Some(advice) = advice_of(&why) {
                 explain(system, advice);
             }
@@ -94,8 +94,8 @@ pub fn found<D: Drop>(
 /// Reports that the journal's device failed, and its error.
 pub fn report_device(system: &System<'_>, options: Options, error: Option<FileError>) {
     match (options.journal, error) {
-        (JournalLocation::Folder(folder), Some(met)) => {
-            report_cause(system, Fault::Disk, met.located(folder));
+        (JournalLocation::Directory(directory), Some(met)) => {
+            report_cause(system, Fault::Disk, met.located(directory));
         }
         _ => report(system, Fault::Disk),
     }

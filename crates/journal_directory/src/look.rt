@@ -7,8 +7,8 @@ use status_report::StatusOptions;
 use std::path::Path;
 
 // The moment now by the clock of the executor that last opened the journal in this directory; `None` if that was before the last boot.
-fn executor_moment(rt: &HostRuntime, folder: &str) -> Option<Moment> {
-    let holder = read_holder(rt, folder)?;
+fn executor_moment(rt: &HostRuntime, directory: &str) -> Option<Moment> {
+    let holder = read_holder(rt, directory)?;
     Some(Moment::cut(holder.moment_at(uptime(rt)?)))
 }
 
@@ -16,7 +16,7 @@ fn executor_moment(rt: &HostRuntime, folder: &str) -> Option<Moment> {
 /// changes of the system's clock. So this is that clock's reading if it can be known, and else the system's.
 pub fn moment_of(rt: &HostRuntime, journal: JournalLocation) -> Moment {
     let known = match journal {
-        JournalLocation::Folder(folder) => executor_moment(rt, folder),
+        JournalLocation::Directory(directory) => executor_moment(rt, directory),
         JournalLocation::Memory => None,
     };
     match known {

@@ -1,7 +1,7 @@
 //! Prints a journal.
 ghost use Rattle.std.specs.Prelude.{◌≡◌};
 ghost use Rattle.exec_faults.specs.Faults.{IsRunEnd};
-ghost use Rattle.journal_folder.specs.Ends.{IsFolderEnd, IsNotFound};
+ghost use Rattle.journal_directory.specs.Ends.{IsDirectoryEnd, IsNotFound};
 
 use crate::emptied::not_emptied;
 use crate::files::{found, told};
@@ -78,17 +78,17 @@ fn is_none<D: Disk>(disk: &mut D) -> bool {
 
 // The parts in this directory as they are now. A journal that was never made is refused, except by `show`. One with an emptied part
 // is refused, unless the options ask for the records before the damage.
-fn parts_in(system: &System<'_>, options: Options, folder: &str) -> Result<RamDisk, Fault>
+fn parts_in(system: &System<'_>, options: Options, directory: &str) -> Result<RamDisk, Fault>
     ensures { IsNotFound result }
 {
     let rt = system.host();
-    let read = read_parts(rt, rt.alloc(), folder);
+    let read = read_parts(rt, rt.alloc(), directory);
     let read = if options.salvage {
         read
     } else {
         not_emptied(read)
     };
-    let mut disk = found(system, folder, read)?;
+    let mut disk = found(system, directory, read)?;
     let wants_one = !matches!(options.subcommand, Subcommand::Show);
     if wants_one && is_none(&mut disk) {
         return Err(Fault::NoJournal);
@@ -98,23 +98,23 @@ fn parts_in(system: &System<'_>, options: Options, folder: &str) -> Result<RamDi
 
 // Prints the journal in this directory as its files are now.
 #[tactic(auto, using(crate::proofs::EndLemmas::opened_ends, crate::proofs::EndLemmas::not_found_ends))]
-fn show_once(system: &System<'_>, options: Options, folder: &str) -> Result<(), Fault>
-    ensures { IsFolderEnd result }
+fn show_once(system: &System<'_>, options: Options, directory: &str) -> Result<(), Fault>
+    ensures { IsDirectoryEnd result }
 {
-    let disk = parts_in(system, options, folder)?;
+    let disk = parts_in(system, options, directory)?;
     show_on(system, options, disk)
 }
 
 /// Prints the journal in this directory, which another program may be writing. Damage is reported only if each of four reads of
 /// the files finds it.
-pub fn show_files(system: &System<'_>, options: Options, folder: &str) -> Result<(), Fault>
-    ensures { IsFolderEnd result }
+pub fn show_files(system: &System<'_>, options: Options, directory: &str) -> Result<(), Fault>
+    ensures { IsDirectoryEnd result }
 {
     for _ in 1..LOOKS {
-        let ended = show_once(system, options, folder);
+        let ended = show_once(system, options, directory);
         if !matches!(ended, Err(Fault::Damaged(_))) {
             return ended;
         }
     }
-    show_once(system, options, folder)
+    show_once(system, options, directory)
 }
