@@ -5,62 +5,62 @@ use Rattle.clap.specs.Words.{subcommand_rows_of, HasMatchesOf, Kinds}
 use Rattle.clap.specs.declared.builder.command.Command.{Command}
 use Rattle.clap.specs.declared.parser.matches.ArgMatches.{ArgMatches}
 use Rattle.exec_options.specs.declared.options.Subcommand.{Subcommand}
-use Rattle.exec_options.specs.declared.fault.WordsFault.{WordsFault}
-use Rattle.exec_options.specs.declared.fault.WordsFault.TheVariants.{Help, Usage, Choice, TidyAt, Root, Orphans, Since, Timeout, Memory}
-use Rattle.exec_options.specs.declared.words.Wanted.TheVariants as wanted
+use Rattle.exec_options.specs.declared.fault.ArgumentsFault.{ArgumentsFault}
+use Rattle.exec_options.specs.declared.fault.ArgumentsFault.TheVariants.{Help, Usage, Choice, TidyAt, Root, Orphans, Since, Timeout, Memory}
+use Rattle.exec_options.specs.declared.arguments.Wanted.TheVariants as wanted
 use Rattle.exec_options.specs.App.{ocfexec_app}
 use Rattle.exec_options.specs.Faults.{Flawed, HasFaultKind, HasOnceFlaw, HasPlacedFlaw, IsFault, OnceFlawed, OrphansFlaw, RootFlaw}
 use Rattle.exec_options.specs.Faults.{SinceFlaw, TidyAtFlaw, TimeoutFlaw, Unnamed}
 use Rattle.exec_options.specs.Subcommands.{once_word, subcommand_word}
-use Rattle.exec_options.specs.Words.{location_in, AsksFor, IsJournalWanted, IsOnceWanted}
-use Rattle.exec_options.specs.declared.words.Wanted.{Wanted}
+use Rattle.exec_options.specs.Arguments.{location_in, AsksFor, IsJournalWanted, IsOnceWanted}
+use Rattle.exec_options.specs.declared.arguments.Wanted.{Wanted}
 use Rattle.ocf_types.specs.Lemmas.{some_is}
 use Rattle.exec_options.proofs.AppLemmas.{both_parts, name_in_rows}
 
 -- the subcommand in the result of a parse is the one that the arguments name
-pub met : (command : Command) (words : List Text) (m : ArgMatches) (name : Text) (rows : List Row) → app_of command ≡ ocfexec_app
-    → HasMatchesOf (app_of command) words m
+pub met : (command : Command) (arguments : List Text) (m : ArgMatches) (name : Text) (rows : List Row) → app_of command ≡ ocfexec_app
+    → HasMatchesOf (app_of command) arguments m
     → Some name ≡ subcommand_name_of m → Some rows ≡ option_map (λ p. p.1) (subcommand_rows_of m)
-    → subcommand_of ocfexec_app words ≡ Some (name, rows)
-met command words m name rows app matches is_name are_rows =
-    let same : subcommand_rows_of m ≡ subcommand_of (app_of command) words = (matches (ap is_simple app)).1 in
-    sym (ap (λ a. subcommand_of a words) app) ∙ sym same ∙ both_parts (subcommand_rows_of m) name rows (is_name ∙ name_in_rows m) are_rows
+    → subcommand_of ocfexec_app arguments ≡ Some (name, rows)
+met command arguments m name rows app matches is_name are_rows =
+    let same : subcommand_rows_of m ≡ subcommand_of (app_of command) arguments = (matches (ap is_simple app)).1 in
+    sym (ap (λ a. subcommand_of a arguments) app) ∙ sym same ∙ both_parts (subcommand_rows_of m) name rows (is_name ∙ name_in_rows m) are_rows
 
 -- `clap` refuses the arguments of the command line by exactly these kinds
-pub faults : (command : Command) (words : List Text) (P : Kinds → Type 0) → app_of command ≡ ocfexec_app
-    → (is_simple_and_free (app_of command) ≡ true → P (fault_of (app_of command) words)) → P (fault_of ocfexec_app words)
-faults command words P app holds = subst (λ a. P (fault_of a words)) app (holds (ap is_simple_and_free app))
+pub faults : (command : Command) (arguments : List Text) (P : Kinds → Type 0) → app_of command ≡ ocfexec_app
+    → (is_simple_and_free (app_of command) ≡ true → P (fault_of (app_of command) arguments)) → P (fault_of ocfexec_app arguments)
+faults command arguments P app holds = subst (λ a. P (fault_of a arguments)) app (holds (ap is_simple_and_free app))
 
 -- arguments that name another subcommand name no subcommand that has a journal
-pub unnamed : (words : List Text) (name : Text) (rows : List Row) → subcommand_of ocfexec_app words ≡ Some (name, rows)
-    → ((s : Subcommand) → name ≢ subcommand_word s) → Unnamed words
-unnamed words name rows named none s found names = none s (ap (λ (p : Text × List Row). p.0) (some_is _ _ (sym named ∙ names)))
+pub unnamed : (arguments : List Text) (name : Text) (rows : List Row) → subcommand_of ocfexec_app arguments ≡ Some (name, rows)
+    → ((s : Subcommand) → name ≢ subcommand_word s) → Unnamed arguments
+unnamed arguments name rows named none s found names = none s (ap (λ (p : Text × List Row). p.0) (some_is _ _ (sym named ∙ names)))
 
 -- the arguments of a subcommand give the options that are read from its rows
-pub given : (home : Option Text) (words : List Text) (name : Text) (rows : List Row) (s : Subcommand) (w : Wanted)
-    → subcommand_of ocfexec_app words ≡ Some (name, rows) → name ≡ subcommand_word s → IsJournalWanted s home rows w → AsksFor home words w
-given home words name rows s (wanted.Journal o) named is (same, placed, read) = record {
+pub given : (home : Option Text) (arguments : List Text) (name : Text) (rows : List Row) (s : Subcommand) (w : Wanted)
+    → subcommand_of ocfexec_app arguments ≡ Some (name, rows) → name ≡ subcommand_word s → IsJournalWanted s home rows w → AsksFor home arguments w
+given home arguments name rows s (wanted.Journal o) named is (same, placed, read) = record {
   rows = rows;
   names = named ∙ ap (λ t. Some (t, rows)) (is ∙ ap subcommand_word (sym same));
   placed = placed;
   read = read;
 }
-given home words name rows s (wanted.Once o) named is none = absurd none
+given home arguments name rows s (wanted.Once o) named is none = absurd none
 
 -- and so do those of an action that is run once
-pub given_once : (home : Option Text) (words : List Text) (name : Text) (rows : List Row) (w : Wanted)
-    → subcommand_of ocfexec_app words ≡ Some (name, rows) → name ≡ once_word → IsOnceWanted rows w → AsksFor home words w
-given_once home words name rows (wanted.Journal o) named is none = absurd none
-given_once home words name rows (wanted.Once o) named is read = record {
+pub given_once : (home : Option Text) (arguments : List Text) (name : Text) (rows : List Row) (w : Wanted)
+    → subcommand_of ocfexec_app arguments ≡ Some (name, rows) → name ≡ once_word → IsOnceWanted rows w → AsksFor home arguments w
+given_once home arguments name rows (wanted.Journal o) named is none = absurd none
+given_once home arguments name rows (wanted.Once o) named is read = record {
   rows = rows;
   names = named ∙ ap (λ t. Some (t, rows)) is;
   read = read;
 }
 
-shown : (home : Option Text) (words : List Text) (name : Text) (rows : List Row) (s : Subcommand) (P : List Row → Type 0)
-    → subcommand_of ocfexec_app words ≡ Some (name, rows) → name ≡ subcommand_word s → is_some (location_in s home rows) ≡ true → P rows
-    → Flawed home words P
-shown home words name rows s P named is placed flaw = record {
+shown : (home : Option Text) (arguments : List Text) (name : Text) (rows : List Row) (s : Subcommand) (P : List Row → Type 0)
+    → subcommand_of ocfexec_app arguments ≡ Some (name, rows) → name ≡ subcommand_word s → is_some (location_in s home rows) ≡ true → P rows
+    → Flawed home arguments P
+shown home arguments name rows s P named is placed flaw = record {
   subcommand = s;
   rows = rows;
   names = named ∙ ap (λ t. Some (t, rows)) is;
@@ -68,57 +68,57 @@ shown home words name rows s P named is placed flaw = record {
   has_flaw = flaw;
 }
 
-shown_once : (words : List Text) (name : Text) (rows : List Row) (P : List Row → Type 0)
-    → subcommand_of ocfexec_app words ≡ Some (name, rows) → name ≡ once_word → P rows → OnceFlawed words P
-shown_once words name rows P named is flaw = record {
+shown_once : (arguments : List Text) (name : Text) (rows : List Row) (P : List Row → Type 0)
+    → subcommand_of ocfexec_app arguments ≡ Some (name, rows) → name ≡ once_word → P rows → OnceFlawed arguments P
+shown_once arguments name rows P named is flaw = record {
   rows = rows;
   names = named ∙ ap (λ t. Some (t, rows)) is;
   has_flaw = flaw;
 }
 
 -- arguments that name no journal, or have another flaw, give no options
-pub flawed : (home : Option Text) (words : List Text) (name : Text) (rows : List Row) (s : Subcommand) (fault : WordsFault)
-    → fault_of ocfexec_app words ≡ [] → subcommand_of ocfexec_app words ≡ Some (name, rows) → name ≡ subcommand_word s
-    → HasPlacedFlaw s home rows fault → IsFault home words fault
-flawed home words name rows s Choice parsed named is none = (
+pub flawed : (home : Option Text) (arguments : List Text) (name : Text) (rows : List Row) (s : Subcommand) (fault : ArgumentsFault)
+    → fault_of ocfexec_app arguments ≡ [] → subcommand_of ocfexec_app arguments ≡ Some (name, rows) → name ≡ subcommand_word s
+    → HasPlacedFlaw s home rows fault → IsFault home arguments fault
+flawed home arguments name rows s Choice parsed named is none = (
   parsed,
   inl (record { subcommand = s; rows = rows; names = named ∙ ap (λ t. Some (t, rows)) is; none = none }),
 )
-flawed home words name rows s TidyAt parsed named is (placed, flaw) = (parsed, shown home words name rows s TidyAtFlaw named is placed flaw)
-flawed home words name rows s Root parsed named is (placed, flaw) = (parsed, inl (shown home words name rows s RootFlaw named is placed flaw))
-flawed home words name rows s Orphans parsed named is (placed, flaw) =
-    (parsed, shown home words name rows s OrphansFlaw named is placed flaw)
-flawed home words name rows s Since parsed named is (placed, flaw) = (parsed, shown home words name rows s SinceFlaw named is placed flaw)
-flawed home words name rows s Timeout parsed named is (placed, flaw) = absurd flaw
-flawed home words name rows s (Help e) parsed named is (placed, flaw) = absurd flaw
-flawed home words name rows s (Usage e) parsed named is (placed, flaw) = absurd flaw
-flawed home words name rows s Memory parsed named is (placed, flaw) = tt
+flawed home arguments name rows s TidyAt parsed named is (placed, flaw) = (parsed, shown home arguments name rows s TidyAtFlaw named is placed flaw)
+flawed home arguments name rows s Root parsed named is (placed, flaw) = (parsed, inl (shown home arguments name rows s RootFlaw named is placed flaw))
+flawed home arguments name rows s Orphans parsed named is (placed, flaw) =
+    (parsed, shown home arguments name rows s OrphansFlaw named is placed flaw)
+flawed home arguments name rows s Since parsed named is (placed, flaw) = (parsed, shown home arguments name rows s SinceFlaw named is placed flaw)
+flawed home arguments name rows s Timeout parsed named is (placed, flaw) = absurd flaw
+flawed home arguments name rows s (Help e) parsed named is (placed, flaw) = absurd flaw
+flawed home arguments name rows s (Usage e) parsed named is (placed, flaw) = absurd flaw
+flawed home arguments name rows s Memory parsed named is (placed, flaw) = tt
 
-pub flawed_once : (home : Option Text) (words : List Text) (name : Text) (rows : List Row) (fault : WordsFault)
-    → fault_of ocfexec_app words ≡ [] → subcommand_of ocfexec_app words ≡ Some (name, rows) → name ≡ once_word → HasOnceFlaw rows fault
-    → IsFault home words fault
-flawed_once home words name rows Root parsed named is flaw = (parsed, inr (shown_once words name rows RootFlaw named is flaw))
-flawed_once home words name rows Timeout parsed named is flaw = (parsed, shown_once words name rows TimeoutFlaw named is flaw)
-flawed_once home words name rows TidyAt parsed named is flaw = absurd flaw
-flawed_once home words name rows Orphans parsed named is flaw = absurd flaw
-flawed_once home words name rows Since parsed named is flaw = absurd flaw
-flawed_once home words name rows (Help e) parsed named is flaw = absurd flaw
-flawed_once home words name rows (Usage e) parsed named is flaw = absurd flaw
-flawed_once home words name rows Choice parsed named is flaw = absurd flaw
-flawed_once home words name rows Memory parsed named is flaw = tt
+pub flawed_once : (home : Option Text) (arguments : List Text) (name : Text) (rows : List Row) (fault : ArgumentsFault)
+    → fault_of ocfexec_app arguments ≡ [] → subcommand_of ocfexec_app arguments ≡ Some (name, rows) → name ≡ once_word → HasOnceFlaw rows fault
+    → IsFault home arguments fault
+flawed_once home arguments name rows Root parsed named is flaw = (parsed, inr (shown_once arguments name rows RootFlaw named is flaw))
+flawed_once home arguments name rows Timeout parsed named is flaw = (parsed, shown_once arguments name rows TimeoutFlaw named is flaw)
+flawed_once home arguments name rows TidyAt parsed named is flaw = absurd flaw
+flawed_once home arguments name rows Orphans parsed named is flaw = absurd flaw
+flawed_once home arguments name rows Since parsed named is flaw = absurd flaw
+flawed_once home arguments name rows (Help e) parsed named is flaw = absurd flaw
+flawed_once home arguments name rows (Usage e) parsed named is flaw = absurd flaw
+flawed_once home arguments name rows Choice parsed named is flaw = absurd flaw
+flawed_once home arguments name rows Memory parsed named is flaw = tt
 
 -- `clap`'s fault is one of these
-pub fault_kind : (home : Option Text) (words : List Text) (fault : WordsFault) → HasFaultKind (fault_of ocfexec_app words) fault
-    → IsFault home words fault
-fault_kind home words (Help e) h = h
-fault_kind home words (Usage e) h = h
-fault_kind home words Choice h = absurd h
-fault_kind home words TidyAt h = absurd h
-fault_kind home words Root h = absurd h
-fault_kind home words Orphans h = absurd h
-fault_kind home words Since h = absurd h
-fault_kind home words Timeout h = absurd h
-fault_kind home words Memory h = h
+pub fault_kind : (home : Option Text) (arguments : List Text) (fault : ArgumentsFault) → HasFaultKind (fault_of ocfexec_app arguments) fault
+    → IsFault home arguments fault
+fault_kind home arguments (Help e) h = h
+fault_kind home arguments (Usage e) h = h
+fault_kind home arguments Choice h = absurd h
+fault_kind home arguments TidyAt h = absurd h
+fault_kind home arguments Root h = absurd h
+fault_kind home arguments Orphans h = absurd h
+fault_kind home arguments Since h = absurd h
+fault_kind home arguments Timeout h = absurd h
+fault_kind home arguments Memory h = h
 
 -- the texts of an argument, or no texts if it is absent
 pub texts_given : {X : Type 0} (o all : Option (List X)) (xs : List X) → o ≡ all → o ≡ Some xs → xs ≡ unwrap_or all []

@@ -21,8 +21,8 @@ abbrev pub needed_rule : Text → Rule
 needed_rule id = record (word_rule id) { required = true }
 
 -- any number of arguments that are no options
-abbrev pub words_rule : Text → Rule
-words_rule id = record (word_rule id) { action = Some Append }
+abbrev pub arguments_rule : Text → Rule
+arguments_rule id = record (word_rule id) { action = Some Append }
 
 -- an option without a text
 abbrev pub flag_rule : Text → Rule
@@ -105,7 +105,7 @@ abbrev pub with_call_app : App → App
 with_call_app a =
     let a₁ = with_rule a (needed_rule (codes "agent")) in
     let a₂ = with_rule a₁ (needed_rule (codes "action")) in
-    let a₃ = with_rule a₂ (words_rule (codes "parameters")) in
+    let a₃ = with_rule a₂ (arguments_rule (codes "parameters")) in
     let a₄ = with_rule a₃ (text_rule_or (codes "timeout") default_timeout) in
     with_rule a₄ (text_rule_or (codes "id") default_id)
 

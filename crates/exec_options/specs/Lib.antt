@@ -1,4 +1,4 @@
 pub mod Subcommands
 pub mod App
-pub mod Words
+pub mod Arguments
 pub mod Faults

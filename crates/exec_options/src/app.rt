@@ -2,7 +2,7 @@
 ghost use Rattle.std.specs.Prelude.{◌≡◌, false, IfOk, codes};
 ghost use Rattle.clap.specs.Words.{app_of, rule_of, new_app};
 ghost use Rattle.clap.specs.declared.builder.command.Command.TheViews.{out-Command};
-ghost use Rattle.exec_options.specs.App.{text_rule, text_rule_or, flag_rule, word_rule, words_rule, needed_rule};
+ghost use Rattle.exec_options.specs.App.{text_rule, text_rule_or, flag_rule, word_rule, arguments_rule, needed_rule};
 ghost use Rattle.exec_options.specs.App.{with_agent_app, with_call_app, with_journal_app, with_log_app, with_options_app, with_location_app, with_site_app, with_status_app};
 ghost use Rattle.exec_options.specs.App.{top_app, run_app, serve_app, show_app, status_app, log_app, metrics_app, once_app, ocfexec_app};
 
@@ -78,8 +78,8 @@ fn needed<'a>(alloc: Global, id: &'a str, value: &'a str, help: &'a str) -> Arg<
 }
 
 // Any number of arguments that are no options.
-fn words<'a>(alloc: Global, id: &'a str, value: &'a str, help: &'a str) -> Arg<'a>
-    ensures rule { rule_of result ≡ words_rule id.entry.now }
+fn arguments<'a>(alloc: Global, id: &'a str, value: &'a str, help: &'a str) -> Arg<'a>
+    ensures rule { rule_of result ≡ arguments_rule id.entry.now }
     ensures local { result.global ≡ false }
 {
     word(alloc, id, value, help).action(ArgAction::Append)
@@ -272,7 +272,7 @@ fn with_call_options<'a>(alloc: Global, command: Command<'a>) -> Result<Command<
         "ACTION",
         "The action: start, stop, monitor, promote, demote, reload-agent, validate-all or meta-data",
     ))?;
-    let command = command.arg(words(
+    let command = command.arg(arguments(
         alloc,
         "parameters",
         "NAME=VALUE",

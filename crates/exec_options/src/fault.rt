@@ -9,7 +9,7 @@ use std::alloc::{AllocError, Global};
 
 /// Why the arguments give no options. It has no texts but those of `clap`; the program chooses its messages and exit status.
 #[derive(Debug, Drop)]
-pub enum WordsFault {
+pub enum ArgumentsFault {
     /// They ask for help or for the version; the text is for standard output.
     Help(clap::Error),
     /// They do not fit the command line; `clap`'s text is for standard error.
@@ -30,20 +30,20 @@ pub enum WordsFault {
     Memory,
 }
 
-impl WordsFault {
+impl ArgumentsFault {
     /// The fault of an error of `clap`.
-    pub(crate) fn from_clap(error: clap::Error) -> WordsFault
+    pub(crate) fn from_clap(error: clap::Error) -> ArgumentsFault
         ensures kinds { (kinds : Kinds) → HasKind kinds error → HasFaultKind kinds result }
-        ensures memory { result ≡ WordsFault.Memory → IsTrue ⟦<Global as Grows>⟧.refuses }
+        ensures memory { result ≡ ArgumentsFault.Memory → IsTrue ⟦<Global as Grows>⟧.refuses }
     {
         if error.kind() == ErrorKind::OutOfMemory {
             // TRUSTED: the growth that `clap` asked for was refused.
             let _ = Global::library_growth(Err::<(), AllocError>(AllocError));
-            WordsFault::Memory
+            ArgumentsFault::Memory
         } else if error.use_stderr() {
-            WordsFault::Usage(error)
+            ArgumentsFault::Usage(error)
         } else {
-            WordsFault::Help(error)
+            ArgumentsFault::Help(error)
         }
     }
 }

@@ -7,10 +7,10 @@ mod line;
 mod once;
 mod options;
 mod texts;
-mod words;
+mod arguments;
 
-pub use fault::WordsFault;
+pub use fault::ArgumentsFault;
 pub use once::OnceOptions;
 pub use options::{JournalLocation, Options, Subcommand};
 pub use texts::VERSION;
-pub use words::{Wanted, read_words};
+pub use arguments::{Wanted, read_arguments};

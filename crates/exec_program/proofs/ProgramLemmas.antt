@@ -5,13 +5,13 @@ use Rattle.disk_model.specs.View.{View}
 use Rattle.child_model.specs.Children.{ChildrenView}
 use Rattle.file_disk.specs.RamDisk.{IsFresh, view_of}
 use Rattle.file_disk.specs.declared.ram.RamDisk.{RamDisk}
-use Rattle.exec_options.specs.Words.{AsksFor}
+use Rattle.exec_options.specs.Arguments.{AsksFor}
 use Rattle.exec_options.specs.declared.once.OnceOptions.{OnceOptions}
 use Rattle.exec_options.specs.declared.options.JournalLocation.{JournalLocation}
 use Rattle.exec_options.specs.declared.options.JournalLocation.TheVariants.{Memory}
 use Rattle.exec_options.specs.declared.options.Options.{Options}
-use Rattle.exec_options.specs.declared.words.Wanted.{Wanted}
-use Rattle.exec_options.specs.declared.words.Wanted.TheVariants as wanted
+use Rattle.exec_options.specs.declared.arguments.Wanted.{Wanted}
+use Rattle.exec_options.specs.declared.arguments.Wanted.TheVariants as wanted
 use Rattle.exec_faults.specs.Faults.{HasCause}
 use Rattle.exec_faults.specs.declared.fault.Fault.{Fault}
 use Rattle.exec_session.specs.Answers.{Source}
@@ -30,8 +30,8 @@ runs_in_memory refuses asked tend gives left contents view o log location disk e
 
 -- an action that was run once
 pub does_once : {F L A S R W H : Type 0} (refuses : Bool) (asked : Asked F L A S R W H) (tend : A → ChildrenView) (gives : S → Source)
-    (left : R → Option (List ℕ)) (contents : W → Option (List ℕ)) (view : F → View) (named : Option (List ℕ)) (words : List (List ℕ))
-    (w : Wanted) (o : OnceOptions) (status : ℕ) → AsksFor named words w → w ≡ wanted.Once o → asked.once o status
-    → Does refuses asked tend gives left contents view named words (Ok status)
-does_once refuses asked tend gives left contents view named words w o status asks is ran =
-    inr (inl (o, subst (λ (x : Wanted). AsksFor named words x) is asks, (status, ran, refl)))
+    (left : R → Option (List ℕ)) (contents : W → Option (List ℕ)) (view : F → View) (named : Option (List ℕ)) (arguments : List (List ℕ))
+    (w : Wanted) (o : OnceOptions) (status : ℕ) → AsksFor named arguments w → w ≡ wanted.Once o → asked.once o status
+    → Does refuses asked tend gives left contents view named arguments (Ok status)
+does_once refuses asked tend gives left contents view named arguments w o status asks is ran =
+    inr (inl (o, subst (λ (x : Wanted). AsksFor named arguments x) is asks, (status, ran, refl)))

@@ -2,32 +2,32 @@
 use Rattle.std.proofs.Common.{◌≡◌, ◌∙◌, ⊎_elim, ℕ, List, Option, Some, None, ap, inl, inr, refl, subst, sym, Bor}
 use Rattle.ocf_types.specs.State.{State}
 use Rattle.disk_model.specs.View.{View}
-use Rattle.exec_options.specs.Words.{AsksFor, directory_of}
+use Rattle.exec_options.specs.Arguments.{AsksFor, directory_of}
 use Rattle.exec_options.specs.declared.once.OnceOptions.{OnceOptions}
 use Rattle.exec_options.specs.declared.options.JournalLocation.{JournalLocation}
 use Rattle.exec_options.specs.declared.options.JournalLocation.TheVariants.{Directory, Memory}
 use Rattle.exec_options.specs.declared.options.Options.{Options}
 use Rattle.exec_options.specs.declared.options.Subcommand.{Subcommand}
-use Rattle.exec_options.specs.declared.words.Wanted.{Wanted}
-use Rattle.exec_options.specs.declared.words.Wanted.TheVariants as wanted
+use Rattle.exec_options.specs.declared.arguments.Wanted.{Wanted}
+use Rattle.exec_options.specs.declared.arguments.Wanted.TheVariants as wanted
 use Rattle.exec_program.specs.Asked.{Asked}
 use Rattle.exec_program.specs.Requests.{Allows, IsAskedFor, IsFoundIn, IsFoundOn, IsOfDirectory, IsOfRun, IsOfSubcommand, Request}
 use Rattle.exec_program.specs.Requests.{AskSite, AwaitOrphans, LeaveWord, MakeAgents, OpenFiles, OpenLog, OpenReader, OpenWriter}
 use Rattle.exec_program.specs.Requests.{PrintText, RunOnce, ShowJournal, WatchPaths, WriteLine}
 
 -- where the arguments ask for a journal, the requests of its subcommand are allowed
-pub allows_journal : {F L A S R W H : Type 0} (asked : Asked F L A S R W H) (view : F → View) (named : Option (List ℕ)) (words : List (List ℕ))
-    (may : Request L → Type 0) (w : Wanted) (o : Options) → AsksFor named words w → w ≡ wanted.Journal o
-    → Allows may (IsAskedFor asked view named words) → Allows may (IsOfSubcommand asked view o o.subcommand)
-allows_journal asked view named words may w o asks is allows r h =
-    allows r (inl (o, subst (λ (x : Wanted). AsksFor named words x) is asks, h))
+pub allows_journal : {F L A S R W H : Type 0} (asked : Asked F L A S R W H) (view : F → View) (named : Option (List ℕ)) (arguments : List (List ℕ))
+    (may : Request L → Type 0) (w : Wanted) (o : Options) → AsksFor named arguments w → w ≡ wanted.Journal o
+    → Allows may (IsAskedFor asked view named arguments) → Allows may (IsOfSubcommand asked view o o.subcommand)
+allows_journal asked view named arguments may w o asks is allows r h =
+    allows r (inl (o, subst (λ (x : Wanted). AsksFor named arguments x) is asks, h))
 
 -- where they ask for one action by itself, that request is allowed
-pub allows_once : {F L A S R W H : Type 0} (asked : Asked F L A S R W H) (view : F → View) (named : Option (List ℕ)) (words : List (List ℕ))
-    (may : Request L → Type 0) (w : Wanted) (o : OnceOptions) → AsksFor named words w → w ≡ wanted.Once o
-    → Allows may (IsAskedFor asked view named words) → may (RunOnce o)
-allows_once asked view named words may w o asks is allows =
-    allows (RunOnce o) (inr (inl (o, subst (λ (x : Wanted). AsksFor named words x) is asks, refl)))
+pub allows_once : {F L A S R W H : Type 0} (asked : Asked F L A S R W H) (view : F → View) (named : Option (List ℕ)) (arguments : List (List ℕ))
+    (may : Request L → Type 0) (w : Wanted) (o : OnceOptions) → AsksFor named arguments w → w ≡ wanted.Once o
+    → Allows may (IsAskedFor asked view named arguments) → may (RunOnce o)
+allows_once asked view named arguments may w o asks is allows =
+    allows (RunOnce o) (inr (inl (o, subst (λ (x : Wanted). AsksFor named arguments x) is asks, refl)))
 
 -- the same of a subcommand that is known
 pub allows_as : {F L A S R W H : Type 0} (asked : Asked F L A S R W H) (view : F → View) (may : Request L → Type 0) (o : Options)

@@ -6,12 +6,12 @@ use Rattle.executor.specs.declared.opening.OpenError.{OpenError}
 use Rattle.executor.specs.declared.opening.OpenError.TheVariants as opening
 use Rattle.executor.specs.declared.report.Report.{Report}
 use Rattle.exec_options.specs.Faults.{IsFault}
-use Rattle.exec_options.specs.Words.{AsksFor, Gives, GivesOnce, directory_of}
+use Rattle.exec_options.specs.Arguments.{AsksFor, Gives, GivesOnce, directory_of}
 use Rattle.exec_options.specs.declared.once.OnceOptions.{OnceOptions}
-use Rattle.exec_options.specs.declared.words.Wanted.{Wanted}
-use Rattle.exec_options.specs.declared.words.Wanted.TheVariants as wanted
-use Rattle.exec_options.specs.declared.fault.WordsFault.{WordsFault}
-use Rattle.exec_options.specs.declared.fault.WordsFault.TheVariants as words_fault
+use Rattle.exec_options.specs.declared.arguments.Wanted.{Wanted}
+use Rattle.exec_options.specs.declared.arguments.Wanted.TheVariants as wanted
+use Rattle.exec_options.specs.declared.fault.ArgumentsFault.{ArgumentsFault}
+use Rattle.exec_options.specs.declared.fault.ArgumentsFault.TheVariants as arguments_fault
 use Rattle.exec_options.specs.declared.options.Options.{Options}
 use Rattle.exec_faults.specs.Faults.{HasCause, IsRunEnd}
 use Rattle.exec_faults.specs.declared.fault.Fault.{Fault}
@@ -86,79 +86,79 @@ opening_ends {T} why f r is same =
     subst IsRunEnd (sym same) (subst (λ (x : Fault). IsRunEnd {T = T} (Err x)) (sym is) (opening_end T why))
 
 -- arguments that give no options
-pub refused_ends : {T : Type 0} (named : Option (List ℕ)) (words : List (List ℕ)) (f : WordsFault) (r : Result T Fault) → IsFault named words f → IsWrittenAs f r
-    → EndsFor named words r
-refused_ends named words (words_fault.Help text) (Ok done) is reported = inl (text, is)
-refused_ends {T} named words (words_fault.Help text) (Err f) is reported = subst (λ x. EndsFor {T = T} named words (Err x)) (sym reported) (inl (text, is))
-refused_ends named words (words_fault.Usage text) r is reported = subst (λ x. EndsFor named words x) (sym reported) (inl (text, is))
-refused_ends named words words_fault.Choice r is reported = subst (λ x. EndsFor named words x) (sym reported) is
-refused_ends named words words_fault.TidyAt r is reported = subst (λ x. EndsFor named words x) (sym reported) is
-refused_ends named words words_fault.Root r is reported = subst (λ x. EndsFor named words x) (sym reported) is
-refused_ends named words words_fault.Orphans r is reported = subst (λ x. EndsFor named words x) (sym reported) is
-refused_ends named words words_fault.Since r is reported = subst (λ x. EndsFor named words x) (sym reported) (inr (inl is))
-refused_ends named words words_fault.Timeout r is reported = subst (λ x. EndsFor named words x) (sym reported) (inr (inr is))
-refused_ends named words words_fault.Memory r is reported = subst (λ x. EndsFor named words x) (sym reported) tt
+pub refused_ends : {T : Type 0} (named : Option (List ℕ)) (arguments : List (List ℕ)) (f : ArgumentsFault) (r : Result T Fault) → IsFault named arguments f → IsWrittenAs f r
+    → EndsFor named arguments r
+refused_ends named arguments (arguments_fault.Help text) (Ok done) is reported = inl (text, is)
+refused_ends {T} named arguments (arguments_fault.Help text) (Err f) is reported = subst (λ x. EndsFor {T = T} named arguments (Err x)) (sym reported) (inl (text, is))
+refused_ends named arguments (arguments_fault.Usage text) r is reported = subst (λ x. EndsFor named arguments x) (sym reported) (inl (text, is))
+refused_ends named arguments arguments_fault.Choice r is reported = subst (λ x. EndsFor named arguments x) (sym reported) is
+refused_ends named arguments arguments_fault.TidyAt r is reported = subst (λ x. EndsFor named arguments x) (sym reported) is
+refused_ends named arguments arguments_fault.Root r is reported = subst (λ x. EndsFor named arguments x) (sym reported) is
+refused_ends named arguments arguments_fault.Orphans r is reported = subst (λ x. EndsFor named arguments x) (sym reported) is
+refused_ends named arguments arguments_fault.Since r is reported = subst (λ x. EndsFor named arguments x) (sym reported) (inr (inl is))
+refused_ends named arguments arguments_fault.Timeout r is reported = subst (λ x. EndsFor named arguments x) (sym reported) (inr (inr is))
+refused_ends named arguments arguments_fault.Memory r is reported = subst (λ x. EndsFor named arguments x) (sym reported) tt
 
 -- arguments that ask for a journal
-pub journal_ends : {T : Type 0} (named : Option (List ℕ)) (words : List (List ℕ)) (o : Options) (r : Result T Fault) → Gives named words o → IsRunEnd r → EndsFor named words r
-journal_ends named words o (Ok done) gives ends = inr (o, gives)
-journal_ends named words o (Err fault.Usage) gives ends = absurd ends
-journal_ends named words o (Err fault.Choice) gives ends = absurd ends
-journal_ends named words o (Err fault.TidyAt) gives ends = absurd ends
-journal_ends named words o (Err fault.Root) gives ends = absurd ends
-journal_ends named words o (Err fault.Orphans) gives ends = absurd ends
-journal_ends named words o (Err fault.NotText) gives ends = absurd ends
-journal_ends named words o (Err fault.Log) gives ends = absurd ends
-journal_ends named words o (Err fault.NoResource) gives ends = (o, gives)
-journal_ends named words o (Err fault.NotOpened) gives ends = absurd ends
-journal_ends named words o (Err fault.NoJournal) gives ends = absurd ends
-journal_ends named words o (Err fault.NotWell) gives ends = (o, gives)
-journal_ends named words o (Err (fault.Damaged damage)) gives ends = (o, gives)
-journal_ends named words o (Err fault.Memory) gives ends = tt
-journal_ends named words o (Err fault.Disk) gives ends = (o, gives)
-journal_ends named words o (Err fault.Full) gives ends = (o, gives)
-journal_ends named words o (Err fault.InputOrOutput) gives ends = inr (o, gives)
-journal_ends named words o (Err fault.ReplyMemory) gives ends = (o, gives)
-journal_ends named words o (Err fault.ChildrenIgnored) gives ends = (o, gives)
+pub journal_ends : {T : Type 0} (named : Option (List ℕ)) (arguments : List (List ℕ)) (o : Options) (r : Result T Fault) → Gives named arguments o → IsRunEnd r → EndsFor named arguments r
+journal_ends named arguments o (Ok done) gives ends = inr (o, gives)
+journal_ends named arguments o (Err fault.Usage) gives ends = absurd ends
+journal_ends named arguments o (Err fault.Choice) gives ends = absurd ends
+journal_ends named arguments o (Err fault.TidyAt) gives ends = absurd ends
+journal_ends named arguments o (Err fault.Root) gives ends = absurd ends
+journal_ends named arguments o (Err fault.Orphans) gives ends = absurd ends
+journal_ends named arguments o (Err fault.NotText) gives ends = absurd ends
+journal_ends named arguments o (Err fault.Log) gives ends = absurd ends
+journal_ends named arguments o (Err fault.NoResource) gives ends = (o, gives)
+journal_ends named arguments o (Err fault.NotOpened) gives ends = absurd ends
+journal_ends named arguments o (Err fault.NoJournal) gives ends = absurd ends
+journal_ends named arguments o (Err fault.NotWell) gives ends = (o, gives)
+journal_ends named arguments o (Err (fault.Damaged damage)) gives ends = (o, gives)
+journal_ends named arguments o (Err fault.Memory) gives ends = tt
+journal_ends named arguments o (Err fault.Disk) gives ends = (o, gives)
+journal_ends named arguments o (Err fault.Full) gives ends = (o, gives)
+journal_ends named arguments o (Err fault.InputOrOutput) gives ends = inr (o, gives)
+journal_ends named arguments o (Err fault.ReplyMemory) gives ends = (o, gives)
+journal_ends named arguments o (Err fault.ChildrenIgnored) gives ends = (o, gives)
 
 -- arguments that ask for a journal in the files of a directory
-pub directory_ends : {T : Type 0} (named : Option (List ℕ)) (words : List (List ℕ)) (o : Options) (r : Result T Fault) → Gives named words o
-    → is_some (directory_of o.journal) ≡ true → IsDirectoryEnd r → EndsFor named words r
-directory_ends named words o r gives is_in =
-    ⊎_elim (journal_ends named words o r gives)
-    (⊎_elim (λ is. subst (λ x. EndsFor named words x) (sym is) (o, gives, is_in)) (λ is. subst (λ x. EndsFor named words x) (sym is) (o, gives, is_in)))
+pub directory_ends : {T : Type 0} (named : Option (List ℕ)) (arguments : List (List ℕ)) (o : Options) (r : Result T Fault) → Gives named arguments o
+    → is_some (directory_of o.journal) ≡ true → IsDirectoryEnd r → EndsFor named arguments r
+directory_ends named arguments o r gives is_in =
+    ⊎_elim (journal_ends named arguments o r gives)
+    (⊎_elim (λ is. subst (λ x. EndsFor named arguments x) (sym is) (o, gives, is_in)) (λ is. subst (λ x. EndsFor named arguments x) (sym is) (o, gives, is_in)))
 
 -- arguments whose options allow this end
-pub options_end : {T : Type 0} (home : Option (List ℕ)) (words : List (List ℕ)) (o : Options) (r : Result T Fault) → Gives home words o
-    → IsEndOf o r → EndsFor home words r
-options_end {T} home words o r gives =
-    ⊎_elim (journal_ends home words o r gives)
-    (⊎_elim (λ is. subst (λ x. EndsFor home words x) (sym is.0) (o, gives, is.1)) (λ is. directory_ends home words o r gives is.0 is.1))
+pub options_end : {T : Type 0} (home : Option (List ℕ)) (arguments : List (List ℕ)) (o : Options) (r : Result T Fault) → Gives home arguments o
+    → IsEndOf o r → EndsFor home arguments r
+options_end {T} home arguments o r gives =
+    ⊎_elim (journal_ends home arguments o r gives)
+    (⊎_elim (λ is. subst (λ x. EndsFor home arguments x) (sym is.0) (o, gives, is.1)) (λ is. directory_ends home arguments o r gives is.0 is.1))
 
 -- why the program ends as it does with these arguments: they ask for a journal, for one action by itself, or for nothing
-pub starts_journal : (home : Option (List ℕ)) (words : List (List ℕ)) (o : Options) (r : Result (Unit {0}) Fault) (ended : Result ℕ Fault)
-    → Gives home words o → IsEndOf o r → ended ≡ with_status r → StartEndsFor home words ended
-starts_journal home words o r ended gives ends is = inr (r, is, options_end home words o r gives ends)
+pub starts_journal : (home : Option (List ℕ)) (arguments : List (List ℕ)) (o : Options) (r : Result (Unit {0}) Fault) (ended : Result ℕ Fault)
+    → Gives home arguments o → IsEndOf o r → ended ≡ with_status r → StartEndsFor home arguments ended
+starts_journal home arguments o r ended gives ends is = inr (r, is, options_end home arguments o r gives ends)
 
-pub starts_once : (home : Option (List ℕ)) (words : List (List ℕ)) (o : OnceOptions) (ended : Result ℕ Fault) → GivesOnce words o
-    → StartEndsFor home words ended
-starts_once home words o ended gives = inl (o, gives)
+pub starts_once : (home : Option (List ℕ)) (arguments : List (List ℕ)) (o : OnceOptions) (ended : Result ℕ Fault) → GivesOnce arguments o
+    → StartEndsFor home arguments ended
+starts_once home arguments o ended gives = inl (o, gives)
 
-pub starts_nothing : (home : Option (List ℕ)) (words : List (List ℕ)) (f : WordsFault) (r : Result (Unit {0}) Fault) (ended : Result ℕ Fault)
-    → IsFault home words f → IsWrittenAs f r → ended ≡ with_status r → StartEndsFor home words ended
-starts_nothing home words f r ended is reported same = inr (r, same, refused_ends home words f r is reported)
+pub starts_nothing : (home : Option (List ℕ)) (arguments : List (List ℕ)) (f : ArgumentsFault) (r : Result (Unit {0}) Fault) (ended : Result ℕ Fault)
+    → IsFault home arguments f → IsWrittenAs f r → ended ≡ with_status r → StartEndsFor home arguments ended
+starts_nothing home arguments f r ended is reported same = inr (r, same, refused_ends home arguments f r is reported)
 
 -- the same where it is known what the arguments ask for
-pub starts_asked_journal : (home : Option (List ℕ)) (words : List (List ℕ)) (w : Wanted) (o : Options) (r : Result (Unit {0}) Fault)
-    (ended : Result ℕ Fault) → AsksFor home words w → w ≡ wanted.Journal o → IsEndOf o r → ended ≡ with_status r
-    → StartEndsFor home words ended
-starts_asked_journal home words w o r ended asks is =
-    starts_journal home words o r ended (subst (λ (x : Wanted). AsksFor home words x) is asks)
+pub starts_asked_journal : (home : Option (List ℕ)) (arguments : List (List ℕ)) (w : Wanted) (o : Options) (r : Result (Unit {0}) Fault)
+    (ended : Result ℕ Fault) → AsksFor home arguments w → w ≡ wanted.Journal o → IsEndOf o r → ended ≡ with_status r
+    → StartEndsFor home arguments ended
+starts_asked_journal home arguments w o r ended asks is =
+    starts_journal home arguments o r ended (subst (λ (x : Wanted). AsksFor home arguments x) is asks)
 
-pub starts_asked_once : (home : Option (List ℕ)) (words : List (List ℕ)) (w : Wanted) (o : OnceOptions) (ended : Result ℕ Fault)
-    → AsksFor home words w → w ≡ wanted.Once o → StartEndsFor home words ended
-starts_asked_once home words w o ended asks is =
-    starts_once home words o ended (subst (λ (x : Wanted). AsksFor home words x) is asks)
+pub starts_asked_once : (home : Option (List ℕ)) (arguments : List (List ℕ)) (w : Wanted) (o : OnceOptions) (ended : Result ℕ Fault)
+    → AsksFor home arguments w → w ≡ wanted.Once o → StartEndsFor home arguments ended
+starts_asked_once home arguments w o ended asks is =
+    starts_once home arguments o ended (subst (λ (x : Wanted). AsksFor home arguments x) is asks)
 
 -- how a session over a journal, or a view of one, ends: on its disk, in its directory, or because its log is not opened
 pub ends_on_disk : {T : Type 0} (o : Options) (r : Result T Fault) → IsRunEnd r → IsEndOf o r

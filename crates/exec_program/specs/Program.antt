@@ -6,9 +6,9 @@ use Rattle.child_model.specs.Children.{ChildrenView}
 use Rattle.file_disk.specs.RamDisk.{IsFresh, view_of}
 use Rattle.file_disk.specs.declared.ram.RamDisk.{RamDisk}
 use Rattle.exec_options.specs.Faults.{IsFault}
-use Rattle.exec_options.specs.Words.{Gives, GivesOnce}
-use Rattle.exec_options.specs.declared.fault.WordsFault.{WordsFault}
-use Rattle.exec_options.specs.declared.fault.WordsFault.TheVariants as words_fault
+use Rattle.exec_options.specs.Arguments.{Gives, GivesOnce}
+use Rattle.exec_options.specs.declared.fault.ArgumentsFault.{ArgumentsFault}
+use Rattle.exec_options.specs.declared.fault.ArgumentsFault.TheVariants as arguments_fault
 use Rattle.exec_options.specs.declared.once.OnceOptions.{OnceOptions}
 use Rattle.exec_options.specs.declared.options.JournalLocation.{JournalLocation}
 use Rattle.exec_options.specs.declared.options.JournalLocation.TheVariants.{Directory, Memory}
@@ -57,9 +57,9 @@ DoesAs refuses asked tend gives left contents view o subcommand.Serve ended = Ru
 DoesAs refuses asked tend gives left contents view o _ ended = Looks asked o o.journal ended
 
 -- where arguments give no options and a text answers them, that text is printed
-abbrev pub Prints : {F L A S R W H : Type 0} → Asked F L A S R W H → WordsFault → Type 0
-Prints asked (words_fault.Help text) = asked.printed text
-Prints asked (words_fault.Usage text) = asked.printed text
+abbrev pub Prints : {F L A S R W H : Type 0} → Asked F L A S R W H → ArgumentsFault → Type 0
+Prints asked (arguments_fault.Help text) = asked.printed text
+Prints asked (arguments_fault.Usage text) = asked.printed text
 Prints asked _ = ⊤
 
 -- What the program does with these arguments, where the environment names this directory for a journal, and how it ends: with a journal;
@@ -67,9 +67,9 @@ Prints asked _ = ⊤
 -- where the allocator refuses growths.
 abbrev pub Does : {F L A S R W H : Type 0} → Bool → Asked F L A S R W H → (A → ChildrenView) → (S → Source)
     → (R → Option (List ℕ)) → (W → Option (List ℕ)) → (F → View) → Option (List ℕ) → List (List ℕ) → Result ℕ Fault → Type 0
-Does refuses asked tend gives left contents view named words ended =
-    ((o : Options) × Gives named words o
+Does refuses asked tend gives left contents view named arguments ended =
+    ((o : Options) × Gives named arguments o
     × ((r : Result Unit Fault) × DoesAs refuses asked tend gives left contents view o o.subcommand r × (ended ≡ with_status r)))
-    ⊎ (((o : OnceOptions) × GivesOnce words o × ((status : ℕ) × asked.once o status × (ended ≡ Ok status)))
-    ⊎ ((f : WordsFault) × IsFault named words f × (f ≡ words_fault.Memory → IsTrue refuses)
+    ⊎ (((o : OnceOptions) × GivesOnce arguments o × ((status : ℕ) × asked.once o status × (ended ≡ Ok status)))
+    ⊎ ((f : ArgumentsFault) × IsFault named arguments f × (f ≡ arguments_fault.Memory → IsTrue refuses)
     × ((r : Result Unit Fault) × IsWrittenAs f r × Prints asked f × (ended ≡ with_status r))))

@@ -7,9 +7,9 @@ use Rattle.disk_model.specs.View.{View}
 use Rattle.exec_journal.specs.Opening.{OpensAt}
 use Rattle.exec_journal.specs.Position.{Position}
 use Rattle.exec_options.specs.Faults.{IsFault}
-use Rattle.exec_options.specs.Words.{Gives, GivesOnce, directory_of}
-use Rattle.exec_options.specs.declared.fault.WordsFault.{WordsFault}
-use Rattle.exec_options.specs.declared.fault.WordsFault.TheVariants as words_fault
+use Rattle.exec_options.specs.Arguments.{Gives, GivesOnce, directory_of}
+use Rattle.exec_options.specs.declared.fault.ArgumentsFault.{ArgumentsFault}
+use Rattle.exec_options.specs.declared.fault.ArgumentsFault.TheVariants as arguments_fault
 use Rattle.exec_options.specs.declared.once.OnceOptions.{OnceOptions}
 use Rattle.exec_options.specs.declared.options.Options.{Options}
 use Rattle.exec_options.specs.declared.options.Subcommand.{Subcommand}
@@ -94,13 +94,13 @@ IsOfSubcommand asked view o subcommand.Serve r = IsOfRun (IsFoundIn asked view o
 IsOfSubcommand asked view o _ r = IsOfLook o r
 
 -- the text that answers arguments which give no options
-abbrev pub IsOfFault : {L : Type 0} → WordsFault → Request L → Type 0
-IsOfFault fault (PrintText text) = (fault ≡ words_fault.Help text) ⊎ (fault ≡ words_fault.Usage text)
+abbrev pub IsOfFault : {L : Type 0} → ArgumentsFault → Request L → Type 0
+IsOfFault fault (PrintText text) = (fault ≡ arguments_fault.Help text) ⊎ (fault ≡ arguments_fault.Usage text)
 IsOfFault fault _ = ⊥
 
 -- These arguments call for this request, where the environment names this directory for a journal: by the options of a subcommand, to run
 -- one action, or to print a text.
 abbrev pub IsAskedFor : {F L A S R W H : Type 0} → Asked F L A S R W H → (F → View) → Option (List ℕ) → List (List ℕ) → Request L → Type 0
-IsAskedFor asked view named words r =
-    ((o : Options) × Gives named words o × IsOfSubcommand asked view o o.subcommand r)
-    ⊎ (((o : OnceOptions) × GivesOnce words o × (r ≡ RunOnce o)) ⊎ ((f : WordsFault) × IsFault named words f × IsOfFault f r))
+IsAskedFor asked view named arguments r =
+    ((o : Options) × Gives named arguments o × IsOfSubcommand asked view o o.subcommand r)
+    ⊎ (((o : OnceOptions) × GivesOnce arguments o × (r ≡ RunOnce o)) ⊎ ((f : ArgumentsFault) × IsFault named arguments f × IsOfFault f r))

@@ -2,9 +2,9 @@
 use Rattle.std.specs.Prelude.{◌≡◌, ◌⊎◌, ◌||◌, ℕ, ⊤, true, List, Option, is_some, option_map, Result, Ok, Err}
 use Rattle.ocf_env.specs.Locations.{SiteView}
 use Rattle.exec_options.specs.Faults.{AsksForText, IsFault, IsMisused}
-use Rattle.exec_options.specs.Words.{Gives, GivesOnce, directory_of}
-use Rattle.exec_options.specs.declared.fault.WordsFault.{WordsFault}
-use Rattle.exec_options.specs.declared.fault.WordsFault.TheVariants as words_fault
+use Rattle.exec_options.specs.Arguments.{Gives, GivesOnce, directory_of}
+use Rattle.exec_options.specs.declared.fault.ArgumentsFault.{ArgumentsFault}
+use Rattle.exec_options.specs.declared.fault.ArgumentsFault.TheVariants as arguments_fault
 use Rattle.exec_options.specs.declared.once.OnceOptions.{OnceOptions}
 use Rattle.exec_options.specs.declared.options.Options.{Options}
 use Rattle.exec_faults.specs.Faults.{IsRunEnd, status_of}
@@ -41,29 +41,29 @@ opening_fault opening.Foreign = fault.Disk
 opening_fault opening.Full = fault.Full
 
 -- how the program ends where arguments give no options: a text that was asked for is written, or output fails
-abbrev pub IsWrittenAs : {T : Type 0} → WordsFault → Result T Fault → Type 0
-IsWrittenAs (words_fault.Help text) (Ok done) = ⊤
-IsWrittenAs (words_fault.Help text) (Err f) = f ≡ fault.InputOrOutput
-IsWrittenAs (words_fault.Usage text) ended = ended ≡ Err fault.Usage
-IsWrittenAs words_fault.Choice ended = ended ≡ Err fault.Choice
-IsWrittenAs words_fault.TidyAt ended = ended ≡ Err fault.TidyAt
-IsWrittenAs words_fault.Root ended = ended ≡ Err fault.Root
-IsWrittenAs words_fault.Orphans ended = ended ≡ Err fault.Orphans
-IsWrittenAs words_fault.Since ended = ended ≡ Err fault.Usage
-IsWrittenAs words_fault.Timeout ended = ended ≡ Err fault.Usage
-IsWrittenAs words_fault.Memory ended = ended ≡ Err fault.Memory
+abbrev pub IsWrittenAs : {T : Type 0} → ArgumentsFault → Result T Fault → Type 0
+IsWrittenAs (arguments_fault.Help text) (Ok done) = ⊤
+IsWrittenAs (arguments_fault.Help text) (Err f) = f ≡ fault.InputOrOutput
+IsWrittenAs (arguments_fault.Usage text) ended = ended ≡ Err fault.Usage
+IsWrittenAs arguments_fault.Choice ended = ended ≡ Err fault.Choice
+IsWrittenAs arguments_fault.TidyAt ended = ended ≡ Err fault.TidyAt
+IsWrittenAs arguments_fault.Root ended = ended ≡ Err fault.Root
+IsWrittenAs arguments_fault.Orphans ended = ended ≡ Err fault.Orphans
+IsWrittenAs arguments_fault.Since ended = ended ≡ Err fault.Usage
+IsWrittenAs arguments_fault.Timeout ended = ended ≡ Err fault.Usage
+IsWrittenAs arguments_fault.Memory ended = ended ≡ Err fault.Memory
 
 -- the arguments ask for a session over a journal or a view of one, where the environment names this directory
 abbrev pub AsksForJournal : Option (List ℕ) → List (List ℕ) → Type 0
-AsksForJournal named words = (o : Options) × Gives named words o
+AsksForJournal named arguments = (o : Options) × Gives named arguments o
 
 -- the arguments ask for a journal in the files of a directory
 abbrev pub IsInDirectory : Option (List ℕ) → List (List ℕ) → Type 0
-IsInDirectory named words = (o : Options) × Gives named words o × (is_some (directory_of o.journal) ≡ true)
+IsInDirectory named arguments = (o : Options) × Gives named arguments o × (is_some (directory_of o.journal) ≡ true)
 
 -- the arguments name a file or a directory for the output of agents
 abbrev pub AsksForLog : Option (List ℕ) → List (List ℕ) → Type 0
-AsksForLog named words = (o : Options) × Gives named words o × ((is_some o.log || is_some o.logs) ≡ true)
+AsksForLog named arguments = (o : Options) × Gives named arguments o × ((is_some o.log || is_some o.logs) ≡ true)
 
 -- how a session over a journal, or a view of one, ends with these options: as on any disk; because the file for the output of agents is
 -- not opened; or because the files of the journal are not, or hold none
@@ -74,21 +74,21 @@ IsEndOf o ended =
 
 -- why the program ends like this: the arguments ask for a journal, or for nothing
 abbrev pub EndsFor : {T : Type 0} → Option (List ℕ) → List (List ℕ) → Result T Fault → Type 0
-EndsFor named words (Ok done) = AsksForText named words ⊎ AsksForJournal named words
-EndsFor named words (Err fault.Usage) = IsMisused named words
-EndsFor named words (Err fault.Choice) = IsFault named words words_fault.Choice
-EndsFor named words (Err fault.TidyAt) = IsFault named words words_fault.TidyAt
-EndsFor named words (Err fault.Root) = IsFault named words words_fault.Root
-EndsFor named words (Err fault.Orphans) = IsFault named words words_fault.Orphans
-EndsFor named words (Err fault.NotText) = ⊥
-EndsFor named words (Err fault.Memory) = ⊤
-EndsFor named words (Err fault.Log) = AsksForLog named words
-EndsFor named words (Err fault.NotOpened) = IsInDirectory named words
-EndsFor named words (Err fault.NoJournal) = IsInDirectory named words
-EndsFor named words (Err fault.InputOrOutput) = AsksForText named words ⊎ AsksForJournal named words
-EndsFor named words (Err _) = AsksForJournal named words
+EndsFor named arguments (Ok done) = AsksForText named arguments ⊎ AsksForJournal named arguments
+EndsFor named arguments (Err fault.Usage) = IsMisused named arguments
+EndsFor named arguments (Err fault.Choice) = IsFault named arguments arguments_fault.Choice
+EndsFor named arguments (Err fault.TidyAt) = IsFault named arguments arguments_fault.TidyAt
+EndsFor named arguments (Err fault.Root) = IsFault named arguments arguments_fault.Root
+EndsFor named arguments (Err fault.Orphans) = IsFault named arguments arguments_fault.Orphans
+EndsFor named arguments (Err fault.NotText) = ⊥
+EndsFor named arguments (Err fault.Memory) = ⊤
+EndsFor named arguments (Err fault.Log) = AsksForLog named arguments
+EndsFor named arguments (Err fault.NotOpened) = IsInDirectory named arguments
+EndsFor named arguments (Err fault.NoJournal) = IsInDirectory named arguments
+EndsFor named arguments (Err fault.InputOrOutput) = AsksForText named arguments ⊎ AsksForJournal named arguments
+EndsFor named arguments (Err _) = AsksForJournal named arguments
 
 -- why the program ends like this with these arguments; one action by itself ends with a status of its own
 abbrev pub StartEndsFor : Option (List ℕ) → List (List ℕ) → Result ℕ Fault → Type 0
-StartEndsFor named words ended =
-    ((o : OnceOptions) × GivesOnce words o) ⊎ ((r : Result (Unit {0}) Fault) × (ended ≡ with_status r) × EndsFor named words r)
+StartEndsFor named arguments ended =
+    ((o : OnceOptions) × GivesOnce arguments o) ⊎ ((r : Result (Unit {0}) Fault) × (ended ≡ with_status r) × EndsFor named arguments r)

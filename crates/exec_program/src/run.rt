@@ -1,6 +1,6 @@
 //! A session over a journal: its executor, its standard streams, and how it ends.
 ghost use Rattle.std.specs.Prelude.{◌≡◌, ℕ, List, Some, IfErr, IfOk, IsTrue, OnErr, option_map};
-ghost use Rattle.exec_options.specs.Words.{directory_of};
+ghost use Rattle.exec_options.specs.Arguments.{directory_of};
 ghost use Rattle.exec_faults.specs.Faults.{HasCause, IsRunEnd};
 ghost use Rattle.exec_program.specs.Asked.{fresh_agents};
 ghost use Rattle.exec_program.specs.Limits.{book_room};

@@ -7,7 +7,7 @@ ghost use Rattle.exec_program.specs.Starts.{IsEndOf, IsWrittenAs, StartEndsFor, 
 use crate::host::Host;
 use crate::run::serve_agents;
 use exec_faults::Fault;
-use exec_options::{JournalLocation, Options, Subcommand, Wanted, WordsFault, read_words};
+use exec_options::{JournalLocation, Options, Subcommand, Wanted, ArgumentsFault, read_arguments};
 use file_disk::RamDisk;
 use growth::Grows;
 use std::alloc::Global;
@@ -24,13 +24,13 @@ fn with_status(ended: Result<(), Fault>) -> Result<u8, Fault>
 }
 
 // How the program ends where its arguments give no options. A text that was asked for is printed, and so is the text of a usage fault.
-fn refuse<H: Host>(host: &H, fault: &WordsFault) -> Result<(), Fault>
+fn refuse<H: Host>(host: &H, fault: &ArgumentsFault) -> Result<(), Fault>
     requires may { Allows (H.may host.now) (IsOfFault fault.now) }
     ensures reported { IsWrittenAs fault.now result }
     ensures prints { Prints (H.asked host.now) fault.now }
 {
     match fault {
-        WordsFault::Help(text) => match host.print(text) {
+        ArgumentsFault::Help(text) => match host.print(text) {
             Ok(()) => Ok(()),
             // the reader has read enough
             Err(error) if error.kind() == ErrorKind::BrokenPipe => Ok(()),
@@ -39,37 +39,37 @@ fn refuse<H: Host>(host: &H, fault: &WordsFault) -> Result<(), Fault>
                 Err(Fault::InputOrOutput)
             }
         },
-        WordsFault::Usage(text) => {
+        ArgumentsFault::Usage(text) => {
             let _ = host.print(text);
             Err(Fault::Usage)
         }
-        WordsFault::Choice => Err(Fault::Choice),
-        WordsFault::TidyAt => Err(Fault::TidyAt),
-        WordsFault::Root => Err(Fault::Root),
-        WordsFault::Orphans => Err(Fault::Orphans),
-        WordsFault::Since => {
+        ArgumentsFault::Choice => Err(Fault::Choice),
+        ArgumentsFault::TidyAt => Err(Fault::TidyAt),
+        ArgumentsFault::Root => Err(Fault::Root),
+        ArgumentsFault::Orphans => Err(Fault::Orphans),
+        ArgumentsFault::Since => {
             host.say("ocfexec: give --since a moment, as 2026-11-27 or 2026-11-27T06:30");
             Err(Fault::Usage)
         }
-        WordsFault::Timeout => {
+        ArgumentsFault::Timeout => {
             host.say("ocfexec: give --timeout milliseconds, from 1 to 4294967295");
             Err(Fault::Usage)
         }
-        WordsFault::Memory => Err(Fault::Memory),
+        ArgumentsFault::Memory => Err(Fault::Memory),
     }
 }
 
 /// Does what these arguments ask for, the program's name first, where the environment names this directory for a journal. Gives the exit
 /// status.
 #[tactic(auto, using(crate::proofs::StartLemmas::starts_journal, crate::proofs::StartLemmas::starts_once, crate::proofs::StartLemmas::starts_nothing))]
-pub fn program<H: Host>(host: &H, named: Option<&str>, words: &[String]) -> Result<u8, Fault>
+pub fn program<H: Host>(host: &H, named: Option<&str>, arguments: &[String]) -> Result<u8, Fault>
     requires may { Allows (H.may host.now) (IsAskedFor (H.asked host.now) H.Files.view
-        (option_map (λ s. s.now) named) (map string_bytes words.now)) }
-    ensures ends { StartEndsFor (option_map (λ s. s.now) named.entry) (map string_bytes words.now) result }
+        (option_map (λ s. s.now) named) (map string_bytes arguments.now)) }
+    ensures ends { StartEndsFor (option_map (λ s. s.now) named.entry) (map string_bytes arguments.now) result }
     ensures does { Does ⟦<Global as Grows>⟧.refuses (H.asked host.now) H.Agents.view H.Source.gives H.Reader.remaining H.Writer.contents
-        H.Files.view (option_map (λ s. s.now) named.entry) (map string_bytes words.now) result }
+        H.Files.view (option_map (λ s. s.now) named.entry) (map string_bytes arguments.now) result }
 {
-    match read_words(host.alloc(), named, words) {
+    match read_arguments(host.alloc(), named, arguments) {
         Ok(Wanted::Journal(options)) => with_status(on_journal(host, options)),
         Ok(Wanted::Once(options)) => Ok(host.once(&options)),
         Err(fault) => with_status(refuse(host, &fault)),

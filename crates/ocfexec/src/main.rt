@@ -11,7 +11,7 @@ mod host;
 mod log;
 mod metadata;
 mod once;
-mod words;
+mod arguments;
 
 use child_keeper::System;
 use diagnostics::{FirstError, report, report_cause};
@@ -19,7 +19,7 @@ use exec_faults::Fault;
 use exec_program::program;
 use host::SystemHost;
 use std::process::ExitCode;
-use words::{named_journal, words_of};
+use arguments::{named_journal, arguments_of};
 
 fn main(rt: HostRuntime) -> ExitCode {
     let system = System::new(&rt);
@@ -32,7 +32,7 @@ fn main(rt: HostRuntime) -> ExitCode {
 
 // Does what the arguments of the command line ask for, and returns the exit status.
 fn start(system: &System<'_>) -> Result<u8, Fault> {
-    let words = words_of(system.host())?;
+    let arguments = arguments_of(system.host())?;
     let named = named_journal(system.host())?;
     let named = match &named {
         Some(directory) => Some(directory.as_str()),
@@ -42,7 +42,7 @@ fn start(system: &System<'_>) -> Result<u8, Fault> {
     program(
         &SystemHost::new(system, &unread, &unwritten),
         named,
-        words.as_slice(),
+        arguments.as_slice(),
     )
 }
 

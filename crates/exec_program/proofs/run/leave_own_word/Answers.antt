@@ -1,5 +1,5 @@
 use Rattle.std.proofs.Common.{ap}
-use Rattle.exec_options.specs.Words.{directory_of}
+use Rattle.exec_options.specs.Arguments.{directory_of}
 use Rattle.exec_program.proofs.run.leave_own_word.Goals as goal
 
 pub leave_word-requires : goal.leave_word-requires

@@ -6,14 +6,14 @@ use Rattle.exec_program.proofs.start.program.Goals as goal
 
 pub on_journal-requires : goal.on_journal-requires
 on_journal-requires g c = record {
-  may = allows_journal (g.H.Host.asked c.args.host.now) g.H.Files.Disk.view (option_map (λ s. s.now) c.args.named) (map string_bytes c.args.words.now)
+  may = allows_journal (g.H.Host.asked c.args.host.now) g.H.Files.Disk.view (option_map (λ s. s.now) c.args.named) (map string_bytes c.args.arguments.now)
       (g.H.Host.may c.args.host.now) c.in-Ok-Journal.field-0 c.in-Ok-Journal.options c.in-Ok-Journal.ensures.ok c.in-Ok-Journal.field-0-is
       c.requires.may;
 }
 
 pub once-requires : goal.once-requires
 once-requires g c =
-    allows_once (g.H.Host.asked c.args.host.now) g.H.Files.Disk.view (option_map (λ s. s.now) c.args.named) (map string_bytes c.args.words.now)
+    allows_once (g.H.Host.asked c.args.host.now) g.H.Files.Disk.view (option_map (λ s. s.now) c.args.named) (map string_bytes c.args.arguments.now)
     (g.H.Host.may c.args.host.now) c.in-Ok-Once.field-0 c.in-Ok-Once.options c.in-Ok-Once.ensures.ok c.in-Ok-Once.field-0-is c.requires.may
 
 pub refuse-requires : goal.refuse-requires
@@ -21,23 +21,23 @@ refuse-requires g c = record { may = λ r h. c.requires.may r (inr (inr (c.in-Er
 
 pub returns-in-Ok-Journal-clause-ends : goal.returns-in-Ok-Journal-clause-ends
 returns-in-Ok-Journal-clause-ends g c =
-    starts_asked_journal (option_map (λ s. s.now) c.args.named) (map string_bytes c.args.words.now)
+    starts_asked_journal (option_map (λ s. s.now) c.args.named) (map string_bytes c.args.arguments.now)
     c.in-Ok-Journal.field-0 c.in-Ok-Journal.options c.on_journal.result c.with_status.result
     c.in-Ok-Journal.ensures.ok c.in-Ok-Journal.field-0-is c.on_journal.ensures.ends c.with_status.ensures
 
 pub returns-in-Ok-Once-clause-ends : goal.returns-in-Ok-Once-clause-ends
 returns-in-Ok-Once-clause-ends g c =
-    starts_asked_once (option_map (λ s. s.now) c.args.named) (map string_bytes c.args.words.now)
+    starts_asked_once (option_map (λ s. s.now) c.args.named) (map string_bytes c.args.arguments.now)
     c.in-Ok-Once.field-0 c.in-Ok-Once.options _ c.in-Ok-Once.ensures.ok c.in-Ok-Once.field-0-is
 
 pub returns-in-Ok-Once-clause-does : goal.returns-in-Ok-Once-clause-does
 returns-in-Ok-Once-clause-does g c =
     does_once _ (g.H.Host.asked c.args.host.now) g.H.Agents.Children.view g.H.Source.Metadata.gives g.H.Reader.Read.remaining g.H.Writer.Write.contents
-    g.H.Files.Disk.view (option_map (λ s. s.now) c.args.named) (map string_bytes c.args.words.now)
+    g.H.Files.Disk.view (option_map (λ s. s.now) c.args.named) (map string_bytes c.args.arguments.now)
     c.in-Ok-Once.field-0 c.in-Ok-Once.options _ c.in-Ok-Once.ensures.ok c.in-Ok-Once.field-0-is c.once.ensures
 
 pub returns-in-Err-clause-ends : goal.returns-in-Err-clause-ends
 returns-in-Err-clause-ends g c =
-    starts_nothing (option_map (λ s. s.now) c.args.named) (map string_bytes c.args.words.now)
+    starts_nothing (option_map (λ s. s.now) c.args.named) (map string_bytes c.args.arguments.now)
     c.in-Err.fault c.refuse.result c.with_status-in-Err.result
     c.in-Err.ensures.fault c.refuse.ensures.reported c.with_status-in-Err.ensures

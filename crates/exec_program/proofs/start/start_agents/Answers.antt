@@ -1,5 +1,5 @@
 use Rattle.std.proofs.Common.{ap, inl, inr, option_map, refl, subst}
-use Rattle.exec_options.specs.Words.{directory_of}
+use Rattle.exec_options.specs.Arguments.{directory_of}
 use Rattle.file_disk.specs.RamDisk.{view_of}
 use Rattle.exec_program.specs.Requests.{OpenFiles, OpenLog}
 use Rattle.exec_program.proofs.ProgramLemmas.{runs_in_memory}

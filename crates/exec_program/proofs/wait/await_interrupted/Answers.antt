@@ -1,6 +1,6 @@
 use Rattle.std.proofs.Common.{ap, refl}
 use Rattle.exec_journal.specs.Journal.{journal_disk, journal_position}
-use Rattle.exec_options.specs.Words.{directory_of}
+use Rattle.exec_options.specs.Arguments.{directory_of}
 use Rattle.exec_program.specs.Requests.{AwaitOrphans}
 use Rattle.exec_program.proofs.WaitLemmas.{waits_in}
 use Rattle.exec_program.proofs.wait.await_interrupted.Goals as goal

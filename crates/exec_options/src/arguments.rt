@@ -3,12 +3,12 @@ ghost use Rattle.std.specs.Prelude.{◌≡◌, ℕ, [], true, map, string_bytes,
 ghost use Rattle.clap.specs.Words.{all_of, first_of, rows_of, found_of, fault_of};
 ghost use Rattle.exec_options.specs.App.{ocfexec_app};
 ghost use Rattle.ocf_types.specs.Limits.{part_limit};
-ghost use Rattle.exec_options.specs.Words.{directory_of, is_absolute, is_true_text, longest_wait, orphans_text, location_in, default_directory, root_text, tidy_text, timeout_text};
-ghost use Rattle.exec_options.specs.Words.{AsksFor, IsJournalWanted, IsNumberTo, IsOnceWanted, IsReadFrom, IsSince, IsTimeout};
+ghost use Rattle.exec_options.specs.Arguments.{directory_of, is_absolute, is_true_text, longest_wait, orphans_text, location_in, default_directory, root_text, tidy_text, timeout_text};
+ghost use Rattle.exec_options.specs.Arguments.{AsksFor, IsJournalWanted, IsNumberTo, IsOnceWanted, IsReadFrom, IsSince, IsTimeout};
 ghost use Rattle.exec_options.specs.Faults.{HasFlaw, HasOnceFlaw, HasPlacedFlaw, IsFault, OrphansFlaw, RootFlaw, TidyAtFlaw, TimeoutFlaw};
 
 use crate::app::{ID, JOURNAL, ORPHANS, PATH, ROOT, TIDY_AT, TIMEOUT};
-use crate::fault::WordsFault;
+use crate::fault::ArgumentsFault;
 use crate::line::command_line;
 use crate::once::OnceOptions;
 use crate::options::{JournalLocation, Options, Subcommand};
@@ -85,30 +85,30 @@ fn number_to(limit: u64, text: &str) -> Option<u64>
     }
 }
 
-fn tidy_at(matches: &ArgMatches<'_>) -> Result<u64, WordsFault>
+fn tidy_at(matches: &ArgMatches<'_>) -> Result<u64, ArgumentsFault>
     ensures number { IfOk result
         (IsNumberTo part_limit (tidy_text (rows_of (found_of matches.now)))) }
     ensures fault { IfErr result
-        (λ f. (f ≡ WordsFault.TidyAt) × TidyAtFlaw (rows_of (found_of matches.now))) }
+        (λ f. (f ≡ ArgumentsFault.TidyAt) × TidyAtFlaw (rows_of (found_of matches.now))) }
 {
     match number_to(PART_LIMIT, text_of(matches, "tidy-at").unwrap_or(TIDY_AT)) {
         Some(bytes) => Ok(bytes),
-        None => Err(WordsFault::TidyAt),
+        None => Err(ArgumentsFault::TidyAt),
     }
 }
 
-fn orphans(matches: &ArgMatches<'_>) -> Result<u64, WordsFault>
+fn orphans(matches: &ArgMatches<'_>) -> Result<u64, ArgumentsFault>
     ensures number { IfOk result
         (IsNumberTo longest_wait (orphans_text (rows_of (found_of matches.now)))) }
     ensures fault { IfErr result
-        (λ f. (f ≡ WordsFault.Orphans) × OrphansFlaw (rows_of (found_of matches.now))) }
+        (λ f. (f ≡ ArgumentsFault.Orphans) × OrphansFlaw (rows_of (found_of matches.now))) }
 {
     match number_to(
         ORPHANS_LIMIT,
         text_of(matches, "orphans").unwrap_or(ORPHANS),
     ) {
         Some(millis) => Ok(millis),
-        None => Err(WordsFault::Orphans),
+        None => Err(ArgumentsFault::Orphans),
     }
 }
 
@@ -122,52 +122,52 @@ fn is_absolute(path: &str) -> bool
     }
 }
 
-fn root<'a>(matches: &ArgMatches<'a>) -> Result<&'a str, WordsFault>
+fn root<'a>(matches: &ArgMatches<'a>) -> Result<&'a str, ArgumentsFault>
     ensures path { IfOk result
         (λ p. (p.now ≡ root_text (rows_of (found_of matches.now))) × (is_absolute p.now ≡ true)) }
     ensures fault { IfErr result
-        (λ f. (f ≡ WordsFault.Root) × RootFlaw (rows_of (found_of matches.now))) }
+        (λ f. (f ≡ ArgumentsFault.Root) × RootFlaw (rows_of (found_of matches.now))) }
 {
     let path = text_of(matches, "root").unwrap_or(ROOT);
     if is_absolute(path) {
         Ok(path)
     } else {
-        Err(WordsFault::Root)
+        Err(ArgumentsFault::Root)
     }
 }
 
 // The moment from which on records are printed; 0 if none is named.
-fn since(alloc: Global, matches: &ArgMatches<'_>) -> Result<u64, WordsFault>
+fn since(alloc: Global, matches: &ArgMatches<'_>) -> Result<u64, ArgumentsFault>
     ensures moment { IfOk result
         (IsSince (first_of (codes "since") (rows_of (found_of matches.now)))) }
     ensures fault { IfErr result (HasFlaw (rows_of (found_of matches.now))) }
-    ensures memory { IfErr result (λ f. f ≡ WordsFault.Memory → IsTrue ⟦<Global as Grows>⟧.refuses) }
+    ensures memory { IfErr result (λ f. f ≡ ArgumentsFault.Memory → IsTrue ⟦<Global as Grows>⟧.refuses) }
 {
     let Some(text) = text_of(matches, "since") else {
         return Ok(0);
     };
     if text.is_empty() {
-        return Err(WordsFault::Since);
+        return Err(ArgumentsFault::Since);
     }
     match moment_begun(alloc, text) {
         Ok(Some(at)) => Ok(at.get()),
-        Ok(None) => Err(WordsFault::Since),
-        Err(_) => Err(WordsFault::Memory),
+        Ok(None) => Err(ArgumentsFault::Since),
+        Err(_) => Err(ArgumentsFault::Memory),
     }
 }
 
 // The timeout of an action, in milliseconds.
-fn timeout(matches: &ArgMatches<'_>) -> Result<u32, WordsFault>
+fn timeout(matches: &ArgMatches<'_>) -> Result<u32, ArgumentsFault>
     ensures number { IfOk result (IsTimeout (timeout_text (rows_of (found_of matches.now)))) }
     ensures fault { IfErr result
-        (λ f. (f ≡ WordsFault.Timeout) × TimeoutFlaw (rows_of (found_of matches.now))) }
+        (λ f. (f ≡ ArgumentsFault.Timeout) × TimeoutFlaw (rows_of (found_of matches.now))) }
 {
     match text_of(matches, "timeout")
         .unwrap_or(TIMEOUT)
         .parse::<u32>()
     {
         Ok(millis) if millis > 0 => Ok(millis),
-        _ => Err(WordsFault::Timeout),
+        _ => Err(ArgumentsFault::Timeout),
     }
 }
 
@@ -192,15 +192,15 @@ fn parameters<'a>(alloc: Global, matches: &ArgMatches<'a>) -> Result<Vec<&'a str
 }
 
 // The options of an action that is run once.
-fn once_of<'a>(alloc: Global, matches: &ArgMatches<'a>) -> Result<Wanted<'a>, WordsFault>
+fn once_of<'a>(alloc: Global, matches: &ArgMatches<'a>) -> Result<Wanted<'a>, ArgumentsFault>
     ensures read { IfOk result (IsOnceWanted (rows_of (found_of matches.now))) }
     ensures fault { IfErr result (HasOnceFlaw (rows_of (found_of matches.now))) }
-    ensures memory { IfErr result (λ f. f ≡ WordsFault.Memory → IsTrue ⟦<Global as Grows>⟧.refuses) }
+    ensures memory { IfErr result (λ f. f ≡ ArgumentsFault.Memory → IsTrue ⟦<Global as Grows>⟧.refuses) }
 {
     let timeout = timeout(matches)?;
     let root = root(matches)?;
     let Ok(parameters) = parameters(alloc, matches) else {
-        return Err(WordsFault::Memory);
+        return Err(ArgumentsFault::Memory);
     };
     Ok(Wanted::Once(OnceOptions {
         agent: text_of(matches, "agent").unwrap_or(""),
@@ -221,11 +221,11 @@ fn options_of<'a>(
     subcommand: Subcommand,
     journal: JournalLocation<'a>,
     matches: &ArgMatches<'a>,
-) -> Result<Options<'a>, WordsFault>
+) -> Result<Options<'a>, ArgumentsFault>
     ensures read { IfOk result (λ o. (o.subcommand ≡ subcommand) × (o.journal ≡ journal.entry)
         × IsReadFrom (rows_of (found_of matches.now)) o) }
     ensures fault { IfErr result (HasFlaw (rows_of (found_of matches.now))) }
-    ensures memory { IfErr result (λ f. f ≡ WordsFault.Memory → IsTrue ⟦<Global as Grows>⟧.refuses) }
+    ensures memory { IfErr result (λ f. f ≡ ArgumentsFault.Memory → IsTrue ⟦<Global as Grows>⟧.refuses) }
 {
     let tidy_at = tidy_at(matches)?;
     let root = root(matches)?;
@@ -259,17 +259,17 @@ fn journal_of<'a>(
     subcommand: Subcommand,
     named: Option<&'a str>,
     matches: &ArgMatches<'a>,
-) -> Result<Wanted<'a>, WordsFault>
+) -> Result<Wanted<'a>, ArgumentsFault>
     ensures read { IfOk result
         (IsJournalWanted subcommand (option_map (λ s. s.now) named.entry)
         (rows_of (found_of matches.now))) }
     ensures fault { IfErr result
         (HasPlacedFlaw subcommand (option_map (λ s. s.now) named.entry)
         (rows_of (found_of matches.now))) }
-    ensures memory { IfErr result (λ f. f ≡ WordsFault.Memory → IsTrue ⟦<Global as Grows>⟧.refuses) }
+    ensures memory { IfErr result (λ f. f ≡ ArgumentsFault.Memory → IsTrue ⟦<Global as Grows>⟧.refuses) }
 {
     let Some(journal) = journal_location(subcommand, named, matches) else {
-        return Err(WordsFault::Choice);
+        return Err(ArgumentsFault::Choice);
     };
     match options_of(alloc, subcommand, journal, matches) {
         Ok(options) => Ok(Wanted::Journal(options)),
@@ -279,33 +279,33 @@ fn journal_of<'a>(
 
 /// Reads the options from the arguments, which begin with the name of the program. `named` is the directory of a journal that the
 /// environment names, if any.
-pub fn read_words<'a>(
+pub fn read_arguments<'a>(
     alloc: Global,
     named: Option<&'a str>,
-    words: &'a [String],
-) -> Result<Wanted<'a>, WordsFault>
+    arguments: &'a [String],
+) -> Result<Wanted<'a>, ArgumentsFault>
     ensures ok { IfOk result
-        (AsksFor (option_map (λ s. s.now) named.entry) (map string_bytes words.now)) }
-    ensures parsed { OnOk result (fault_of ocfexec_app (map string_bytes words.now) ≡ []) }
+        (AsksFor (option_map (λ s. s.now) named.entry) (map string_bytes arguments.now)) }
+    ensures parsed { OnOk result (fault_of ocfexec_app (map string_bytes arguments.now) ≡ []) }
     ensures fault { IfErr result
-        (IsFault (option_map (λ s. s.now) named.entry) (map string_bytes words.now)) }
-    ensures memory { IfErr result (λ f. f ≡ WordsFault.Memory → IsTrue ⟦<Global as Grows>⟧.refuses) }
+        (IsFault (option_map (λ s. s.now) named.entry) (map string_bytes arguments.now)) }
+    ensures memory { IfErr result (λ f. f ≡ ArgumentsFault.Memory → IsTrue ⟦<Global as Grows>⟧.refuses) }
 {
     let Ok(command) = command_line(alloc) else {
-        return Err(WordsFault::Memory);
+        return Err(ArgumentsFault::Memory);
     };
-    let matches = match command.try_get_matches_from(words) {
+    let matches = match command.try_get_matches_from(arguments) {
         Ok(matches) => matches,
-        Err(error) => return Err(WordsFault::from_clap(error)),
+        Err(error) => return Err(ArgumentsFault::from_clap(error)),
     };
     let Some((name, matches)) = matches.subcommand() else {
-        return Err(WordsFault::Choice);
+        return Err(ArgumentsFault::Choice);
     };
     if name == "once" {
         return once_of(alloc, matches);
     }
     let Some(subcommand) = Subcommand::of(name) else {
-        return Err(WordsFault::Choice);
+        return Err(ArgumentsFault::Choice);
     };
     journal_of(alloc, subcommand, named, matches)
 }

@@ -1,7 +1,7 @@
 use Rattle.std.proofs.Common.{ap, map, option_map, rules, [], ◌≡◌, ◌∙◌}
 use Rattle.std.proofs.lemmas.Result.{IfOk-weaker}
 use Rattle.exec_options.proofs.WordsLemmas.{no_texts, texts_given}
-use Rattle.exec_options.proofs.words.parameters.Goals as goal
+use Rattle.exec_options.proofs.arguments.parameters.Goals as goal
 
 pub returns-in-Some-clause-texts : goal.returns-in-Some-clause-texts
 returns-in-Some-clause-texts c =

@@ -8,9 +8,9 @@ const JOURNAL: &str = "OCFEXEC_JOURNAL";
 
 // TRUSTED: they are the arguments of the command line.
 /// The arguments of the command line, the program's name first.
-pub fn words_of(rt: &HostRuntime) -> Result<Vec<String>, Fault> {
+pub fn arguments_of(rt: &HostRuntime) -> Result<Vec<String>, Fault> {
     match env::args(rt) {
-        Ok(words) => words.collect(rt.alloc()).map_err(|_| Fault::Memory),
+        Ok(arguments) => arguments.collect(rt.alloc()).map_err(|_| Fault::Memory),
         Err(error) if error.kind() == ErrorKind::InvalidData => Err(Fault::NotText),
         Err(_) => Err(Fault::Memory),
     }

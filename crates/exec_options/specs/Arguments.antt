@@ -8,8 +8,8 @@ use Rattle.ocf_types.specs.declared.limits.TheConstants.{ORPHANS_LIMIT}
 use Rattle.log_lines.specs.Dates.{moment_text}
 use Rattle.exec_options.specs.declared.options.Options.{Options}
 use Rattle.exec_options.specs.declared.once.OnceOptions.{OnceOptions}
-use Rattle.exec_options.specs.declared.words.Wanted.{Wanted}
-use Rattle.exec_options.specs.declared.words.Wanted.TheVariants as wanted
+use Rattle.exec_options.specs.declared.arguments.Wanted.{Wanted}
+use Rattle.exec_options.specs.declared.arguments.Wanted.TheVariants as wanted
 use Rattle.exec_options.specs.declared.options.Subcommand.{Subcommand}
 use Rattle.exec_options.specs.declared.options.JournalLocation.{JournalLocation}
 use Rattle.exec_options.specs.declared.options.JournalLocation.TheVariants.{Directory, Memory}
@@ -133,22 +133,22 @@ IsOnceWanted rows (wanted.Once o) = IsOnceFrom rows o
 
 -- by `clap`'s rules the arguments name the subcommand of this name, with these rows
 abbrev pub Names : List Text → Text → List Row → Type 0
-Names words name rows = subcommand_of ocfexec_app words ≡ Some (name, rows)
+Names arguments name rows = subcommand_of ocfexec_app arguments ≡ Some (name, rows)
 
 -- the arguments name a subcommand whose rows give these options, if the environment names the directory `named`
-pub record Gives (named : Option Text) (words : List Text) (o : Options) : Type 0 where
+pub record Gives (named : Option Text) (arguments : List Text) (o : Options) : Type 0 where
   pub rows : List Row
-  pub names : Names words (subcommand_word o.subcommand) rows
+  pub names : Names arguments (subcommand_word o.subcommand) rows
   pub placed : IsPlacedAt named rows o
   pub read : IsReadFrom rows o
 
 -- the arguments name an action that is run once, and their rows give these options
-pub record GivesOnce (words : List Text) (o : OnceOptions) : Type 0 where
+pub record GivesOnce (arguments : List Text) (o : OnceOptions) : Type 0 where
   pub rows : List Row
-  pub names : Names words once_word rows
+  pub names : Names arguments once_word rows
   pub read : IsOnceFrom rows o
 
 -- the arguments give these options
 abbrev pub AsksFor : Option Text → List Text → Wanted → Type 0
-AsksFor named words (wanted.Journal o) = Gives named words o
-AsksFor named words (wanted.Once o) = GivesOnce words o
+AsksFor named arguments (wanted.Journal o) = Gives named arguments o
+AsksFor named arguments (wanted.Once o) = GivesOnce arguments o
