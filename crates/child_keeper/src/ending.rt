@@ -4,7 +4,9 @@ ghost use Rattle.std.specs.Prelude.{◌≤◌, vec_len};
 use crate::agents::{Agent, Agents};
 use crate::descent::AgentsSought;
 use proc_files::{ProcFiles, Process};
-use process_ends::{Pauses, Signal, send_signal, still_lives, stopped, report_all, report_unstopped};
+use process_ends::{
+    Pauses, Signal, report_all, report_unstopped, send_signal, still_lives, stopped,
+};
 use std::alloc::Allocator;
 use std::io::Eprint;
 use std::process::{OpenProcess, Processes};

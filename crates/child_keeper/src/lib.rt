@@ -5,7 +5,6 @@ mod agents;
 mod book;
 mod command;
 mod descent;
-mod zombies;
 mod ending;
 mod ends;
 pub mod laws;
@@ -18,6 +17,7 @@ mod refused;
 mod script;
 mod scripted;
 mod waited;
+mod zombies;
 
 pub use agent_logs::{Log, LogDirectory};
 pub use child_model::{Answer, Children, Entry, KillFault, Poll};

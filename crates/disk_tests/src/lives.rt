@@ -3,12 +3,12 @@ use crate::steps::{nowhere, registration};
 use child_keeper::{Script, Scripted};
 use disk_model::Fill;
 use executor::{Input, InputOf};
-use test_incarnations::{Machine, live_twice};
 use ocf_types::{
     CommandOf, Millis, Outcome, Question, Reply, ReplyOf, RequestOf, RscId, Task, TurnEnd,
 };
 use std::alloc::Global;
 use std::collections::VecDeque;
+use test_incarnations::{Machine, live_twice};
 
 // A machine whose agent processes are spawned and keep running.
 fn machine(alloc: Global, now: u64, inputs: Vec<Input>, stop: u64) -> Option<Machine<Scripted>> {

@@ -6,7 +6,7 @@ use exec_client::JsonClient;
 use exec_commands::{NoticeForm, Service};
 use exec_faults::Fault;
 use exec_lines::{Input, Output};
-use exec_session::{LineRoom, Pace, SessionContext, Mode, run_lines};
+use exec_session::{LineRoom, Mode, Pace, SessionContext, run_lines};
 use exec_trace::Edge;
 use executor::Executor;
 use std::alloc::Global;

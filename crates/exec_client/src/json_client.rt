@@ -8,11 +8,11 @@ ghost use Rattle.exec_client.specs.SentItem.{lines_of, sent_in};
 ghost use Rattle.exec_client.specs.MessageTags.{after_sent, sent_tags};
 
 use crate::client::Client;
+use crate::message::Message;
 use crate::notices::send_turn;
 use crate::replies::{Making, send_answer, send_answers, send_news};
-use crate::tags::Tags;
 use crate::sent_log::SentLog;
-use crate::message::Message;
+use crate::tags::Tags;
 use child_model::Children;
 use disk_model::Disk;
 use exec_commands::{NoticeForm, Tag};

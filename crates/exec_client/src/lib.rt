@@ -2,18 +2,18 @@
 #![tactic(auto)]
 
 mod client;
+mod json_client;
 mod kept_calls;
 pub mod laws;
+mod message;
 mod notices;
 mod replies;
+mod sent_log;
 mod signals;
 mod tags;
-mod json_client;
-mod sent_log;
-mod message;
 mod waiting;
 
 pub use client::Client;
-pub use tags::Tags;
 pub use json_client::JsonClient;
 pub use message::{Message, TurnNotices};
+pub use tags::Tags;

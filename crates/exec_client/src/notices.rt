@@ -8,10 +8,10 @@ ghost use Rattle.exec_client.specs.Signals.{signal_of};
 ghost use Rattle.exec_client.specs.Tags.{after_notice, tag_of_call};
 ghost use Rattle.exec_client.specs.MessageTags.{after_notices, notice_tags};
 
+use crate::message::TurnNotices;
 use crate::replies::Making;
 use crate::signals::signal_of;
 use crate::tags::Tags;
-use crate::message::TurnNotices;
 use child_model::Entry;
 use exec_commands::Tagged;
 use exec_messages::{IoFault, send_notice};

@@ -8,7 +8,7 @@ use crate::limits::MOST_TURNS;
 use exec_commands::{Left, NoticeForm, Service};
 use exec_events::Events;
 use exec_options::{JournalLocation, Options, Subcommand, VERSION};
-use exec_session::{Pace, SessionContext, Mode};
+use exec_session::{Mode, Pace, SessionContext};
 use std::alloc::Global;
 
 // The mode of the session that this subcommand asks for.

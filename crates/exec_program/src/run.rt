@@ -93,7 +93,11 @@ pub fn serve_agents<H: Host, D: Disk + ReportsError + Drop>(
             leave_own_word(host, options, &clock);
             let source = host.source(site);
             let context = context_of(alloc, options, &source, left.as_slice());
-            let json_client = JsonClient::new(alloc, host.writer(served_directory(options)), &executor);
+            let json_client = JsonClient::new(
+                alloc,
+                host.writer(served_directory(options)),
+                &executor,
+            );
             let client = Eventful::new(alloc, json_client, host.errors(), events_of(host, options));
             let edge = Edge::new(reader, client, &clock);
             let run = run_lines(&context, edge, (executor, report), room);

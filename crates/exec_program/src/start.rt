@@ -7,7 +7,7 @@ ghost use Rattle.exec_program.specs.Starts.{IsEndOf, IsWrittenAs, StartEndsFor, 
 use crate::host::Host;
 use crate::run::serve_agents;
 use exec_faults::Fault;
-use exec_options::{JournalLocation, Options, Subcommand, Wanted, ArgumentsFault, read_arguments};
+use exec_options::{ArgumentsFault, JournalLocation, Options, Subcommand, Wanted, read_arguments};
 use file_disk::RamDisk;
 use growth::Grows;
 use std::alloc::Global;

@@ -22,7 +22,7 @@ ghost use Rattle.exec_session.specs.Steps.{Sends, Steps};
 ghost use Rattle.exec_session.specs.Together.{AnswersAll};
 ghost use Rattle.exec_session.specs.Waiting.{TakesFound};
 
-use crate::context::{SessionContext, Mode};
+use crate::context::{Mode, SessionContext};
 use crate::gathered::Gathered;
 use crate::held::Held;
 use crate::lines::Found;
@@ -224,7 +224,11 @@ impl<'a, R: Input, D: Disk + Drop, C: Children + Drop, T: Client<D, C>, K: Clock
     }
 
     // Sends the reply to a line that needs no executor.
-    fn answer_direct<M>(&mut self, context: &SessionContext<M>, direct: Direct) -> Result<(), Failed>
+    fn answer_direct<M>(
+        &mut self,
+        context: &SessionContext<M>,
+        direct: Direct,
+    ) -> Result<(), Failed>
         ensures sends { Sends context.now.form (Answered (answer.Direct direct) ∷ []) self.old self.new result }
     {
         self.send_reply(context, &LineReply::Direct(direct))

@@ -11,7 +11,7 @@ ghost use Rattle.exec_session.specs.Waiting.{Comes, HasCome, HasFound, IsBetween
 ghost use Rattle.exec_session.specs.declared.lines.Found.TheVariants as found;
 ghost use Rattle.exec_session.specs.declared.lines.Taken.TheVariants.{More};
 
-use crate::context::{SessionContext, Mode};
+use crate::context::{Mode, SessionContext};
 use crate::held::held_in;
 use crate::lines::{Found, Taken, found_in};
 use crate::metadata::Metadata;
@@ -56,7 +56,10 @@ impl<'a, R: Input, D: Disk + Drop, C: Children + Drop, T: Client<D, C>, K: Clock
 
     /// Answers the commands that wait, since the line after them is not there yet. Keeps the part of a line that was read, and a line
     /// that is held.
-    pub fn answer_rest<M: Metadata>(&mut self, context: &SessionContext<'_, M>) -> Result<Taken, Failed>
+    pub fn answer_rest<M: Metadata>(
+        &mut self,
+        context: &SessionContext<'_, M>,
+    ) -> Result<Taken, Failed>
         requires open { waiting self.old.pending.gathered ≢ []
             → self.old.worker.at.executor.is_open ≡ true }
         ensures none { waiting self.new.pending.gathered ≡ [] }
@@ -153,7 +156,10 @@ impl<'a, R: Input, D: Disk + Drop, C: Children + Drop, T: Client<D, C>, K: Clock
 
     /// Continues the line in the buffer by one read; a complete line is taken, or held. Commands do not wait for the rest of an
     /// incomplete one.
-    pub fn take_read<M: Metadata>(&mut self, context: &SessionContext<'_, M>) -> Result<Taken, Failed>
+    pub fn take_read<M: Metadata>(
+        &mut self,
+        context: &SessionContext<'_, M>,
+    ) -> Result<Taken, Failed>
         requires free { self.old.pending.held ≡ None }
         requires waits { MayWait context.now.mode (midway self.old.worker self.old.pending) }
         requires there { WaitsForThere (midway self.old.worker self.old.pending) }

@@ -131,7 +131,11 @@ impl<'a, R: Input, D: Disk + Drop, C: Children + Drop, T: Client<D, C>, K: Clock
     }
 
     // Makes a turn now that begins nothing, and sends its notices.
-    fn finish_turn<M>(&mut self, context: &SessionContext<M>, pause: &mut Pause) -> Result<(), Failed>
+    fn finish_turn<M>(
+        &mut self,
+        context: &SessionContext<M>,
+        pause: &mut Pause,
+    ) -> Result<(), Failed>
         requires open { self.old.at.executor.is_open ≡ true }
         ensures made { Steps (FinishReceived (SendsAll context.now.form) D.view self.old.at)
             (FinishReceived (SendsPart context.now.form) D.view self.old.at) self.old self.new result }

@@ -15,14 +15,14 @@ mod pace;
 mod pause;
 mod pending;
 mod room;
+mod send;
 mod serve;
 mod session;
-mod send;
 mod turn;
 mod wait;
 mod worker;
 
-pub use context::{SessionContext, Mode};
+pub use context::{Mode, SessionContext};
 pub use metadata::Metadata;
 pub use pace::Pace;
 pub use pending::LineRoom;

@@ -6,7 +6,7 @@ ghost use Rattle.exec_session.specs.Answers.{IsReadAs};
 ghost use Rattle.exec_session.specs.Progress.{HasTagOf, ReadsInput};
 ghost use Rattle.exec_session.specs.declared.lines.Found.TheVariants as found;
 
-use crate::context::{SessionContext, Mode};
+use crate::context::{Mode, SessionContext};
 use exec_commands::{Line, Tag, read_command, read_strictly};
 use exec_lines::{LineBuffer, Next};
 use growth::Grows;

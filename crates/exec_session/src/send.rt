@@ -6,7 +6,7 @@ ghost use Rattle.exec_client.specs.SentItem.{Answered, sent_in};
 ghost use Rattle.exec_session.specs.Reports.{IsReportOf, ReadyBreaks, ReportBreaks, SendsReady, SendsReport, counts_of, ended};
 ghost use Rattle.exec_session.specs.Steps.{Sends, Steps};
 
-use crate::context::{SessionContext, Mode};
+use crate::context::{Mode, SessionContext};
 use crate::worker::Worker;
 use child_model::Children;
 use disk_model::Disk;
@@ -66,7 +66,11 @@ impl<'a, R: Input, D: Disk + Drop, C: Children + Drop, T: Client<D, C>, K: Clock
     }
 
     /// Sends the report of an opening: the interrupted actions, and then the dropped ones.
-    pub fn send_report<M>(&mut self, context: &SessionContext<M>, report: &Report) -> Result<(), Failed>
+    pub fn send_report<M>(
+        &mut self,
+        context: &SessionContext<M>,
+        report: &Report,
+    ) -> Result<(), Failed>
         requires opening_report { IsReportOf self.old.at.executor report.now }
         ensures reported { Steps (SendsReport context.now.form report.now self.old.at)
             (ReportBreaks context.now.form report.now self.old.at) self.old self.new result }
@@ -90,7 +94,11 @@ impl<'a, R: Input, D: Disk + Drop, C: Children + Drop, T: Client<D, C>, K: Clock
     }
 
     /// Sends the line that a session in `serve` is ready; `run` has no such line.
-    pub fn send_ready<M>(&mut self, context: &SessionContext<M>, report: &Report) -> Result<(), Failed>
+    pub fn send_ready<M>(
+        &mut self,
+        context: &SessionContext<M>,
+        report: &Report,
+    ) -> Result<(), Failed>
         requires opening_report { IsReportOf self.old.at.executor report.now }
         ensures reported { Steps (SendsReady context.now.mode context.now.form self.old.at)
             (ReadyBreaks context.now.mode context.now.form self.old.at) self.old self.new result }

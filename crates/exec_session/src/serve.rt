@@ -8,7 +8,7 @@ ghost use Rattle.exec_session.specs.Runs.{MayGoOn};
 ghost use Rattle.exec_session.specs.Waiting.{PollsOnce, MayWait, TakesLines, midway};
 ghost use Rattle.exec_session.specs.declared.lines.Taken.TheVariants.{More};
 
-use crate::context::{SessionContext, Mode};
+use crate::context::{Mode, SessionContext};
 use crate::desk::Desk;
 use crate::held::Held;
 use crate::lines::Taken;
@@ -50,7 +50,10 @@ impl<'a, R: Input, D: Disk + Drop, C: Children + Drop, T: Client<D, C>, K: Clock
     K,
 > {
     // Takes the lines that are there, up to one that is held, unless the session ends before. Commands may still wait after it.
-    fn take_waiting<M: Metadata>(&mut self, context: &SessionContext<'_, M>) -> Result<Taken, Failed>
+    fn take_waiting<M: Metadata>(
+        &mut self,
+        context: &SessionContext<'_, M>,
+    ) -> Result<Taken, Failed>
         requires mode { context.now.mode ≡ Mode.Serve }
         requires waits { MayWait context.now.mode (midway self.old.worker self.old.pending) }
         ensures waits { MayWait context.now.mode (midway self.new.worker self.new.pending) }
@@ -73,7 +76,10 @@ impl<'a, R: Input, D: Disk + Drop, C: Children + Drop, T: Client<D, C>, K: Clock
     }
 
     // Answers the lines that are there, up to one that is held, unless the session ends before.
-    fn answer_waiting<M: Metadata>(&mut self, context: &SessionContext<'_, M>) -> Result<Taken, Failed>
+    fn answer_waiting<M: Metadata>(
+        &mut self,
+        context: &SessionContext<'_, M>,
+    ) -> Result<Taken, Failed>
         requires mode { context.now.mode ≡ Mode.Serve }
         requires waits { MayWait context.now.mode (midway self.old.worker self.old.pending) }
         ensures none { IfOk result (λ taken. taken ≡ More → waiting self.new.pending.gathered ≡ []) }

@@ -11,7 +11,7 @@ ghost use Rattle.exec_session.specs.Runs.{IsNew};
 ghost use Rattle.exec_session.specs.SessionViews.{Lasts, at_of};
 ghost use Rattle.exec_session.specs.Waiting.{MayBegin, Rounds, midway, stage};
 
-use crate::context::{SessionContext, Mode};
+use crate::context::{Mode, SessionContext};
 use crate::desk::Desk;
 use crate::lines::Taken;
 use crate::metadata::Metadata;

@@ -157,7 +157,9 @@ impl<'a, R: Input, D: Disk + Drop, C: Children + Drop, T: Client<D, C>, K: Clock
         ensures noted { self.new.events ≡ self.old.events ++ Sent (is_ok result) ∷ [] }
     {
         let reported = self.client.send(executor, form, what);
-        self.past.note(&IoEvent::Sent { done: reported.is_ok() });
+        self.past.note(&IoEvent::Sent {
+            done: reported.is_ok(),
+        });
         match reported {
             Ok(()) => Ok(()),
             Err(fault) => {

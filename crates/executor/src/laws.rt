@@ -32,7 +32,7 @@ ghost use Rattle.executor.specs.declared.opening.OpenError.TheVariants as why;
 
 use disk_model::Disk;
 use exec_journal::laws::{lemma_found_once, lemma_journal_holds};
-use ocf_types::laws::{lemma_lawful_states, layouts};
+use ocf_types::laws::{layouts, lemma_lawful_states};
 
 /// Each resource's part of any calls is a behaviour of the machine that has this resource alone, whatever the children answered
 /// and however the actions of others ran in between. Its part is: the commands and questions that are about it, each turn, the

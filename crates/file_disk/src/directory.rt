@@ -44,7 +44,10 @@ pub fn open_directory<R: Files<File = File>, A: Allocator>(
     let path = directory_path(alloc, dir)?;
     let directory = File::open(rt, path.as_str()).map_err(OpenFault::directory)?;
     let directory = above_streams(directory).map_err(OpenFault::directory)?;
-    if let Some(why) = owners.distrust_of(&directory).map_err(OpenFault::directory)? {
+    if let Some(why) = owners
+        .distrust_of(&directory)
+        .map_err(OpenFault::directory)?
+    {
         return Err(OpenFault::DirectoryDistrusted(why));
     }
     match directory.try_lock() {

@@ -4,10 +4,10 @@ ghost use Rattle.disk_model.specs.Image.{Written, bytes_of};
 ghost use Rattle.disk_model.specs.View.{Called, Unwritten, Synced, Tears};
 
 use crate::call::Call;
+use crate::directory::open_directory;
 use crate::entry::{entry_of, refuse_loss};
 use crate::error::{FileError, ReportsError};
 use crate::fault::{OpenFault, of_part};
-use crate::directory::open_directory;
 use crate::log::Log;
 use crate::look::examined;
 use crate::part_file::PartFile;

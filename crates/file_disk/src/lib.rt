@@ -8,11 +8,11 @@
 #![tactic(auto)]
 
 mod call;
+mod directory;
 mod disk;
 mod entry;
 mod error;
 mod fault;
-mod directory;
 mod journal_paths;
 mod known_path;
 mod log;

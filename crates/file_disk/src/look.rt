@@ -3,9 +3,9 @@ ghost use Rattle.std.specs.Prelude.{◌≡◌, ◌≤◌, [], IfErr, IfOk, IfSom
 ghost use Rattle.file_disk.specs.Faults.{IsOfPart};
 ghost use Rattle.file_disk.specs.RamDisk.{IsFresh, view_of};
 
+use crate::directory::find_directory;
 use crate::entry::{Entry, entry_of, refuse_loss, reported_loss};
 use crate::fault::{OpenFault, file_name, of_part};
-use crate::directory::find_directory;
 use crate::ram::RamDisk;
 use disk_model::other_part;
 use ocf_types::{HEAD_LEN, PART_LIMIT, Part};
@@ -123,7 +123,10 @@ pub(crate) fn examined<R: Files<File = File>, A: Allocator + Copy>(
 }
 
 // Refuses a pair of which one file is gone, by the bytes that were read of both.
-fn refuse_lost<A: Allocator + Copy>(a: &ExecutorView<A>, b: &ExecutorView<A>) -> Result<(), OpenFault> {
+fn refuse_lost<A: Allocator + Copy>(
+    a: &ExecutorView<A>,
+    b: &ExecutorView<A>,
+) -> Result<(), OpenFault> {
     let there = if a.bytes.is_empty() { b } else { a };
     match refuse_loss(a.entry(), b.entry()) {
         Ok(()) => Ok(()),

@@ -21,7 +21,7 @@ use exec_program::{Host, Wait};
 use exec_state::State;
 use file_disk::{FileDisk, FileError, JournalPaths, RamDisk};
 use growth::Grows;
-use journal_directory::{found, not_emptied, open_files, show_files, show_on, report_device};
+use journal_directory::{found, not_emptied, open_files, report_device, show_files, show_on};
 use ocf_env::Site;
 use std::alloc::{AllocError, Global};
 use std::io::{self, BufReader, Eprint, StdinLock};

@@ -5,21 +5,21 @@ ghost use Rattle.std.specs.Prelude.{◌≡◌};
 ghost use Rattle.std.specs.Process.{exit_status};
 ghost use Rattle.exec_program.specs.Starts.{status_of_end};
 
+mod arguments;
 mod errors;
 mod guarded;
 mod host;
 mod log;
 mod metadata;
 mod once;
-mod arguments;
 
+use arguments::{arguments_of, named_journal};
 use child_keeper::System;
 use diagnostics::{FirstError, report, report_cause};
 use exec_faults::Fault;
 use exec_program::program;
 use host::SystemHost;
 use std::process::ExitCode;
-use arguments::{named_journal, arguments_of};
 
 fn main(rt: HostRuntime) -> ExitCode {
     let system = System::new(&rt);

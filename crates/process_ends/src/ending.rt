@@ -1,9 +1,9 @@
 //! Ends processes with all that they started.
 use crate::descent::ChildSought;
 use crate::patience::{Pauses, outlives};
+use crate::report::{report_all, report_unstopped};
 use crate::search::{Sought, found_now};
 use crate::signal::{Signal, send_signal};
-use crate::report::{report_all, report_unstopped};
 use proc_files::{ProcFiles, Process, has};
 use std::alloc::{AllocError, Allocator};
 use std::io::{self, Eprint};

@@ -7,16 +7,16 @@ mod ending;
 mod errors;
 mod line;
 mod patience;
+mod report;
 mod search;
 mod signal;
 mod system;
-mod report;
 
 pub use descent::ChildSought;
 pub use ending::{end_child, end_processes, still_lives, stopped};
 pub use errors::ErrorLines;
 pub use patience::{Deadline, Pauses, outlives, still_runs};
+pub use report::{report_alive, report_all, report_unstopped};
 pub use search::{Environments, Sought, with_ancestors};
 pub use signal::{Signal, send_signal};
 pub use system::System;
-pub use report::{report_alive, report_all, report_unstopped};

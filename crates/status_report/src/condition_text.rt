@@ -59,7 +59,11 @@ fn add_code(text: &mut Vec<u8>, outcome: Outcome) -> Result<(), AllocError>
 }
 
 /// Adds what a failure means, its code, and how long ago it was.
-pub fn add_failed(text: &mut Vec<u8>, options: &StatusOptions, ended: &Ended) -> Result<(), AllocError>
+pub fn add_failed(
+    text: &mut Vec<u8>,
+    options: &StatusOptions,
+    ended: &Ended,
+) -> Result<(), AllocError>
     ensures text { OnOk result (text.new.items ≡ text.old.items ++ failed_text options.now ended.now) }
     ensures memory { OnErr result (IsTrue ⟦<Global as Grows>⟧.refuses) }
 {

@@ -36,7 +36,11 @@ fn add_failed_id(
 
 // The ids of these resources, in order of registration.
 #[tactic(auto, using(crate::proofs::FailedLemmas::id_more))]
-fn failed_ids(alloc: Global, options: &StatusOptions, state: &State) -> Result<Vec<RscId>, AllocError>
+fn failed_ids(
+    alloc: Global,
+    options: &StatusOptions,
+    state: &State,
+) -> Result<Vec<RscId>, AllocError>
     ensures ids { IfOk result (λ ids. ids.items ≡ failed_ids options.now state.now.state) }
     ensures memory { OnErr result (IsTrue ⟦<Global as Grows>⟧.refuses) }
 {
@@ -50,7 +54,11 @@ fn failed_ids(alloc: Global, options: &StatusOptions, state: &State) -> Result<V
 /// Opens a journal without a boot, and returns its disk and the ids of the resources that are asked for and have a failed action, in order
 /// of registration.
 #[tactic(auto, using(exec_faults::proofs::FaultLemmas::opening_cause))]
-pub fn failed<D: Disk + Drop>(alloc: Global, disk: D, options: &StatusOptions) -> (D, Result<Vec<RscId>, Fault>)
+pub fn failed<D: Disk + Drop>(
+    alloc: Global,
+    disk: D,
+    options: &StatusOptions,
+) -> (D, Result<Vec<RscId>, Fault>)
     ensures ids { (D.view result.0).honest
         → IfOk result.1 (λ ids. AreFailed (D.view disk).reads options.now ids.items) }
     ensures opens { Opens (D.view disk) (D.view result.0) }

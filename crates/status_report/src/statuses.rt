@@ -57,7 +57,12 @@ fn write_table<W: Write>(
 
 // Writes the table of a state, and then fails if a resource needs attention and this is to be a fault.
 #[tactic(auto, using(crate::proofs::AlarmLemmas::untold))]
-fn report<W: Write>(alloc: Global, writer: &mut W, options: &StatusOptions, state: &State) -> Result<(), Fault>
+fn report<W: Write>(
+    alloc: Global,
+    writer: &mut W,
+    options: &StatusOptions,
+    state: &State,
+) -> Result<(), Fault>
     ensures written { IsWrittenAs options.now state.now.state (W.contents writer.old)
         (W.contents writer.new) result }
     ensures memory { IfErr result (HasCause ⟦<Global as Grows>⟧.refuses) }

@@ -90,7 +90,11 @@ fn add_gap(text: &mut Vec<u8>, taken: usize, column: usize) -> Result<(), AllocE
 }
 
 // Adds what runs, and since when.
-fn add_running(text: &mut Vec<u8>, options: &StatusOptions, running: Option<Running>) -> Result<(), AllocError>
+fn add_running(
+    text: &mut Vec<u8>,
+    options: &StatusOptions,
+    running: Option<Running>,
+) -> Result<(), AllocError>
     ensures text { OnOk result (text.new.items
         ≡ text.old.items ++ running_text options.now.moment running) }
     ensures memory { OnErr result (IsTrue ⟦<Global as Grows>⟧.refuses) }
@@ -201,7 +205,11 @@ fn head_of(alloc: Global, columns: Columns) -> Result<Vec<u8>, AllocError>
 
 /// The state as a table: a line of headings, and a row of each resource that is asked for, in order of registration. `None` if a single
 /// resource is asked for that is not registered.
-pub fn table_of(alloc: Global, options: &StatusOptions, state: &State) -> Result<Option<Vec<u8>>, AllocError>
+pub fn table_of(
+    alloc: Global,
+    options: &StatusOptions,
+    state: &State,
+) -> Result<Option<Vec<u8>>, AllocError>
     ensures table { IfOk result
         (λ found. IfSome found (λ text. IsTable options.now state.now.state text.items)) }
     ensures none { IfOk result

@@ -11,7 +11,7 @@ ghost use Rattle.test_incarnations.specs.History.{IsHistory, IsPromised, IsIncar
 
 use child_model::Children;
 use disk_model::{Disk, Fill, MemDisk};
-use executor::laws::{promise, lemma_session_is_calls, lemma_whole_history};
+use executor::laws::{lemma_session_is_calls, lemma_whole_history, promise};
 use executor::{Executor, Input};
 use growth::Grows;
 use ocf_env::Site;
