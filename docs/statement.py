@@ -16,7 +16,7 @@ import textwrap
 TOP = os.path.dirname(os.path.dirname(os.path.abspath(__file__)))
 INTO = "docs/STATEMENT.antt.txt"
 # Files of crates/executor/src, and the laws in them.
-LAWS = [("laws", "promise"), ("laws", "whole_life")]
+LAWS = [("laws", "promise"), ("laws", "lemma_whole_history")]
 WIDTH = 140
 RULE = "-" * WIDTH + "\n"
 HEAD = """\

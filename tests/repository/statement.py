@@ -19,11 +19,11 @@ KEY = re.compile(r"^(?:abbrev|unfoldable|record|data) ([^\s:({]+)", re.MULTILINE
 BUILT_IN = {"Type", "Unit", "Why"}
 # A change of each kind of text in it: a file, and a text that occurs there once, with its replacement.
 CHANGES = [
-    ("executor/src/laws.rt", "        → (zs : List Event) × FoundAs (after_all start zs) c\n        × Runs",
-     "        → (zs : List Event) × FoundAs start c\n        × Runs"),
-    ("executor/specs/Runs.antt", "  pub ran : x.ran ≡ interrupted s (moment s x.now)\n", "  pub ran : x.ran ≡ []\n"),
-    ("executor/specs/Lives.antt", "-- the images that its crash may have left", "-- what is left"),
-    ("executor/specs/Lives.antt", "  pub acknowledged : p ≡ x.done.events ++ later\n", ""),
+    ("executor/src/laws.rt", "        → (zs : List Event) × FoundAs (after_all start zs) c\n        × Behaves",
+     "        → (zs : List Event) × FoundAs start c\n        × Behaves"),
+    ("executor/specs/Behaves.antt", "  pub ran : x.ran ≡ interrupted s (moment s x.now)\n", "  pub ran : x.ran ≡ []\n"),
+    ("executor/specs/Incarnations.antt", "-- the images that its crash may have left", "-- what is left"),
+    ("executor/specs/Incarnations.antt", "  pub acknowledged : p ≡ x.done.events ++ later\n", ""),
     ("ocf_types/specs/Limits.antt", "longest_result = 84", "longest_result = 85"),
     ("ocf_types/src/reply.rt", "    EpochSpent,\n", ""),
     ("ocf_types/src/limits.rt", "pub const RESERVE: u64 = 32_768;", "pub const RESERVE: u64 = 32_769;"),
@@ -33,7 +33,7 @@ CHANGES = [
 # Texts that are not in it: a lemma, and a definition that nobody names.
 OTHERS = [
     ("gated_slots/specs/Slot.antt", "length-slot body = omega (arith, ", "length-slot body = omega (arith, arith, "),
-    ("executor/specs/Runs.antt", "-- a behaviour of the",
+    ("executor/specs/Behaves.antt", "-- a behaviour of the",
      "-- as many as there are\nabbrev pub Unnamed : ℕ\nUnnamed = 0\n\n-- a behaviour of the"),
 ]
 

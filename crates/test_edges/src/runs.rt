@@ -15,7 +15,7 @@ use std::io;
 use std::rt::Clock;
 use std::str::from_utf8;
 use std::time::Duration;
-use trial_parts::{NoMetadata, nowhere};
+use test_support::{NoMetadata, nowhere};
 
 // A clock that does not move.
 struct Standing;
