@@ -247,14 +247,11 @@ class Growths(helper.Check):
         told, wanted = loose(found.told(), but), loose(base.told(), but)
         missing = len(wanted) - len(told)
         self.assertTrue(0 <= missing <= lost and all(value in wanted for value in told), "what is told")
-        self.differ(found)
+        runs = [value["run"] for value in found.told() if "run" in value]
+        self.assertEqual(len(set(runs)), len(runs), "runs of their own")
         codes = [(value["outcome"], value["code"]) for value in found.told() if value["outcome"] != "done"]
         self.assertEqual(codes, [("not-started", 1)] * starts)
         return "not started" if starts else "turn"
-
-    def differ(self, found):
-        runs = [value["run"] for value in found.told() if "run" in value]
-        self.assertEqual(len(set(runs)), len(runs), "runs of their own")
 
     def judge(self, words, steps, base, found, folder, before, lost):
         """How a run with one refused growth ended, in a word."""
@@ -269,7 +266,6 @@ class Growths(helper.Check):
             (replies, notices), (wanted, told) = found.seen(), left.seen()
             self.assertEqual((len(refused), [helper.bare(value) for value in replies.pop(refused[0])]), (1, [MEMORY]))
             self.assertEqual((replies, notices), (wanted, told), "as without this command")
-            self.differ(found)
             return "refused"
         metas = [[{key: part for key, part in value.items() if key != "tag"} for value in values]
                  for step, values in zip(steps, found.answers) if step.command["op"] == "meta"]
