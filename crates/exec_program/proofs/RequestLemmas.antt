@@ -70,9 +70,9 @@ pub allows_on_files : {F L A S R W H : Type 0} (asked : Asked F L A S R W H) (vi
 allows_on_files asked view may o directory disk is given =
     allows_less asked may (IsFoundOn view disk) (IsFoundIn asked view o) o (λ d s names found. (directory.now, (disk, ap directory_of is, given, found)))
 
-pub allows_in_memory : {F L A S R W H D : Type 0} (asked : Asked F L A S R W H) (view : F → View) (view : D → View) (may : Request L → Type 0)
+pub allows_in_memory : {F L A S R W H D : Type 0} (asked : Asked F L A S R W H) (files : F → View) (view : D → View) (may : Request L → Type 0)
     (o : Options) (disk : D) → o.journal ≡ Memory
-    → Allows may (IsOfRun (IsFoundIn asked view o) asked o) → Allows may (IsOfRun (IsFoundOn view disk) asked o)
-allows_in_memory asked view view may o disk is =
-    allows_less asked may (IsFoundOn view disk) (IsFoundIn asked view o) o
+    → Allows may (IsOfRun (IsFoundIn asked files o) asked o) → Allows may (IsOfRun (IsFoundOn view disk) asked o)
+allows_in_memory asked files view may o disk is =
+    allows_less asked may (IsFoundOn view disk) (IsFoundIn asked files o) o
     (λ d s names found. let none : None ≡ Some d = sym (ap directory_of is) ∙ names in cc)
