@@ -27,7 +27,7 @@ HEAD = """\
 -- within a file a group of definitions under one comment comes before what it names; so reading on goes down from the promise to the bytes.
 -- To find a definition, search for its name with `abbrev`, `unfoldable`, `record` or `data` before it. The heading of a file lists the
 -- origin of words where that is not plain: after `TurnEnd: turn_end.` the word `turn_end.Done` is the variant `Done` of `TurnEnd`. Types
--- from Rust and the names of the library are at the end. `D.view` is the view of a disk of the type D, a `View`.
+-- from Rust and the names of the library are at the end. `D.view` is the view of a disk of the type D, a `DiskView`.
 --
 -- A record holds if all its fields hold. `A × B` means both of them, `A ⊎ B` one of them, `(x : A) × B` that B holds for some x, and
 -- `(x : A) → B` that it holds for each; ⊤ holds and ⊥ does not; `a ≡ b` means that both are equal. `λ x. b` is b as a function of x.

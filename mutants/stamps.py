@@ -135,7 +135,9 @@ class Stamps:
     def told(self, edit, total):
         """What is known of an edit: nothing, where its line is of this sum."""
         rest = self.lines.get(edit)
-        return "never seen refused under a stamp" if not rest else None if rest[0] == total else f"last seen refused {' '.join(rest[1:])}".rstrip()
+        if not rest:
+            return "never seen refused under a stamp"
+        return None if rest[0] == total else f"last seen refused {' '.join(rest[1:])}".rstrip()
 
     def settle(self, known, refused, others):
         """Notes the sums of edits that were refused, drops the lines of others, and of what is no edit, and writes the file."""

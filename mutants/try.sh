@@ -1,9 +1,9 @@
 #!/usr/bin/env bash
 # Tries a crate's wrong bodies, mutants/NAME/*.edit and mutants/gate/NAME/*.edit, on a copy of the repository, and prints the fate of
-# each, and where it was refused by another function than it names. The gate keeps a few of its own, in crates/NAME/must-fail. It begins with what was proved before: a kit whose gate tries one
-# crate alone knows what it proved on this machine, and any other finds the libraries below as the checks of the work tree left them.
-# The name tests stands for those that only a check of the built program refuses, try_tests.sh, and gate for all that have a
-# stamp, stamps.py.
+# each, and where it was refused by another function than it names. The gate keeps a few of its own, in crates/NAME/must-fail. It
+# begins with what was proved before: a kit whose gate tries one crate alone knows what it proved on this machine, and any other finds
+# the libraries below as the checks of the work tree left them. The name tests stands for those that only a check of the built program
+# refuses, try_tests.sh, and gate for all that have a stamp, stamps.py.
 # Use: mutants/try.sh NAME [EDIT..]
 set -eu
 top=$(cd "$(dirname "$0")/.." && pwd)

@@ -125,7 +125,7 @@ same "a missing directory, advice" "Missing directory: make it, for its owner al
 [ ! -e nowhere ] || differs "a folder that is not there" "none" "nowhere"
 : > file
 refused file 5 "ocfexec: disk" "file: Not a directory"
-refused "" 5 "ocfexec: disk" "the folder has no name"
+refused "" 5 "ocfexec: disk" "the directory has no name"
 mkdir folders && mkdir folders/part-a
 refused folders 5 "ocfexec: disk" "folders/part-a: not a plain file"
 journal linked

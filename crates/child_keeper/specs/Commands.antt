@@ -1,4 +1,4 @@
--- The command for a call of an agent.
+-- The command for an invocation of an agent.
 use Rattle.std.specs.Prelude.{◌≡◌, ℕ, List, codes, Option, Some, None, true}
 use Rattle.std.specs.Process.{clears_env, command_args, command_dir, command_program, command_var, var_after}
 use Rattle.std.specs.declared.process.command.Command.{Command}
@@ -8,7 +8,7 @@ use Rattle.ocf_env.specs.Locations.{Call, Pair}
 abbrev pub given : List Pair → List ℕ → Option (Option (List ℕ))
 given pairs name = var_after Some Some name None pairs
 
--- the command asks for exactly this call: its program with its arguments, its variables and no others, in the root directory
+-- the command is exactly this invocation: its program with its arguments, its variables and no others, in the root directory
 pub record Asks {M : Type 0} (c : Command M) (call : Call) : Type 0 where
   pub program : command_program c ≡ call.program
   pub arguments : command_args c ≡ call.arguments

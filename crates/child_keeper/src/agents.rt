@@ -21,11 +21,11 @@ pub struct Agent<P: OpenProcess + Drop> {
     pub run: RunId,
     pub id: RscId,
     /// When it was spawned, by the monotonic clock.
-    pub begun: Duration,
+    pub spawned_at: Duration,
     pub child: Child<P>,
 }
 
-/// The agent processes that live, in the order in which they were spawned.
+/// Agent processes that were not reaped yet, in the order in which they were added: those that live, or those given up.
 #[derive(Drop)]
 pub struct Agents<P: OpenProcess + Drop, A: Allocator> {
     pub agents: Vec<Agent<P>, A>,
@@ -114,9 +114,9 @@ impl<P: OpenProcess + Drop, A: Allocator> Agents<P, A> {
     /// Removes the agent process that was added last and returns it: `None` if the list is empty.
     pub fn pop(&mut self) -> Option<Agent<P>>
         ensures fewer { OnSome result (vec_len self.new.agents + 1 ≡ vec_len self.old.agents) }
-        ensures none { IfNone result (runs_of self.new.agents.items ≡ []) }
         ensures last { IfSome result
             (λ agent. self.old.agents.items ≡ self.new.agents.items ++ agent ∷ []) }
+        ensures none { IfNone result (runs_of self.new.agents.items ≡ []) }
     {
         self.agents.pop()
     }

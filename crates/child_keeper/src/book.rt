@@ -7,8 +7,8 @@ use growth::{GROWTH_LIMIT, Grows, with_capacity};
 use past::Past;
 use std::alloc::{AllocError, Allocator};
 
-/// The answers since the book was last cleared, in order, and how many more fit. The log, which exists only in contracts, has
-/// all answers ever given.
+/// The answers since the book was last cleared, in order, and how many more fit. The log of answers (not the agents' [`Log`]
+/// of `agent_logs`) exists only in contracts, and has all answers ever given.
 #[derive(Drop)]
 pub struct Book<A: Allocator> {
     pub entries: Vec<Entry, A>,

@@ -20,7 +20,7 @@ fn push_argument<A: Grows>(command: &mut Command<A>, argument: &str) -> Result<(
     ensures directory { OnOk result (SameDir command.old command.new) }
     ensures memory { OnErr result (IsTrue A.refuses) }
 {
-    // TRUSTED: a command grows its own memory.
+    // TRUSTED: a command allocates by itself, and fails only where that is refused.
     A::library_growth(command.arg(argument))?;
     Ok(())
 }
@@ -55,7 +55,7 @@ fn set_variable<A: Grows>(
     ensures directory { OnOk result (SameDir command.old command.new) }
     ensures memory { OnErr result (IsTrue A.refuses) }
 {
-    // TRUSTED: a command grows its own memory.
+    // TRUSTED: a command allocates by itself, and fails only where that is refused.
     A::library_growth(command.env(name, value))?;
     Ok(())
 }
@@ -82,15 +82,15 @@ fn push_variables<A: Grows, L: Allocator>(
 fn bare<A: Grows>(alloc: A, program: &str) -> Result<Command<A>, AllocError>
     ensures program { IfOk result (λ c. command_program c ≡ program.now) }
     ensures arguments { IfOk result (λ c. command_args c ≡ []) }
-    ensures cleared { IfOk result (λ c. clears_env c ≡ true) }
     ensures variables { IfOk result (λ c. (name : List ℕ) → command_var c name ≡ None) }
+    ensures cleared { IfOk result (λ c. clears_env c ≡ true) }
     ensures directory { IfOk result (λ c. command_dir c ≡ Some (codes "/")) }
     ensures memory { OnErr result (IsTrue A.refuses) }
 {
-    // TRUSTED: a command grows its own memory.
+    // TRUSTED: a command allocates by itself, and fails only where that is refused.
     let mut command = A::library_growth(Command::new(alloc, program))?;
     command.env_clear();
-    // TRUSTED: a command grows its own memory.
+    // TRUSTED: a command allocates by itself, and fails only where that is refused.
     A::library_growth(command.current_dir(DIRECTORY))?;
     Ok(command)
 }

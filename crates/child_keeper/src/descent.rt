@@ -45,7 +45,7 @@ fn marks<'a, P: OpenProcess + Drop, A: Allocator + Copy>(
 }
 
 impl<'a, R: ProcFiles, P: OpenProcess + Drop, A: Allocator + Copy> AgentsSought<'a, R, P, A> {
-    /// It fails where `/proc` does not show this process, or memory is refused.
+    /// A search for these agents. It fails where `/proc` does not show this process, or memory is refused.
     pub fn new(
         rt: &'a R,
         alloc: A,

@@ -61,8 +61,8 @@ fn stopped_agents<
     }
 }
 
-/// Ends agents with all processes that they started, and waits for their end, a tenth of a second at most. Agents that live on
-/// stay in the list; other processes that live on are named on standard error.
+/// Ends agents with all processes that they started, as far as a search finds them, and waits for that, a tenth of a second at
+/// most. Agents that live on stay in the list; other processes that do, and a failed search, are named on standard error.
 pub fn end_agents<
     R: Processes + Clock + Eprint + ProcFiles,
     P: OpenProcess + Drop,
@@ -74,7 +74,7 @@ pub fn end_agents<
     let sent = send_signal(rt, alloc, Signal::Kill, found.as_slice());
     agents.kill();
     if sent.is_err() {
-        // the end of the agents may have freed what the shell needs
+        // signals are sent by /bin/sh, for which memory or process numbers may be free now that the agents have ended
         let _ = send_signal(rt, alloc, Signal::Kill, found.as_slice());
     }
     await_ends(rt, agents, &mut found);

@@ -16,8 +16,8 @@ mod processes;
 mod refused;
 mod script;
 mod scripted;
+mod survivors;
 mod waited;
-mod zombies;
 
 pub use agent_logs::{Log, LogDirectory};
 pub use child_model::{Answer, Children, Entry, KillFault, Poll};

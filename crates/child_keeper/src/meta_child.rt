@@ -197,9 +197,9 @@ where
         ensures length { IfAnswered result
             (λ answer. IfOk answer (λ metadata. vec_len metadata ≤ metadata_limit)) }
         ensures failed { IfAnswered result (λ answer. IfErr answer (λ fault. fault ≢ Failed 0)) }
+        ensures polls { PollsTo P.Stdout.remaining self result }
         ensures memory { IfAnswered result
             (λ answer. IfErr answer (λ fault. fault ≢ MetaFault.Memory)) }
-        ensures polls { PollsTo P.Stdout.remaining self result }
     {
         self.progress = read_from(&mut self.stdout, &mut self.output);
         let left = self.left(rt);

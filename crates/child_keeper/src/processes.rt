@@ -10,7 +10,7 @@ use crate::ending::end_agents;
 use crate::ends::poll_of;
 use crate::live::LIVE_LIMIT;
 use crate::refused::{name_text, refused};
-use crate::zombies::Zombies;
+use crate::survivors::Survivors;
 use crate::{Answer, Children, Entry, KillFault, Poll};
 use agent_logs::{Begun, Ended, Log, LoggedEnd};
 use disk_model::Disk;
@@ -31,14 +31,14 @@ use std::{mem, process};
 /// writes where the log says. It has no descriptor but 0, 1 and 2, blocks no signal, is ended by SIGPIPE, and has the umask of
 /// this process. OCF Resource Agent API 1.1, actions.
 ///
-/// `end_killed` ends all killed agents at once, each with its descendants and its background jobs in this session. All of them
-/// get SIGSTOP first, so that none of them spawns others unseen. It waits for their end a tenth of a second at most, and names
-/// each process that lives on by its number and its command on standard error. While a killed agent lives on, the next actions
-/// of its resource except a stop are refused as [`StartFault::Other`].
+/// `kill` only gives an agent up; `end_killed` ends all given up, each with its descendants and its background jobs in this
+/// session. All get SIGSTOP before SIGKILL, so that none spawns others unseen. It waits for their end a tenth of a second
+/// at most, and names each process that lives on by its number and its command on standard error. While such an agent lives on,
+/// the next actions of its resource except a stop are refused as [`StartFault::Other`].
 ///
-/// A spawn takes the memory of its command from the allocator. It is refused as [`StartFault::Other`] if memory or descriptors
-/// have run out, or the system refuses it for any cause but a missing file or permission; the error is then reported on standard
-/// error. So is the number of a signal that ended an agent.
+/// A spawn takes memory from the allocator; so does the search of `end_killed`, which without it kills the agents and what it
+/// found before. A spawn is refused as [`StartFault::Other`] if memory or descriptors have run out, or for any cause but a
+/// missing file or permission; the error is then reported on standard error. So is the signal that ended an agent.
 #[derive(Drop)]
 pub struct Processes<R: process::Processes + Drop, A: Allocator + Copy = Global> {
     rt: R,
@@ -46,8 +46,8 @@ pub struct Processes<R: process::Processes + Drop, A: Allocator + Copy = Global>
     log: Log,
     book: Book<A>,
     live: Agents<R::Started, A>,
-    killed: Agents<R::Started, A>,
-    zombies: Zombies<R::Started, A>,
+    given_up: Agents<R::Started, A>,
+    survivors: Survivors<R::Started, A>,
     last_run: u64,
 }
 
@@ -68,8 +68,8 @@ impl<R: process::Processes + Clock + Eprint + ProcFiles + Drop, A: Grows> Proces
             log,
             book: Book::new(alloc, book)?,
             live: Agents::new(alloc)?,
-            killed: Agents::new(alloc)?,
-            zombies: Zombies::new(alloc)?,
+            given_up: Agents::new(alloc)?,
+            survivors: Survivors::new(alloc)?,
             last_run: 0,
         })
     }
@@ -77,18 +77,23 @@ impl<R: process::Processes + Clock + Eprint + ProcFiles + Drop, A: Grows> Proces
     // Ends the agents that were given up.
     fn end_given_up(&mut self)
         ensures same { processes_of self.new ≡ processes_of self.old }
-        ensures none { runs_of self.new.killed.agents.items ≡ [] }
+        ensures none { runs_of self.new.given_up.agents.items ≡ [] }
     {
-        end_all(&self.rt, self.alloc, &mut self.killed, &mut self.zombies);
+        end_all(
+            &self.rt,
+            self.alloc,
+            &mut self.given_up,
+            &mut self.survivors,
+        );
     }
 
-    // Spawns an agent, unless a killed one of its resource lives on. A refusal by the system is written to the log.
+    // Spawns an agent, unless one of its resource outlived its SIGKILL. A refusal by the system is written to the log.
     fn spawned<L: Allocator>(&mut self, launch: &Launch<L>) -> Result<Child<R::Started>, StartFault>
         ensures same { processes_of self.new ≡ processes_of self.old }
         ensures live { self.new.live ≡ self.old.live }
     {
-        self.zombies.reap();
-        if self.zombies.has(&launch.id) && !is_stop(launch) {
+        self.survivors.reap();
+        if self.survivors.has(&launch.id) && !is_stop(launch) {
             return Err(StartFault::Other);
         }
         match spawn(&self.rt, self.alloc, &self.log, launch) {
@@ -112,10 +117,10 @@ impl<R: process::Processes + Clock + Eprint + ProcFiles + Drop, A: Grows> Proces
     {
         let agent = self.live.take(run);
         log_end(&self.rt, &self.log, &agent, end);
-        if self.killed.len() >= LIVE_LIMIT {
+        if self.given_up.len() >= LIVE_LIMIT {
             self.end_given_up();
         }
-        self.killed.add(agent);
+        self.given_up.add(agent);
     }
 }
 
@@ -125,8 +130,8 @@ fn monotonic(rt: &impl Clock) -> Duration {
 }
 
 // How many milliseconds have passed since a reading of the monotonic clock.
-fn millis_since(rt: &impl Clock, begun: Duration) -> u64 {
-    let passed = monotonic(rt).saturating_sub(begun);
+fn millis_since(rt: &impl Clock, spawned_at: Duration) -> u64 {
+    let passed = monotonic(rt).saturating_sub(spawned_at);
     u64::try_from(passed.as_millis()).unwrap_or(u64::MAX)
 }
 
@@ -140,12 +145,12 @@ fn log_end<R: Clock + Eprint, P: OpenProcess + Drop>(
     let ended = Ended {
         run: agent.run,
         end,
-        millis: millis_since(rt, agent.begun),
+        millis: millis_since(rt, agent.spawned_at),
     };
     log.end(rt, &agent.id, ended);
 }
 
-// Writes to the log that all these agents are killed, because the session ends.
+// Writes to the log that all these agents are given up, because the session ends.
 fn log_killed<R: Clock + Eprint, P: OpenProcess + Drop>(rt: &R, log: &Log, agents: &[Agent<P>]) {
     for agent in agents {
         log_end(rt, log, agent, LoggedEnd::Killed);
@@ -172,20 +177,20 @@ fn end_all<
     R: process::Processes + Clock + Eprint + ProcFiles,
     P: OpenProcess + Drop,
     A: Allocator + Copy,
->(rt: &R, alloc: A, killed: &mut Agents<P, A>, zombies: &mut Zombies<P, A>)
-    ensures none { runs_of killed.new.agents.items ≡ [] }
+>(rt: &R, alloc: A, given_up: &mut Agents<P, A>, survivors: &mut Survivors<P, A>)
+    ensures none { runs_of given_up.new.agents.items ≡ [] }
 {
-    if !killed.agents.is_empty() {
-        end_agents(rt, alloc, killed);
+    if !given_up.agents.is_empty() {
+        end_agents(rt, alloc, given_up);
     }
-    while let Some(agent) = killed.pop() {
-        report_killed(rt, &agent);
-        zombies.add(agent);
+    while let Some(agent) = given_up.pop() {
+        report_survivor(rt, &agent);
+        survivors.add(agent);
     }
 }
 
-// Reports on standard error that a killed agent lives on, and that it delays the actions of its resource.
-fn report_killed<R: Eprint + ProcFiles, P: OpenProcess + Drop>(rt: &R, agent: &Agent<P>) {
+// Reports on standard error that an agent that was given up lives on, and that it delays the actions of its resource.
+fn report_survivor<R: Eprint + ProcFiles, P: OpenProcess + Drop>(rt: &R, agent: &Agent<P>) {
     let run = agent.run.get();
     report_alive(rt, &agent.child, format_args!("run {run}"));
     let id = name_text(agent.id.as_bytes());
@@ -208,7 +213,7 @@ fn action_of<L: Allocator>(invocation: &Invocation<L>) -> &str {
     }
 }
 
-// Whether a launch is that of a stop, which is spawned even while a killed agent of its resource lives on. OCF Resource Agent
+// Whether a launch is that of a stop, which is spawned even while an agent of its resource that was given up lives on. OCF Resource Agent
 // API 1.1, stop.
 fn is_stop<L: Allocator>(launch: &Launch<L>) -> bool {
     action_of(&launch.invocation) == "stop"
@@ -255,14 +260,14 @@ impl<R: process::Processes + Clock + Eprint + ProcFiles + Drop, A: Allocator + C
         launch: &Launch<L>,
     ) -> Result<(), StartFault> {
         let run = launch.run;
-        let begun = monotonic(&self.rt);
+        let spawned_at = monotonic(&self.rt);
         let answer = match self.spawned(launch) {
             Ok(child) => {
                 let id = launch.id.copied();
                 self.live.add(Agent {
                     run,
                     id,
-                    begun,
+                    spawned_at,
                     child,
                 });
                 Ok(())
@@ -318,13 +323,13 @@ impl<R: process::Processes + Clock + Eprint + ProcFiles + Drop, A: Allocator + C
     fn give_up_all(&mut self) {
         self.end_given_up();
         log_killed(&self.rt, &self.log, self.live.agents.as_slice());
-        mem::swap(&mut self.live, &mut self.killed);
+        mem::swap(&mut self.live, &mut self.given_up);
         self.end_given_up();
-        self.zombies.reap();
+        self.survivors.reap();
     }
 
     fn clear_book(&mut self) {
-        self.zombies.reap();
+        self.survivors.reap();
         self.book.clear();
     }
 

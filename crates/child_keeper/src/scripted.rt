@@ -17,7 +17,7 @@ use ocf_types::{RunId, StartFault};
 use std::alloc::{AllocError, Allocator, Global};
 use std::collections::VecDeque;
 
-/// Agent processes that answer what a script says; nothing is spawned. They take no memory after they are made.
+/// Agent processes that answer what a script says; nothing is spawned. After `new` they allocate nothing.
 #[derive(Drop)]
 pub struct Scripted<A: Allocator = Global> {
     script: Script<A>,

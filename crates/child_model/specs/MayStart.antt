@@ -3,7 +3,7 @@ use Rattle.std.specs.Prelude.{◌≡◌, Option, Some}
 use Rattle.ocf_types.specs.Resource.{Resource}
 use Rattle.ocf_types.specs.State.{State, resource_at}
 use Rattle.ocf_types.specs.declared.operation.Running.{Running}
-use Rattle.disk_model.specs.View.{View}
+use Rattle.disk_model.specs.Disk.{DiskView}
 use Rattle.exec_journal.specs.Journal.{InSync}
 use Rattle.exec_journal.specs.declared.journal.Journal.{Journal}
 use Rattle.ocf_env.specs.Instances.{registration_of}
@@ -27,5 +27,5 @@ pub record IsLaunch (insisted : Option SiteView) (s : State) (launch : LaunchOf 
 
 -- the journal, over a disk in this view, is settled at a state in which the launched action runs: its begin is found after every
 -- crash. The launch is at the site that agents must be at, if any
-abbrev pub MayStart : {D M : Type 0} → Option SiteView → Journal D M → View → LaunchOf Call → Type 0
+abbrev pub MayStart : {D M : Type 0} → Option SiteView → Journal D M → DiskView → LaunchOf Call → Type 0
 MayStart insisted j v launch = (s : State) × InSync j v s × IsLaunch insisted s launch

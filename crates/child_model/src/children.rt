@@ -13,8 +13,8 @@ use std::alloc::Allocator;
 
 /// Agent processes, each under its run number, and the book of their answers.
 ///
-/// `start`, `poll` and `kill` add one entry each, with the answer that they return. The calls take no memory, except what the
-/// system needs to spawn a program.
+/// `start`, `poll` and `kill` add one entry each, with the answer that they return. Memory is allocated only to spawn an
+/// agent, and in `end_killed`, which may search for what agents started.
 pub trait Children {
     ghost view: { Self → ChildrenView };
 

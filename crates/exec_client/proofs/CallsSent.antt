@@ -4,7 +4,7 @@ use Rattle.std.proofs.lemmas.List.{append-nil, map-append}
 use Rattle.std.specs.List.{AllByRecursion, flat_map}
 use Rattle.ocf_types.specs.Kinds.{Event}
 use Rattle.ocf_types.specs.declared.command.RequestOf.TheVariants as asked
-use Rattle.disk_model.specs.View.{View}
+use Rattle.disk_model.specs.Disk.{DiskView}
 use Rattle.executor.specs.CallLemmas.{followed_by_assoc, followed_by_none}
 use Rattle.executor.specs.Incarnations.{Abandoned, Calls, Cleared, Does, Exchange, Finished, Batch, Tidied, Took}
 use Rattle.executor.specs.CommandBatches.{IsAt, replies_of}
@@ -29,7 +29,7 @@ both_nothing : (ss ts : List SentItem) → ClaimsNothing ss → ClaimsNothing ts
 both_nothing [] ts one two = two
 both_nothing (s ∷ ss) ts one two = (one.0, both_nothing ss ts one.1 two)
 
-module _ {D : Type 0} (view : D → View) where
+module _ {D : Type 0} (view : D → DiskView) where
   -- one call
   pub one_sends : (x y : ExecutorView D) (e : Exchange) (d : Effects) (items : List SentItem) → Does view e x y d → States e y items
       → SendsCalls view x (e ∷ []) y d items

@@ -10,7 +10,7 @@ use Rattle.ocf_types.specs.declared.refusal.Refusal.TheVariants.{Disk}
 use Rattle.ocf_types.specs.declared.reply.ReplyOf.TheVariants as reply
 use Rattle.ocf_types.specs.declared.reply.TidyEnd.{TidyEnd}
 use Rattle.ocf_types.specs.declared.reply.TurnEnd.{TurnEnd}
-use Rattle.disk_model.specs.View.{View}
+use Rattle.disk_model.specs.Disk.{DiskView}
 use Rattle.executor.specs.CallLemmas.{followed_by_none, calls_after}
 use Rattle.exec_ledger.specs.Commands.{Obeys}
 use Rattle.executor.specs.Commands.{Serves, ServesWhile}
@@ -47,7 +47,7 @@ refused_after r why is =
 events_are : (ss : List SentItem) (d e : Effects) → d ≡ e → BackedBy ss e.events → BackedBy ss d.events
 events_are ss d e same backed = subst (λ (f : Effects). BackedBy ss f.events) (sym same) backed
 
-module _ {D : Type 0} (view : D → View) where
+module _ {D : Type 0} (view : D → DiskView) where
   -- no call, one call, and calls after others
   pub none_holds : (x y : ExecutorView D) (items : List SentItem) → y ≡ x → BackedBy items [] → IsBacked view x y items
   none_holds x y items same backed = record {

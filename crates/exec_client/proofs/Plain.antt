@@ -11,7 +11,7 @@ use Rattle.ocf_types.specs.declared.event.Step.TheVariants as step
 use Rattle.ocf_types.specs.declared.refusal.Refusal.{Refusal}
 use Rattle.ocf_types.specs.declared.refusal.Refusal.TheVariants.{Disk}
 use Rattle.ocf_types.specs.declared.reply.ReplyOf.TheVariants as reply
-use Rattle.disk_model.specs.View.{View}
+use Rattle.disk_model.specs.Disk.{DiskView}
 use Rattle.exec_ledger.specs.Commands.{Obeys}
 use Rattle.executor.specs.Incarnations.{Abandoned, Calls, Cleared, Does, Exchange, Finished, Batch, Tidied, Took}
 use Rattle.exec_ledger.specs.Replies.{IsReplyTo, acknowledged}
@@ -54,7 +54,7 @@ module _ {D : Type 0} (z : ExecutorView D) where
   reply_plain e r (inr (inr (inl is))) = is_plain r _ is tt
   reply_plain e r (inr (inr (inr is))) = is_plain r _ is tt
 
-  pub obeys_plain : (view : D → View) (x y : ExecutorView D) (r : Reply) (found : Result Event Refusal) → Obeys view found (ledger_of x) (ledger_of y) r → Plain r
+  pub obeys_plain : (view : D → DiskView) (x y : ExecutorView D) (r : Reply) (found : Result Event Refusal) → Obeys view found (ledger_of x) (ledger_of y) r → Plain r
   obeys_plain view x y r (Err why) (refused, same) = is_plain r _ refused tt
   obeys_plain view x y r (Ok e) records = reply_plain e r records.reported
 
@@ -95,7 +95,7 @@ module _ {D : Type 0} (z : ExecutorView D) where
   batch_plain true now s cs meant es given = answered_plain now s cs meant es given
   batch_plain false now s cs meant es given = failed_plain meant
 
-  module _ (view : D → View) where
+  module _ (view : D → DiskView) where
     taken_plain : (b : Bool) (at : ℕ) (c : Command) (x y : ExecutorView D) (r : Reply) (d : Effects)
         → TakesWhile b view (input.Request at (asked.Command c)) x y r d → Plain r
     taken_plain true at c x y r d takes = obeys_plain view x y r (event_of x.state at c) takes.serves.0

@@ -9,7 +9,7 @@ use Rattle.child_model.specs.declared.answer.Answer.{Answer}
 use Rattle.child_model.specs.declared.answer.Answer.TheVariants as asked
 use Rattle.child_model.specs.declared.answer.Entry.{Entry}
 use Rattle.child_model.specs.declared.answer.Poll.TheVariants as poll
-use Rattle.exec_client.specs.Signals.{signal_in, signal_of, sends_signal}
+use Rattle.exec_client.specs.Signals.{signal_in, signal_of, names_signal}
 
 both : (a b : Bool) → (a && b) ≡ true → (a ≡ true) × (b ≡ true)
 both true true e = (refl, refl)
@@ -46,7 +46,7 @@ pub sent_is_polled : (book : List Entry) (run signal : ℕ) → signal_of book r
     → (at : ℕ) × Contains book (signaled run at signal)
 sent_is_polled [] run signal is = absurd cc
 sent_is_polled (e ∷ es) run signal is =
-    cond_both (sends_signal run e) (Some e) (find (sends_signal run) es)
+    cond_both (names_signal run e) (Some e) (find (names_signal run) es)
     (λ (o : Option Entry). option_map_or signal_in (option_map (λ (x : Entry). x.answer) o) None ≡ Some signal
     → (at : ℕ) × Contains (e ∷ es) (signaled run at signal))
     (λ yes reported.
@@ -71,10 +71,10 @@ pub polled_is_sent : (book : List Entry) (run at signal : ℕ) → Contains book
     → (n : ℕ) × (signal_of book run ≡ Some n)
 polled_is_sent [] run at signal there = absurd (omega (arith, there.1))
 polled_is_sent (e ∷ es) run at signal there =
-    cond_both (sends_signal run e) (Some e) (find (sends_signal run) es)
+    cond_both (names_signal run e) (Some e) (find (names_signal run) es)
     (λ (o : Option Entry). (n : ℕ) × (option_map_or signal_in (option_map (λ (x : Entry). x.answer) o) None ≡ Some n))
     (λ yes. some_there (signal_in e.answer) (both (e.run == run) (is_some (signal_in e.answer)) yes).1)
     (λ no. elim (first_or_rest e (signaled run at signal) es there) [
-      | inl same ↦ absurd (eqb-false run run (first_not (run == run) (sym (ap (sends_signal run) same) ∙ no)) refl)
+      | inl same ↦ absurd (eqb-false run run (first_not (run == run) (sym (ap (names_signal run) same) ∙ no)) refl)
       | inr later ↦ polled_is_sent es run at signal later
     ])

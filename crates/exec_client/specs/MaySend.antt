@@ -6,7 +6,7 @@ use Rattle.ocf_types.specs.Kinds.{Reply}
 use Rattle.ocf_types.specs.declared.command.Question.{Question}
 use Rattle.ocf_types.specs.declared.reply.Notice.{Notice}
 use Rattle.ocf_types.specs.declared.reply.ReplyOf.TheVariants as reply
-use Rattle.disk_model.specs.View.{View}
+use Rattle.disk_model.specs.Disk.{DiskView}
 use Rattle.executor.specs.Incarnations.{Calls, Exchange}
 use Rattle.executor.specs.Sessions.{Effects}
 use Rattle.executor.specs.ExecutorView.{ExecutorView}
@@ -24,7 +24,7 @@ use Rattle.exec_client.specs.declared.message.Message.TheVariants as message
 
 -- Calls lead from one view of an executor to another. The messages are exactly what these calls answered, with nothing left out, and the
 -- events that the calls recorded back them.
-pub record IsBacked {D : Type 0} (view : D → View) (old new : ExecutorView D) (items : List SentItem) : Type 0 where
+pub record IsBacked {D : Type 0} (view : D → DiskView) (old new : ExecutorView D) (items : List SentItem) : Type 0 where
   pub calls : List Exchange
   pub effects : Effects
   pub leads : Calls view old calls new effects
@@ -48,7 +48,8 @@ IsCounted x counts =
     (counts.resources ≡ length x.state.resources) × (counts.interrupted ≡ length x.opening_report.interrupted)
     × (counts.dropped ≡ length x.opening_report.dropped)
 
--- a reply to a line may be sent: the status of all resources is that of the state, too
+-- a reply to a line may be sent: a reply to a request as above; a status is that of the state of an open executor, and the
+-- counts of the line that the session is ready are those of its opening
 abbrev pub MayReply : {D : Type 0} → ExecutorView D → LineReply → Type 0
 MayReply x (line.Request given) = MayAnswer x given
 MayReply x (line.Status statuses) = (x.is_open ≡ true) × (statuses_in statuses ≡ statuses_of x.state)
@@ -68,14 +69,14 @@ IsOfView x (message.Notices turn) = ⊤
 IsOfView x (message.Report notices) = IsReported x notices.now
 
 -- all messages that were sent are backed by what the executor recorded since it was opened
-abbrev pub AllBacked : {D : Type 0} → (D → View) → ClientView D → ExecutorView D → Type 0
+abbrev pub AllBacked : {D : Type 0} → (D → DiskView) → ClientView D → ExecutorView D → Type 0
 AllBacked view client_view x = IsBacked view client_view.opened x client_view.reported
 
 -- This message may be sent to a client of an executor in this view: all that was sent is recorded, and so is this message.
-pub record MaySend {D : Type 0} (view : D → View) (client_view : ClientView D) (x : ExecutorView D) (what : Message) : Type 0 where
+pub record MaySend {D : Type 0} (view : D → DiskView) (client_view : ClientView D) (x : ExecutorView D) (what : Message) : Type 0 where
   pub holds : IsBacked view client_view.opened x (client_view.reported ++ sent_in what)
   pub says : IsOfView x what
 
 -- this reply to a line may be sent
-abbrev pub MayBeReplied : {D : Type 0} → (D → View) → ClientView D → ExecutorView D → LineReply → Type 0
+abbrev pub MayBeReplied : {D : Type 0} → (D → DiskView) → ClientView D → ExecutorView D → LineReply → Type 0
 MayBeReplied view client_view x given = IsBacked view client_view.opened x (client_view.reported ++ Answered given ∷ []) × MayReply x given

@@ -1,7 +1,7 @@
 -- The answer of each call was sent.
 use Rattle.std.specs.Prelude.{◌≡◌, false, List, [], ◌∷◌, ◌++◌, map}
 use Rattle.std.specs.List.{AllByRecursion}
-use Rattle.disk_model.specs.View.{View}
+use Rattle.disk_model.specs.Disk.{DiskView}
 use Rattle.executor.specs.Incarnations.{Does, Exchange, Finished, Batch, Took}
 use Rattle.executor.specs.Sessions.{Effects, followed_by, no_effects}
 use Rattle.executor.specs.ExecutorView.{ExecutorView}
@@ -28,7 +28,7 @@ ClaimsNothing items = AllByRecursion (λ s. claims s ≡ false) items
 
 -- Calls one after the other, of each of which exactly its answer was sent, with nothing left out. Between them are messages that belong to
 -- no call: a report, a refused line, metadata, the end of a drain or a tidy.
-abbrev pub SendsCalls : {D : Type 0} → (D → View) → ExecutorView D → List Exchange → ExecutorView D → Effects → List SentItem → Type 0
+abbrev pub SendsCalls : {D : Type 0} → (D → DiskView) → ExecutorView D → List Exchange → ExecutorView D → Effects → List SentItem → Type 0
 SendsCalls view old [] new effects items = (new ≡ old) × (effects ≡ no_effects) × ClaimsNothing items
 SendsCalls {D} view old (e ∷ es) new effects items =
     (aside : List SentItem) × (mine : List SentItem) × (later : List SentItem) × (mid : ExecutorView D) × (first : Effects) × (rest : Effects)

@@ -13,12 +13,12 @@ signal_in (asked.Poll (poll.Signaled signal)) = Some signal
 signal_in _ = None
 
 -- the entry says that a signal ended this run
-abbrev pub sends_signal : ℕ → Entry → Bool
-sends_signal run e = e.run == run && is_some (signal_in e.answer)
+abbrev pub names_signal : ℕ → Entry → Bool
+names_signal run e = e.run == run && is_some (signal_in e.answer)
 
 -- the answer that says that a signal ended this run, if there is one
 abbrev pub ending_answer : List Entry → ℕ → Option Answer
-ending_answer book run = option_map (λ e. e.answer) (find (sends_signal run) book)
+ending_answer book run = option_map (λ e. e.answer) (find (names_signal run) book)
 
 -- the signal that ended a run by these answers, if one did; a run is polled until it has ended, so at most one answer says so
 abbrev pub signal_of : List Entry → ℕ → Option ℕ

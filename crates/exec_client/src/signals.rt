@@ -1,6 +1,6 @@
 //! The signal that ended a run.
 ghost use Rattle.std.specs.Prelude.{◌≡◌};
-ghost use Rattle.exec_client.specs.Signals.{ending_answer, signal_in, signal_of, sends_signal};
+ghost use Rattle.exec_client.specs.Signals.{ending_answer, signal_in, signal_of, names_signal};
 
 use child_model::{Answer, Entry, Poll};
 
@@ -15,8 +15,8 @@ fn signal_in(answer: Answer) -> Option<u8>
 }
 
 // Whether the answer says that a signal ended this run.
-fn sends_signal(entry: &Entry, run: u64) -> bool
-    ensures value { result ≡ sends_signal run entry.now }
+fn names_signal(entry: &Entry, run: u64) -> bool
+    ensures value { result ≡ names_signal run entry.now }
 {
     entry.run.get() == run && signal_in(entry.answer).is_some()
 }
@@ -25,7 +25,7 @@ fn sends_signal(entry: &Entry, run: u64) -> bool
 fn ending_answer(book: &[Entry], run: u64) -> Option<Answer>
     ensures value { result ≡ ending_answer book.now run }
 {
-    let entry = book.iter().find(|entry| sends_signal(entry, run))?;
+    let entry = book.iter().find(|entry| names_signal(entry, run))?;
     Some(entry.answer)
 }
 

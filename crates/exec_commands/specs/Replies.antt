@@ -5,10 +5,10 @@ use Rattle.std.specs.List.{find}
 use Rattle.serde_json.specs.Data.{Data, null, boolean, string, object}
 use Rattle.serde_json.specs.View.{view}
 use Rattle.serde_json.specs.Written.{compact_text}
-use Rattle.ocf_types.specs.Actions.{action_word, action_of, level_number}
+use Rattle.ocf_types.specs.Actions.{action_word, level_number}
 use Rattle.ocf_types.specs.Expected.{expect_code}
 use Rattle.ocf_types.specs.Notices.{is_failure}
-use Rattle.ocf_types.specs.Outcomes.{outcome_word}
+use Rattle.ocf_types.specs.Outcomes.{outcome_code, outcome_word}
 use Rattle.ocf_types.specs.Refusals.{refusal_row}
 use Rattle.ocf_types.specs.Kinds.{Info, Reply}
 use Rattle.ocf_types.specs.declared.operation.Recur.{Recur}
@@ -25,7 +25,6 @@ use Rattle.ocf_types.specs.declared.reply.TidyEnd.TheVariants as tidy
 use Rattle.ocf_types.specs.declared.reply.TurnEnd.{TurnEnd}
 use Rattle.ocf_types.specs.declared.reply.TurnEnd.TheVariants as turn
 use Rattle.ocf_codes.specs.ExitCodes.{name_read}
-use Rattle.ocf_codes.specs.OutcomeCodes.{outcome_code}
 use Rattle.ocf_env.specs.Keys.{key_text}
 use Rattle.line_keys.specs.Messages.{about_key, message_of}
 use Rattle.line_keys.specs.declared.refused.About.TheVariants.{Whole}
@@ -134,7 +133,7 @@ recur_data m = object_from (
 abbrev pub running_data : List ℕ → Option Running → Data
 running_data id None = null
 running_data id (Some x) = object_from (
-    (codes "call", natural_data x.call) ∷ (codes "key", string (key_text id (action_of x.task) x.interval))
+    (codes "call", natural_data x.call) ∷ (codes "key", string (key_text id x.task.action x.interval))
     ∷ (codes "run", natural_data x.run) ∷ [])
 
 -- a result in a history; its code and name are those of its outcome

@@ -140,7 +140,7 @@ fn parsed(alloc: Global, bytes: &[u8]) -> Result<Option<Value>, AllocError>
         Err(error) if error.is_memory() => Err(AllocError),
         Err(_) => Ok(None),
     };
-    // TRUSTED: it is want of memory only where the memory that the value takes is refused.
+    // TRUSTED: it is lack of memory only where the memory that the value takes is refused.
     Global::library_growth(answer)
 }
 

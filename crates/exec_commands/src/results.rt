@@ -1,7 +1,7 @@
 //! Results, as the replies to `history` and `info` show them.
 ghost use Rattle.std.specs.Prelude.{◌≡◌, map, IfOk, IsTrue, OnErr};
 ghost use Rattle.ocf_codes.specs.ExitCodes.{name_read};
-ghost use Rattle.ocf_codes.specs.OutcomeCodes.{outcome_code};
+ghost use Rattle.ocf_types.specs.Outcomes.{outcome_code};
 ghost use Rattle.serde_json.specs.View.{view};
 ghost use Rattle.exec_commands.specs.Replies.{ended_data, failed_data};
 

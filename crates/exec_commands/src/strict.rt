@@ -28,7 +28,7 @@ fn text_has_key_twice(alloc: Global, text: &str) -> Result<bool, AllocError>
         Err(Error::DuplicateKey) => Ok(true),
         Err(Error::OutOfMemory) => Err(AllocError),
     };
-    // TRUSTED: it is want of memory only where the memory that the value takes is refused.
+    // TRUSTED: it is lack of memory only where the memory that the value takes is refused.
     Global::library_growth(answer)
 }
 

@@ -38,7 +38,7 @@ marked false failed o = []
 
 -- the meaning of a result; that of a failure in the words for a last failure
 abbrev pub event_meaning : Action → Outcome → List ℕ
-event_meaning action o = if is_bad (tone_of o) then failure_meaning action o else meaning action o
+event_meaning action o = if is_bad (tone_of o) then failure_meaning o else meaning action o
 
 -- the agent's exit code, with its name if it is not 0
 abbrev pub code_text : Outcome → List ℕ

@@ -56,7 +56,7 @@ fn event_meaning(action: Action, outcome: Outcome) -> &'static str
     ensures { result.now ≡ event_meaning action outcome }
 {
     if is_bad(outcome) {
-        failure_meaning(action, outcome)
+        failure_meaning(outcome)
     } else {
         meaning(action, outcome)
     }

@@ -6,6 +6,8 @@ use Rattle.two_parts.specs.declared.damage.Cause.{Cause}
 use Rattle.two_parts.specs.declared.damage.Cause.TheVariants as cause
 use Rattle.exec_journal.specs.declared.fault.JournalFault.{JournalFault}
 use Rattle.exec_journal.specs.declared.fault.JournalFault.TheVariants as journal
+use Rattle.exec_messages.specs.declared.send.IoFault.{IoFault}
+use Rattle.exec_messages.specs.declared.send.IoFault.TheVariants as io
 use Rattle.exec_faults.specs.declared.fault.Fault.{Fault}
 use Rattle.exec_faults.specs.declared.fault.Fault.TheVariants as fault
 
@@ -64,6 +66,11 @@ abbrev pub opening_fault : JournalFault → Fault
 opening_fault journal.Disk = fault.Disk
 opening_fault (journal.Damaged damage) = fault.Damaged damage
 opening_fault journal.Memory = fault.Memory
+
+-- the fault of the program for messages that were not sent
+abbrev pub output_fault : IoFault → Fault
+output_fault io.InputOrOutput = fault.InputOrOutput
+output_fault io.Memory = fault.ReplyMemory
 
 -- the letter of a part
 abbrev pub part_letter : Part → List ℕ

@@ -3,4 +3,4 @@
 
 mod fault;
 
-pub use fault::{Fault, opening_fault};
+pub use fault::Fault;

@@ -2,7 +2,7 @@
 use Rattle.std.specs.Prelude.{◌≡◌, Bool, true, false}
 use Rattle.ocf_types.specs.Due.{Due}
 use Rattle.ocf_types.specs.State.{State}
-use Rattle.disk_model.specs.View.{View}
+use Rattle.disk_model.specs.Disk.{DiskView}
 use Rattle.exec_journal.specs.Journal.{journal_disk, journal_position}
 use Rattle.exec_journal.specs.Position.{Position}
 use Rattle.exec_journal.specs.Reserve.{HasReserve}
@@ -26,7 +26,7 @@ pub record LedgerView (D : Type 0) : Type 0 where
   pub position : Position
   pub refuses : Bool
 
--- the view of a journal and a state, open or closed, and of books
+-- the view of a journal and a state, open or closed, and that of a recorder
 abbrev pub ledger_view : {D M : Type 0} → Bool → Journal D M → Store → LedgerView D
 ledger_view is_open journal state = record {
   is_open = is_open;
@@ -45,14 +45,14 @@ abbrev pub due_in : {D : Type 0} → LedgerView D → Due
 due_in h = due_of h.monitors
 
 -- its journal is settled at its state, if its disk is honest
-abbrev pub IsOnJournal : {D : Type 0} → (D → View) → LedgerView D → Type 0
+abbrev pub IsOnJournal : {D : Type 0} → (D → DiskView) → LedgerView D → Type 0
 IsOnJournal view h = (view h.disk).honest → IsInSync h.position h.state (view h.disk)
 
--- Its journal is settled at its state, and its reserve holds the results of what runs and a boot.
-pub record LedgerKeeps {D : Type 0} (view : D → View) (h : LedgerView D) : Type 0 where
+-- Its journal is settled at its state, and its reserve has space for the results of what runs and for a boot.
+pub record LedgerKeeps {D : Type 0} (view : D → DiskView) (h : LedgerView D) : Type 0 where
   pub journal : IsOnJournal view h
-  pub room : HasReserve h.position.tail h.state
+  pub reserve : HasReserve h.position.tail h.state
 
 -- the invariant: the same while it is open
-abbrev pub LedgerInvariant : {D : Type 0} → (D → View) → LedgerView D → Type 0
+abbrev pub LedgerInvariant : {D : Type 0} → (D → DiskView) → LedgerView D → Type 0
 LedgerInvariant view h = h.is_open ≡ true → LedgerKeeps view h

@@ -12,7 +12,7 @@ use Rattle.ocf_types.specs.State.{State, after, after_all, empty}
 use Rattle.disk_model.specs.Image.{Image}
 use Rattle.disk_model.specs.Lemmas.{joined as runs_joined, started, weakened}
 use Rattle.disk_model.specs.Runs.{CrashesTo}
-use Rattle.disk_model.specs.View.{Lawful, View}
+use Rattle.disk_model.specs.Disk.{Lawful, DiskView}
 use Rattle.child_model.specs.Children.{Asked}
 use Rattle.child_model.specs.declared.answer.Entry.{Entry}
 use Rattle.gated_slots.specs.declared.append.SlotFault.TheVariants.{Disk}
@@ -79,7 +79,7 @@ has_later run [] fs h = h
 has_later run (e ∷ es) fs h = or_right (is_begin run e.change) (list_any (λ e. is_begin run e.change) (es ++ fs)) (has_later run es fs h)
 
 -- a start that was asked in a part of a call was asked in the whole, whatever is recorded after that part and before it
-asked_before : {D : Type 0} (view : D → View) (old mid new : D) (s : State) (es fs : List Event) (run clock : ℕ)
+asked_before : {D : Type 0} (view : D → DiskView) (old mid new : D) (s : State) (es fs : List Event) (run clock : ℕ)
     → AskedOn view old mid s es run clock → CrashesTo (view mid) (view new) (Prefix (after_all s es) fs)
     → AskedOn view old new s (es ++ fs) run clock
 asked_before view old mid new s es fs run clock asked crash =
@@ -101,7 +101,7 @@ asked_before view old mid new s es fs run clock asked crash =
           (λ h c p. shifted t b fs c (subst (λ (u : State). Prefix u fs c) split p)) crash);
     }
 
-asked_later : {D : Type 0} (view : D → View) (old mid new : D) (s : State) (es fs : List Event) (run clock : ℕ)
+asked_later : {D : Type 0} (view : D → DiskView) (old mid new : D) (s : State) (es fs : List Event) (run clock : ℕ)
     → CrashesTo (view old) (view mid) (Prefix s es) → AskedOn view mid new (after_all s es) fs run clock
     → AskedOn view old new s (es ++ fs) run clock
 asked_later view old mid new s es fs run clock crash asked =
@@ -127,7 +127,7 @@ asked_in es fs run clock h =
     (Contains-append_cases es fs (record { run = run; at = clock; answer = h.0 }) h.2)
 
 -- Two parts of a call, one after the other, of which the first left nothing pending.
-pub joined : {D : Type 0} (view : D → View) (old mid new : D) (s t u : State) (a b : Effects) → a.pending ≡ [] → CrashCondition view old mid s t a
+pub joined : {D : Type 0} (view : D → DiskView) (old mid new : D) (s t u : State) (a b : Effects) → a.pending ≡ [] → CrashCondition view old mid s t a
     → CrashCondition view mid new t u b → CrashCondition view old new s u (followed_by a b)
 joined view old mid new s t u a b none one two =
     let later : CrashCondition view mid new (after_all s a.events) u b = subst (λ (x : State). CrashCondition view mid new x u b) one.state two in
@@ -160,7 +160,7 @@ pub asked_none : (run clock : ℕ) → Asked [] run clock → ⊥
 asked_none run clock h = let none = h.2.1 in omega (arith, none)
 
 -- Entries that are no starts may be added to a part without entries.
-pub reported_then : {D : Type 0} (view : D → View) (old new : D) (s t : State) (es : List Entry) (events pending : List Event)
+pub reported_then : {D : Type 0} (view : D → DiskView) (old new : D) (s t : State) (es : List Entry) (events pending : List Event)
     → ((run clock : ℕ) → Asked es run clock → ⊥)
     → CrashCondition view old new s t (record { entries = []; events = events; pending = pending })
     → CrashCondition view old new s t (record { entries = es; events = events; pending = pending })
@@ -176,13 +176,13 @@ pub asked_one : (e x : Entry) → Contains (e ∷ []) x → e ≡ x
 asked_one e x h = ⊎_elim (λ none. let bad = none.1 in absurd (omega (arith, bad))) (λ same. same) (Contains-push_cases [] e x h)
 
 -- a crash after a part that left nothing pending leaves its state
-pub settles : {D : Type 0} (view : D → View) (old new : D) (s t : State) (did : Effects) → did.pending ≡ [] → CrashCondition view old new s t did
+pub settles : {D : Type 0} (view : D → DiskView) (old new : D) (s t : State) (did : Effects) → did.pending ≡ [] → CrashCondition view old new s t did
     → (view new).honest → (c : Image) → (view new).now c → FoundAs t c
 settles view old new s t did none leaves h c now =
     ⊎_elim (λ a. a) (λ b. b) (subst (λ (l : List Event). EitherSide t l c) none (leaves.now h c now))
 
 -- no effects, at a moment at which a crash leaves this state and the reserve
-pub whole : {D : Type 0} (view : D → View) (d : D) (s : State) → ((view d).honest → Lawful (view d))
+pub whole : {D : Type 0} (view : D → DiskView) (d : D) (s : State) → ((view d).honest → Lawful (view d))
     → ((view d).honest → (c : Image) → (view d).now c → FoundAs s c) → CrashesTo (view d) (view d) PairHasReserve → CrashCondition view d d s s no_effects
 whole view d s lawful now reserved = record {
   state = refl;
@@ -200,31 +200,31 @@ pub record JournalLemmas : Type 0 where
   pub stays : (p : Position) (s : State) (c : Image) → JournalAt p s c → IsToWrite c → ⊥
 
 -- a crash of a settled journal leaves its state
-pub settled_found : ((p : Position) (s : State) (c : Image) → JournalAt p s c → FoundAs s c) → (p : Position) (s : State) (v : View)
+pub settled_found : ((p : Position) (s : State) (c : Image) → JournalAt p s c → FoundAs s c) → (p : Position) (s : State) (v : DiskView)
     → (v.honest → IsInSync p s v) → v.honest → (c : Image) → v.now c → FoundAs s c
 settled_found found p s v settled h c now =
     subst (λ (i : Image). FoundAs s i) (sym ((settled h).synced c now)) (found p s v.reads (settled h).holds)
 
 -- and the reserve, where it is there at the journal's position
 pub settled_reserved : ((p q : Position) (s t : State) (c : Image) → JournalAt p s c → JournalAt q t c → (p ≡ q) × (s ≡ t))
-    → (p : Position) (s : State) (v : View)
+    → (p : Position) (s : State) (v : DiskView)
     → (v.honest → Lawful v) → (v.honest → IsInSync p s v) → HasReserve p.tail s → CrashesTo v v PairHasReserve
-settled_reserved once p s v lawful settled room = started v PairHasReserve
+settled_reserved once p s v lawful settled reserve = started v PairHasReserve
     (λ h c now q t holds.
     let here = once p q s t c (subst (λ (i : Image). JournalAt p s i) (sym ((settled h).synced c now)) (settled h).holds) holds in
-    subst (λ (r : Position). HasReserve r.tail t) here.0 (subst (λ (u : State). HasReserve p.tail u) here.1 room))
+    subst (λ (r : Position). HasReserve r.tail t) here.0 (subst (λ (u : State). HasReserve p.tail u) here.1 reserve))
     lawful
 
 -- no effects over a settled journal that has its reserve
-pub settled_leaves : {D : Type 0} → JournalLemmas → (p : Position) (s : State) (view : D → View) (d : D) → ((view d).honest → Lawful (view d))
+pub settled_leaves : {D : Type 0} → JournalLemmas → (p : Position) (s : State) (view : D → DiskView) (d : D) → ((view d).honest → Lawful (view d))
     → ((view d).honest → IsInSync p s (view d)) → HasReserve p.tail s → CrashCondition view d d s s no_effects
-settled_leaves law p s view d lawful settled room =
-    whole view d s lawful (settled_found law.found p s (view d) settled) (settled_reserved law.once p s (view d) lawful settled room)
+settled_leaves law p s view d lawful settled reserve =
+    whole view d s lawful (settled_found law.found p s (view d) settled) (settled_reserved law.once p s (view d) lawful settled reserve)
 
 -- a batch that was recorded
-pub appended : {D : Type 0} → JournalLemmas → (p q : Position) (view : D → View) (old new : D) (s t : State) (es : List Event) (u : Unit {0})
+pub appended : {D : Type 0} → JournalLemmas → (p q : Position) (view : D → DiskView) (old new : D) (s t : State) (es : List Event) (u : Unit {0})
     → AppendsBatch (view old) (view new) p q s es (Ok u) → HasReserve p.tail s → t ≡ after_all s es → CrashCondition view old new s t (batch_effects true es)
-appended law p q view old new s t es u appends room state = record {
+appended law p q view old new s t es u appends reserve state = record {
   state = state;
   crash =
       subst (λ (l : List Event). CrashesTo (view old) (view new) (Prefix s l)) (sym (append-nil es))
@@ -233,18 +233,18 @@ appended law p q view old new s t es u appends room state = record {
       λ h c left. inl (subst (λ (x : State). FoundAs x c) (sym state)
       (settled_found law.found q (after_all s es) (view new) appends.settled h c left));
   starts = λ run clock asked. absurd (asked_none run clock asked);
-  reserved = (appends.room room).reserved;
+  reserved = (appends.reserve reserve).reserved;
 }
 
 -- one that met a disk fault: it was recorded whole or not at all
-pub not_appended : {D : Type 0} (p q : Position) (view : D → View) (old new : D) (s t : State) (es : List Event)
+pub not_appended : {D : Type 0} (p q : Position) (view : D → DiskView) (old new : D) (s t : State) (es : List Event)
     → AppendsBatch (view old) (view new) p q s es (Err Disk) → HasReserve p.tail s → t ≡ s → CrashCondition view old new s t (batch_effects false es)
-not_appended p q view old new s t es appends room state = record {
+not_appended p q view old new s t es appends reserve state = record {
   state = state;
   crash = weakened (view old) (view new) (EitherSide s es) (Prefix s es) (λ h c found. either s es c found) appends.crash;
   now = λ h c left. subst (λ (x : State). EitherSide x es c) (sym state) (appends.now h c left);
   starts = λ run clock asked. absurd (asked_none run clock asked);
-  reserved = (appends.room room).reserved;
+  reserved = (appends.reserve reserve).reserved;
 }
 
 -- the position after a batch that is not empty is that after its record

@@ -49,9 +49,9 @@ fn send_line<W: Write>(writer: &mut W, line: Result<Vec<u8>, AllocError>) -> Res
     ensures prefix { IfOk line
         (λ bytes. OnErr result
         (AppendsPrefix (W.contents writer.old) (W.contents writer.new) bytes.items)) }
-    ensures memory { IfErr line (λ _. result ≡ Err Memory) }
     ensures only { IfOk line (λ _. IfErr result (λ f. f ≢ Memory)) }
     ensures unwritten { IfErr line (λ _. W.contents writer.new ≡ W.contents writer.old) }
+    ensures memory { IfErr line (λ _. result ≡ Err Memory) }
 {
     write_flushed(writer, line?.as_slice())?;
     Ok(())

@@ -2,7 +2,7 @@
 use Rattle.std.proofs.Common.{◌≡◌, ℕ, List, Option, Result, Ok, Err, subst}
 use Rattle.ocf_types.specs.State.{State}
 use Rattle.disk_model.specs.Image.{Image}
-use Rattle.disk_model.specs.View.{View}
+use Rattle.disk_model.specs.Disk.{DiskView}
 use Rattle.exec_journal.specs.Found.{FoundAs}
 use Rattle.exec_journal.specs.Opening.{OpensAt}
 use Rattle.exec_journal.specs.Position.{Position}
@@ -55,11 +55,11 @@ module _ {T : Type 0} (reads : Image) (now : ℕ) (old new : Option (List ℕ)) 
 
 -- the same for a journal that was opened on a disk of this measure
 pub writes_opened : {T : Type 0} (now : ℕ) (old new : Option (List ℕ)) (size : Size) (counts : List (List ℕ × RunCount)) (p : Position) (s : State)
-    (first opened last : View) (ended : Result T Fault) → OpensAt p s first opened → (first.honest → IsSize first.reads size)
+    (first opened last : DiskView) (ended : Result T Fault) → OpensAt p s first opened → (first.honest → IsSize first.reads size)
     → (first.honest → (t : State) → FoundAs t first.reads → HasCounts first.reads counts)
     → IsWritten (metrics_text now size (count_at counts) s) old new ended → last ≡ opened → last.honest → WritesAs first.reads now old new ended
 writes_opened now old new size counts p s first opened last ended opens is_size has written same honest =
-    let h1 = subst (λ (v : View). v.honest) same honest in
+    let h1 = subst (λ (v : DiskView). v.honest) same honest in
     let h0 = opens.opens.crash.passed.honest h1 in
     let found = opens.found h1 in
     writes first.reads now old new size counts s ended found (is_size h0) (has h0 s found) written

@@ -4,11 +4,10 @@ use Rattle.std.specs.Prelude.{Option, Some, None, is_some, option_map}
 use Rattle.std.specs.List.{flat_map}
 use Rattle.std.specs.Str.{bytes_eq}
 use Rattle.ocf_types.specs.Actions.{action_word}
-use Rattle.ocf_types.specs.Outcomes.{outcome_word}
+use Rattle.ocf_types.specs.Outcomes.{outcome_code, outcome_word}
 use Rattle.ocf_types.specs.Resource.{Resource}
 use Rattle.ocf_types.specs.declared.operation.Ended.{Ended}
 use Rattle.ocf_types.specs.declared.operation.Recur.{Recur}
-use Rattle.ocf_codes.specs.OutcomeCodes.{outcome_code}
 use Rattle.resource_status.specs.Conditions.{condition_of, condition_word}
 use Rattle.resource_status.specs.Results.{is_run, last_of}
 use Rattle.resource_status.specs.declared.condition.Condition.{Condition}

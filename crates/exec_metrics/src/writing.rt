@@ -1,10 +1,10 @@
 //! Measures and opens a journal, and writes its metrics.
 ghost use Rattle.std.specs.Prelude.{◌≡◌, IsErrOf, IfOk, IfErr};
 ghost use Rattle.ocf_types.specs.State.{State as PlainState};
-ghost use Rattle.disk_model.specs.View.{Increased};
+ghost use Rattle.disk_model.specs.Disk.{Increased};
 ghost use Rattle.exec_journal.specs.Found.{FoundAs};
 ghost use Rattle.exec_journal.specs.Opening.{Opens};
-ghost use Rattle.exec_faults.specs.Faults.{HasCause, IsRunEnd, opening_fault};
+ghost use Rattle.exec_faults.specs.Faults.{HasCause, IsRunEnd};
 ghost use Rattle.exec_metrics.specs.Metrics.{IsWritten, WritesAs, metrics_text};
 ghost use Rattle.journal_measure.specs.RanOn.{HasCounts};
 ghost use Rattle.journal_measure.specs.Sizes.{IsSize};
@@ -13,7 +13,7 @@ ghost use Rattle.run_counts.specs.Counts.{count_at};
 use crate::text::{Taken, metrics_text};
 use disk_model::Disk;
 use exec_faults::Fault;
-use exec_journal::{Journal, JournalFault};
+use exec_journal::Journal;
 use exec_lines::write_flushed;
 use exec_state::State;
 use growth::Grows;
@@ -22,17 +22,6 @@ use journal_measure::measure;
 use ocf_types::Moment;
 use std::alloc::Global;
 use std::io::Write;
-
-// The fault of the program for a journal that was not opened.
-fn opening_fault(fault: JournalFault) -> Fault
-    ensures { result ≡ opening_fault fault }
-{
-    match fault {
-        JournalFault::Damaged(damage) => Fault::Damaged(damage),
-        JournalFault::Memory => Fault::Memory,
-        JournalFault::Disk => Fault::Disk,
-    }
-}
 
 // Writes the metrics of a state.
 fn write_metrics<W: Write>(
@@ -70,9 +59,9 @@ fn write_measured<D: Disk + Drop, W: Write>(
         → WritesAs (D.view disk).reads taken.now.moment (W.contents writer.old)
         (W.contents writer.new) result.1 }
     ensures opens { Opens (D.view disk) (D.view result.0) }
+    ensures ends { IsRunEnd result.1 }
     ensures cause { IsErrOf result.1 Fault.Disk
         → Increased (D.view disk).failures (D.view result.0).failures }
-    ensures ends { IsRunEnd result.1 }
     ensures memory { IfErr result.1 (HasCause ⟦<Global as Grows>⟧.refuses) }
 {
     match Journal::open(alloc, disk) {
@@ -80,7 +69,7 @@ fn write_measured<D: Disk + Drop, W: Write>(
             let ended = write_metrics(alloc, writer, taken, &state);
             (journal.into_disk(), ended)
         }
-        Err((fault, disk)) => (disk, Err(opening_fault(fault))),
+        Err((fault, disk)) => (disk, Err(Fault::from(fault))),
     }
 }
 
@@ -97,9 +86,9 @@ pub fn metrics<D: Disk + Drop, W: Write>(
         → WritesAs (D.view disk).reads moment (W.contents writer.old)
         (W.contents writer.new) result.1 }
     ensures opens { Opens (D.view disk) (D.view result.0) }
+    ensures ends { IsRunEnd result.1 }
     ensures cause { IsErrOf result.1 Fault.Disk
         → Increased (D.view disk).failures (D.view result.0).failures }
-    ensures ends { IsRunEnd result.1 }
     ensures memory { IfErr result.1 (HasCause ⟦<Global as Grows>⟧.refuses) }
 {
     let mut disk = disk;

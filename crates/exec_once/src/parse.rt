@@ -4,8 +4,8 @@ ghost use Rattle.exec_once.specs.Texts.{IsWhat};
 
 use crate::call::What;
 use ocf_types::{
-    Action, AgentType, BadName, CallId, Check, Millis, Moment, ParamName, ParamValue, Params,
-    Provider, RunId, Running, Task, ValueError,
+    Action, AgentType, BadName, CallId, Millis, Moment, ParamName, ParamValue, Params, Provider,
+    RunId, Running, Task, ValueError,
 };
 use std::alloc::Global;
 
@@ -53,7 +53,7 @@ pub fn read_what(word: &str, timeout: u32) -> Option<What>
     if word == "meta-data" {
         return Some(What::MetaData);
     }
-    let task = Task::new(Action::named(word)?, Check::plain())?;
+    let task = Task::plain(Action::named(word)?);
     Some(What::Action(Running {
         call: CallId::new(1)?,
         run: RunId::new(1)?,

@@ -17,7 +17,7 @@ use Rattle.exec_options.specs.Arguments.{timeout_text}
 abbrev pub IsAsked : ErrorKind → Type 0
 IsAsked k = (k ≡ DisplayHelp) ⊎ (k ≡ DisplayVersion)
 
--- the fault is one of `clap`'s, of one of these kinds, or want of memory
+-- the fault is one of `clap`'s, of one of these kinds, or lack of memory
 abbrev pub HasFaultKind : Kinds → ArgumentsFault → Type 0
 HasFaultKind kinds (Help e) = IsAmong (kind_of e) kinds × IsAsked (kind_of e)
 HasFaultKind kinds (Usage e) = IsAmong (kind_of e) kinds × (¬ IsAsked (kind_of e))
@@ -74,7 +74,7 @@ SinceFlaw rows = is_some (first_of (codes "since") rows) ≡ true
 abbrev pub TimeoutFlaw : List Row → Type 0
 TimeoutFlaw rows = (n : ℕ) → ¬ IsTimeout (timeout_text rows) n
 
--- the flaw that a fault reports; want of memory is no flaw
+-- the flaw that a fault reports; lack of memory is no flaw
 abbrev pub HasFlaw : List Row → ArgumentsFault → Type 0
 HasFlaw rows TidyAt = TidyAtFlaw rows
 HasFlaw rows Root = RootFlaw rows

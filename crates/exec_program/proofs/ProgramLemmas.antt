@@ -1,7 +1,7 @@
 -- What the program does.
 use Rattle.std.proofs.Common.{◌≡◌, Bool, ℕ, IfErr, List, [], Option, Result, Ok, inl, inr, refl, subst, sym}
 use Rattle.std.specs.declared.alloc.Global.{Global}
-use Rattle.disk_model.specs.View.{View}
+use Rattle.disk_model.specs.Disk.{DiskView}
 use Rattle.child_model.specs.Children.{ChildrenView}
 use Rattle.file_disk.specs.RamDisk.{IsFresh, view_of}
 use Rattle.file_disk.specs.declared.ram.RamDisk.{RamDisk}
@@ -21,7 +21,7 @@ use Rattle.exec_program.specs.Runs.{RunsOn}
 
 -- a session over a fresh disk in memory
 pub runs_in_memory : {F L A S R W H : Type 0} (refuses : Bool) (asked : Asked F L A S R W H) (tend : A → ChildrenView) (gives : S → Source)
-    (left : R → Option (List ℕ)) (contents : W → Option (List ℕ)) (view : F → View) (o : Options) (log : L) (location : JournalLocation)
+    (left : R → Option (List ℕ)) (contents : W → Option (List ℕ)) (view : F → DiskView) (o : Options) (log : L) (location : JournalLocation)
     (disk : RamDisk Global) (ended : Result Unit Fault) → location ≡ Memory → IsFresh (record { a = []; b = [] }) disk
     → RunsOn asked tend gives left contents view_of o log disk ended → IfErr ended (HasCause refuses)
     → RunsAt refuses asked tend gives left contents view o log location ended
@@ -30,7 +30,7 @@ runs_in_memory refuses asked tend gives left contents view o log location disk e
 
 -- an action that was run once
 pub does_once : {F L A S R W H : Type 0} (refuses : Bool) (asked : Asked F L A S R W H) (tend : A → ChildrenView) (gives : S → Source)
-    (left : R → Option (List ℕ)) (contents : W → Option (List ℕ)) (view : F → View) (named : Option (List ℕ)) (arguments : List (List ℕ))
+    (left : R → Option (List ℕ)) (contents : W → Option (List ℕ)) (view : F → DiskView) (named : Option (List ℕ)) (arguments : List (List ℕ))
     (w : Wanted) (o : OnceOptions) (status : ℕ) → AsksFor named arguments w → w ≡ wanted.Once o → asked.once o status
     → Does refuses asked tend gives left contents view named arguments (Ok status)
 does_once refuses asked tend gives left contents view named arguments w o status asks is ran =

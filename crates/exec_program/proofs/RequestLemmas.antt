@@ -1,7 +1,7 @@
 -- What the program may ask for, from its arguments down to the requests of its parts.
-use Rattle.std.proofs.Common.{◌≡◌, ◌∙◌, ⊎_elim, ℕ, List, Option, Some, None, ap, inl, inr, refl, subst, sym, Bor}
+use Rattle.std.proofs.Common.{◌≡◌, ◌∙◌, ⊎_elim, ℕ, List, Option, Some, None, ap, inl, inr, is_some, true, refl, subst, sym, Bor}
 use Rattle.ocf_types.specs.State.{State}
-use Rattle.disk_model.specs.View.{View}
+use Rattle.disk_model.specs.Disk.{DiskView}
 use Rattle.exec_options.specs.Arguments.{AsksFor, directory_of}
 use Rattle.exec_options.specs.declared.once.OnceOptions.{OnceOptions}
 use Rattle.exec_options.specs.declared.options.JournalLocation.{JournalLocation}
@@ -11,26 +11,27 @@ use Rattle.exec_options.specs.declared.options.Subcommand.{Subcommand}
 use Rattle.exec_options.specs.declared.arguments.Wanted.{Wanted}
 use Rattle.exec_options.specs.declared.arguments.Wanted.TheVariants as wanted
 use Rattle.exec_program.specs.Asked.{Asked}
-use Rattle.exec_program.specs.Requests.{Allows, IsAskedFor, IsFoundIn, IsFoundOn, IsOfDirectory, IsOfRun, IsOfSubcommand, Request}
+use Rattle.exec_program.specs.Requests.{Allows, IsAskedFor, IsFoundIn, IsFoundOn, IsOfDirectory, IsOfRun, IsOfStreams, IsOfSubcommand, Request}
 use Rattle.exec_program.specs.Requests.{AskSite, AwaitOrphans, LeaveWord, MakeAgents, OpenFiles, OpenLog, OpenReader, OpenWriter}
 use Rattle.exec_program.specs.Requests.{PrintText, RunOnce, ShowJournal, WatchPaths, WriteLine}
+use Rattle.exec_program.specs.Runs.{disk_line, served_directory}
 
 -- where the arguments ask for a journal, the requests of its subcommand are allowed
-pub allows_journal : {F L A S R W H : Type 0} (asked : Asked F L A S R W H) (view : F → View) (named : Option (List ℕ)) (arguments : List (List ℕ))
+pub allows_journal : {F L A S R W H : Type 0} (asked : Asked F L A S R W H) (view : F → DiskView) (named : Option (List ℕ)) (arguments : List (List ℕ))
     (may : Request L → Type 0) (w : Wanted) (o : Options) → AsksFor named arguments w → w ≡ wanted.Journal o
     → Allows may (IsAskedFor asked view named arguments) → Allows may (IsOfSubcommand asked view o o.subcommand)
 allows_journal asked view named arguments may w o asks is allows r h =
     allows r (inl (o, subst (λ (x : Wanted). AsksFor named arguments x) is asks, h))
 
 -- where they ask for one action by itself, that request is allowed
-pub allows_once : {F L A S R W H : Type 0} (asked : Asked F L A S R W H) (view : F → View) (named : Option (List ℕ)) (arguments : List (List ℕ))
+pub allows_once : {F L A S R W H : Type 0} (asked : Asked F L A S R W H) (view : F → DiskView) (named : Option (List ℕ)) (arguments : List (List ℕ))
     (may : Request L → Type 0) (w : Wanted) (o : OnceOptions) → AsksFor named arguments w → w ≡ wanted.Once o
     → Allows may (IsAskedFor asked view named arguments) → may (RunOnce o)
 allows_once asked view named arguments may w o asks is allows =
     allows (RunOnce o) (inr (inl (o, subst (λ (x : Wanted). AsksFor named arguments x) is asks, refl)))
 
 -- the same of a subcommand that is known
-pub allows_as : {F L A S R W H : Type 0} (asked : Asked F L A S R W H) (view : F → View) (may : Request L → Type 0) (o : Options)
+pub allows_as : {F L A S R W H : Type 0} (asked : Asked F L A S R W H) (view : F → DiskView) (may : Request L → Type 0) (o : Options)
     (s t : Subcommand) → s ≡ t → Allows may (IsOfSubcommand asked view o s) → Allows may (IsOfSubcommand asked view o t)
 allows_as asked view may o s t is allows = subst (λ (x : Subcommand). Allows may (IsOfSubcommand asked view o x)) is allows
 
@@ -64,15 +65,26 @@ allows_less : {F L A S R W H : Type 0} (asked : Asked F L A S R W H) (may : Requ
 allows_less asked may found more o holds allows r h = allows r (more_in_run asked found more o holds r h)
 
 -- a session over files that were asked for, and one in memory, which has no directory
-pub allows_on_files : {F L A S R W H : Type 0} (asked : Asked F L A S R W H) (view : F → View) (may : Request L → Type 0) (o : Options)
+pub allows_on_files : {F L A S R W H : Type 0} (asked : Asked F L A S R W H) (view : F → DiskView) (may : Request L → Type 0) (o : Options)
     (directory : Bor (List ℕ)) (disk : F) → o.journal ≡ Directory directory → asked.files directory.now o.any_owner disk
     → Allows may (IsOfRun (IsFoundIn asked view o) asked o) → Allows may (IsOfRun (IsFoundOn view disk) asked o)
 allows_on_files asked view may o directory disk is given =
     allows_less asked may (IsFoundOn view disk) (IsFoundIn asked view o) o (λ d s names found. (directory.now, (disk, ap directory_of is, given, found)))
 
-pub allows_in_memory : {F L A S R W H D : Type 0} (asked : Asked F L A S R W H) (files : F → View) (view : D → View) (may : Request L → Type 0)
+pub allows_in_memory : {F L A S R W H D : Type 0} (asked : Asked F L A S R W H) (files : F → DiskView) (view : D → DiskView) (may : Request L → Type 0)
     (o : Options) (disk : D) → o.journal ≡ Memory
     → Allows may (IsOfRun (IsFoundIn asked files o) asked o) → Allows may (IsOfRun (IsFoundOn view disk) asked o)
 allows_in_memory asked files view may o disk is =
     allows_less asked may (IsFoundOn view disk) (IsFoundIn asked files o) o
     (λ d s names found. let none : None ≡ Some d = sym (ap directory_of is) ∙ names in cc)
+
+-- a journal in files is in this directory
+pub names_directory : (location : JournalLocation) (directory : Bor (List ℕ)) → location ≡ Directory directory
+    → directory_of location ≡ Some directory.now
+names_directory location directory is = ap directory_of is
+
+-- where the served journal is gone, the line of such an end is allowed
+pub allows_line : {F L A S R W H : Type 0} (asked : Asked F L A S R W H) (may : Request L → Type 0) (o : Options) (watch : H) (line : List ℕ)
+    → Allows may (IsOfStreams asked o) → line ≡ disk_line → is_some (served_directory o) ≡ true → asked.watch (served_directory o) watch
+    → asked.moved watch → may (WriteLine line)
+allows_line asked may o watch line allows is served watched moved = allows (WriteLine line) (is, served, (watch, watched, moved))

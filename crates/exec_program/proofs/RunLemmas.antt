@@ -1,6 +1,6 @@
 -- How a session begins.
 use Rattle.std.proofs.Common.{◌≡◌, ◌∙◌, ap, ℕ, List, [], Option, Result, subst}
-use Rattle.disk_model.specs.View.{View}
+use Rattle.disk_model.specs.Disk.{DiskView}
 use Rattle.child_model.specs.Children.{ChildrenView}
 use Rattle.executor.specs.ExecutorView.{ExecutorView}
 use Rattle.executor.specs.declared.report.Report.{Report}
@@ -33,7 +33,7 @@ edge_begins from left opened x reported written held is e f h =
     is ∙ ap (λ (a : ClientView _). edge_with left a) (client_view_is opened x reported written held e f h)
 
 -- how a session ended that began like this, with metadata from this source
-pub ended_from : {D C N S : Type 0} (view : D → View) (tend : C → ChildrenView) (gives : S → Source) (s source : S) (rules : Rules)
+pub ended_from : {D C N S : Type 0} (view : D → DiskView) (tend : C → ChildrenView) (gives : S → Source) (s source : S) (rules : Rules)
     (report : Report N) (x : ExecutorView D) (from begins edge : EdgeView D) (ended : Result Unit Fault) (disk : D) (children : C)
     → s ≡ source → from ≡ begins → Ended view tend (gives s) rules report (at_of x from) edge ended disk children
     → Ended view tend (gives source) rules report (at_of x begins) edge ended disk children

@@ -1,6 +1,6 @@
 -- Why the program ends as it does.
 use Rattle.std.proofs.Common.{inl, inr, ⊎_elim, ◌||◌, ℕ, List, Result, Ok, Err, Option, ap, refl, subst, sym, ◌≡◌, is_some, Bool, IsTrue, true}
-use Rattle.disk_model.specs.View.{View}
+use Rattle.disk_model.specs.Disk.{DiskView}
 use Rattle.child_model.specs.Children.{ChildrenView}
 use Rattle.executor.specs.declared.opening.OpenError.{OpenError}
 use Rattle.executor.specs.declared.opening.OpenError.TheVariants as opening
@@ -25,7 +25,7 @@ use Rattle.journal_directory.specs.Ends.{IsDirectoryEnd}
 use Rattle.exec_program.specs.Starts.{EndsFor, IsEndOf, IsWrittenAs, StartEndsFor, opening_fault, with_status}
 
 -- a session does not end because of its arguments
-ends : {D N T : Type 0} (view : D → View) (source : Source) (rules : Rules) (report : Report N)
+ends : {D N T : Type 0} (view : D → DiskView) (source : Source) (rules : Rules) (report : Report N)
     (p q : SessionPosition D) (r : Result T Fault)
     → EndsAs view source rules report p q r → IsRunEnd r
 ends view source rules report p q (Ok done) how = tt
@@ -48,7 +48,7 @@ ends view source rules report p q (Err fault.InputOrOutput) how = tt
 ends view source rules report p q (Err fault.ReplyMemory) how = tt
 ends view source rules report p q (Err fault.ChildrenIgnored) how = absurd how
 
-pub run_ends : {D C N : Type 0} (view : D → View) (tend : C → ChildrenView) (source : Source) (rules : Rules) (report : Report N)
+pub run_ends : {D C N : Type 0} (view : D → DiskView) (tend : C → ChildrenView) (source : Source) (rules : Rules) (report : Report N)
     (p : SessionPosition D) (edge : EdgeView D) (ended : Result Unit Fault) (disk : D) (children : C)
     → Ended view tend source rules report p edge ended disk children → IsRunEnd ended
 run_ends view tend source rules report p edge ended disk children ends_so =
@@ -69,7 +69,7 @@ opening_end T opening.Memory = tt
 opening_end T opening.Foreign = tt
 opening_end T opening.Full = tt
 
--- its cause is want of memory only where that was the opening's
+-- its cause is lack of memory only where that was the opening's
 pub opening_cause : (refuses : Bool) (why : OpenError) → (why ≡ opening.Memory → IsTrue refuses) → HasCause refuses (opening_fault why)
 opening_cause refuses opening.Disk cause = tt
 opening_cause refuses (opening.Damaged damage) cause = tt
@@ -77,7 +77,7 @@ opening_cause refuses opening.Memory cause = cause refl
 opening_cause refuses opening.Foreign cause = tt
 opening_cause refuses opening.Full cause = tt
 
--- a session whose report nobody reads does not end for want of memory
+-- a session whose report nobody reads does not end for lack of memory
 pub unheard_cause : (refuses : Bool) (f : Fault) → f ≡ fault.InputOrOutput → HasCause refuses f
 unheard_cause refuses f is = subst (λ (x : Fault). HasCause refuses x) (sym is) tt
 

@@ -2,7 +2,7 @@
 use Rattle.std.proofs.Common.{◌≡◌, ℕ, List, Some, inl, subst, sym, Bor}
 use Rattle.ocf_env.specs.Locations.{SiteView}
 use Rattle.ocf_types.specs.State.{State}
-use Rattle.disk_model.specs.View.{View}
+use Rattle.disk_model.specs.Disk.{DiskView}
 use Rattle.exec_commands.specs.declared.left.Left.{Left}
 use Rattle.exec_journal.specs.Opening.{OpensAt}
 use Rattle.exec_journal.specs.Position.{Position}
@@ -14,7 +14,7 @@ use Rattle.exec_program.specs.Starts.{site_of}
 use Rattle.exec_program.specs.Waits.{WaitsAt, WaitsFor}
 
 -- a journal in a directory was read, and the program waited for what is left, at the site of the options
-pub waits_in : {F L A S R W H D : Type 0} (asked : Asked F L A S R W H) (view : D → View) (o : Options) (old under new : D) (left : List Left)
+pub waits_in : {F L A S R W H D : Type 0} (asked : Asked F L A S R W H) (view : D → DiskView) (o : Options) (old under new : D) (left : List Left)
     (location : JournalLocation) (directory : Bor (List ℕ)) (p : Position) (s : State) (site : SiteView)
     → location ≡ Directory directory → OpensAt p s (view old) (view under) → new ≡ under → site ≡ site_of o
     → asked.orphans directory.now o.orphans o.leave_orphans site s (Some left) → WaitsFor asked view o old new left location

@@ -1,7 +1,7 @@
 -- What the program does.
 use Rattle.std.specs.Prelude.{◌≡◌, ◌⊎◌, ◌||◌, ℕ, ⊤, Bool, true, false, IfErr, IsTrue, List, [], Option, Some, None, option_map, is_some, Result, Ok, Err}
 use Rattle.std.specs.declared.alloc.Global.{Global}
-use Rattle.disk_model.specs.View.{View}
+use Rattle.disk_model.specs.Disk.{DiskView}
 use Rattle.child_model.specs.Children.{ChildrenView}
 use Rattle.file_disk.specs.RamDisk.{IsFresh, view_of}
 use Rattle.file_disk.specs.declared.ram.RamDisk.{RamDisk}
@@ -29,9 +29,9 @@ Looks asked o (Directory directory) ended = asked.shown o (Some directory.now) e
 Looks asked o Memory ended = asked.shown o None ended
 
 -- How the program ends in `run` and `serve`, with agents that write to this log: over the files of the directory, which may not be there,
--- or over a fresh disk in memory. Over a disk it ends for want of memory only where the allocator refuses growths.
+-- or over a fresh disk in memory. Over a disk it ends for lack of memory only where the allocator refuses growths.
 abbrev pub RunsAt : {F L A S R W H : Type 0} → Bool → Asked F L A S R W H → (A → ChildrenView) → (S → Source)
-    → (R → Option (List ℕ)) → (W → Option (List ℕ)) → (F → View) → Options → L → JournalLocation → Result Unit Fault → Type 0
+    → (R → Option (List ℕ)) → (W → Option (List ℕ)) → (F → DiskView) → Options → L → JournalLocation → Result Unit Fault → Type 0
 RunsAt {F} refuses asked tend gives left contents view o log (Directory directory) ended =
     ((disk : F) × asked.files directory.now o.any_owner disk × RunsOn asked tend gives left contents view o log disk ended × IfErr ended (HasCause refuses))
     ⊎ ((f : Fault) × asked.no_files directory.now o.any_owner f × (ended ≡ Err f))
@@ -41,7 +41,7 @@ RunsAt refuses asked tend gives left contents view o log Memory ended =
 
 -- the same where the end of an agent process would be seen, and agents write where the options say
 abbrev pub RunsFor : {F L A S R W H : Type 0} → Bool → Asked F L A S R W H → (A → ChildrenView) → (S → Source)
-    → (R → Option (List ℕ)) → (W → Option (List ℕ)) → (F → View) → Options → Result Unit Fault → Type 0
+    → (R → Option (List ℕ)) → (W → Option (List ℕ)) → (F → DiskView) → Options → Result Unit Fault → Type 0
 RunsFor {L = L} refuses asked tend gives left contents view o ended =
     ((ended ≡ Err fault.ChildrenIgnored) × asked.ignored true)
     ⊎ (((ended ≡ Err fault.Log) × ((is_some o.log || is_some o.logs) ≡ true)
@@ -51,7 +51,7 @@ RunsFor {L = L} refuses asked tend gives left contents view o ended =
 
 -- what a subcommand does with a journal, by these options
 abbrev pub DoesAs : {F L A S R W H : Type 0} → Bool → Asked F L A S R W H → (A → ChildrenView) → (S → Source)
-    → (R → Option (List ℕ)) → (W → Option (List ℕ)) → (F → View) → Options → Subcommand → Result Unit Fault → Type 0
+    → (R → Option (List ℕ)) → (W → Option (List ℕ)) → (F → DiskView) → Options → Subcommand → Result Unit Fault → Type 0
 DoesAs refuses asked tend gives left contents view o subcommand.Run ended = RunsFor refuses asked tend gives left contents view o ended
 DoesAs refuses asked tend gives left contents view o subcommand.Serve ended = RunsFor refuses asked tend gives left contents view o ended
 DoesAs refuses asked tend gives left contents view o _ ended = Looks asked o o.journal ended
@@ -63,10 +63,10 @@ Prints asked (arguments_fault.Usage text) = asked.printed text
 Prints asked _ = ⊤
 
 -- What the program does with these arguments, where the environment names this directory for a journal, and how it ends: with a journal;
--- by one action, whose exit status it takes; or, where they give no options, with a text or a fault. The fault is want of memory only
+-- by one action, whose exit status it takes; or, where they give no options, with a text or a fault. The fault is lack of memory only
 -- where the allocator refuses growths.
 abbrev pub Does : {F L A S R W H : Type 0} → Bool → Asked F L A S R W H → (A → ChildrenView) → (S → Source)
-    → (R → Option (List ℕ)) → (W → Option (List ℕ)) → (F → View) → Option (List ℕ) → List (List ℕ) → Result ℕ Fault → Type 0
+    → (R → Option (List ℕ)) → (W → Option (List ℕ)) → (F → DiskView) → Option (List ℕ) → List (List ℕ) → Result ℕ Fault → Type 0
 Does refuses asked tend gives left contents view named arguments ended =
     ((o : Options) × Gives named arguments o
     × ((r : Result Unit Fault) × DoesAs refuses asked tend gives left contents view o o.subcommand r × (ended ≡ with_status r)))

@@ -3,7 +3,7 @@ use Rattle.std.specs.Prelude.{◌≡◌, ◌⊎◌, ℕ, ⊤, Bool, true, List, 
 use Rattle.clap.specs.declared.error.Error.{Error}
 use Rattle.ocf_env.specs.Locations.{SiteView}
 use Rattle.ocf_types.specs.State.{State}
-use Rattle.disk_model.specs.View.{View}
+use Rattle.disk_model.specs.Disk.{DiskView}
 use Rattle.exec_journal.specs.Opening.{OpensAt}
 use Rattle.exec_journal.specs.Position.{Position}
 use Rattle.exec_options.specs.Faults.{IsFault}
@@ -45,11 +45,11 @@ abbrev pub Allows : {L : Type 0} → (Request L → Type 0) → (Request L → T
 Allows {L} may asks = (r : Request L) → asks r → may r
 
 -- a state at which the journal on this disk opens
-abbrev pub IsFoundOn : {D : Type 0} → (D → View) → D → State → Type 0
+abbrev pub IsFoundOn : {D : Type 0} → (D → DiskView) → D → State → Type 0
 IsFoundOn {D} view disk state = (p : Position) × ((new : D) × OpensAt p state (view disk) (view new))
 
 -- the same on files that were asked for, of the directory that the options name
-abbrev pub IsFoundIn : {F L A S R W H : Type 0} → Asked F L A S R W H → (F → View) → Options → State → Type 0
+abbrev pub IsFoundIn : {F L A S R W H : Type 0} → Asked F L A S R W H → (F → DiskView) → Options → State → Type 0
 IsFoundIn {F} asked view o state =
     (directory : List ℕ) × ((disk : F) × (directory_of o.journal ≡ Some directory) × asked.files directory o.any_owner disk × IsFoundOn view disk state)
 
@@ -88,7 +88,7 @@ IsOfLook o (ShowJournal given location) = (given ≡ o) × (directory_of o.journ
 IsOfLook o _ = ⊥
 
 -- the requests of a subcommand, by these options
-abbrev pub IsOfSubcommand : {F L A S R W H : Type 0} → Asked F L A S R W H → (F → View) → Options → Subcommand → Request L → Type 0
+abbrev pub IsOfSubcommand : {F L A S R W H : Type 0} → Asked F L A S R W H → (F → DiskView) → Options → Subcommand → Request L → Type 0
 IsOfSubcommand asked view o subcommand.Run r = IsOfRun (IsFoundIn asked view o) asked o r
 IsOfSubcommand asked view o subcommand.Serve r = IsOfRun (IsFoundIn asked view o) asked o r
 IsOfSubcommand asked view o _ r = IsOfLook o r
@@ -100,7 +100,7 @@ IsOfFault fault _ = ⊥
 
 -- These arguments call for this request, where the environment names this directory for a journal: by the options of a subcommand, to run
 -- one action, or to print a text.
-abbrev pub IsAskedFor : {F L A S R W H : Type 0} → Asked F L A S R W H → (F → View) → Option (List ℕ) → List (List ℕ) → Request L → Type 0
+abbrev pub IsAskedFor : {F L A S R W H : Type 0} → Asked F L A S R W H → (F → DiskView) → Option (List ℕ) → List (List ℕ) → Request L → Type 0
 IsAskedFor asked view named arguments r =
     ((o : Options) × Gives named arguments o × IsOfSubcommand asked view o o.subcommand r)
     ⊎ (((o : OnceOptions) × GivesOnce arguments o × (r ≡ RunOnce o)) ⊎ ((f : ArgumentsFault) × IsFault named arguments f × IsOfFault f r))

@@ -1,7 +1,7 @@
 -- A session over a disk, and how it ends.
 use Rattle.std.specs.Prelude.{◌≡◌, ◌⊎◌, ℕ, ⊤, true, codes, List, [], Option, Some, None, option_map, Result, Err, is_some}
 use Rattle.std.specs.declared.alloc.Global.{Global}
-use Rattle.disk_model.specs.View.{View}
+use Rattle.disk_model.specs.Disk.{DiskView}
 use Rattle.child_model.specs.Children.{ChildrenView}
 use Rattle.executor.specs.Openings.{NotOpened, Opened}
 use Rattle.executor.specs.ExecutorView.{ExecutorView}
@@ -86,7 +86,7 @@ EndsBy asked o watch ran ended =
 
 -- What a session is given before its executor is opened: its agents, which write to this log, with a book of the capacity that a turn
 -- needs; the wait for what is left, which takes its disk from one state to another; and the time of the opening.
-pub record PreparedRun {F L A S R W H D : Type 0} (asked : Asked F L A S R W H) (tend : A → ChildrenView) (view : D → View) (o : Options)
+pub record PreparedRun {F L A S R W H D : Type 0} (asked : Asked F L A S R W H) (tend : A → ChildrenView) (view : D → DiskView) (o : Options)
     (log : L) (old new : D) (agents : A) (left : List Left) (now : ℕ) : Type 0 where
   pub logs : asked.agents log agents
   pub fresh : tend agents ≡ fresh_agents book_room
@@ -96,7 +96,7 @@ pub record PreparedRun {F L A S R W H D : Type 0} (asked : Asked F L A S R W H) 
 -- An executor was opened over this disk, at the site that the options name, and the session that began then ended like this. Its report
 -- is the opening's, and is the first output (`Ended`: `Runs`).
 pub record Runs {F L A S R W H D : Type 0} (asked : Asked F L A S R W H) (tend : A → ChildrenView) (gives : S → Source)
-    (left : R → Option (List ℕ)) (contents : W → Option (List ℕ)) (view : D → View) (o : Options) (log : L) (begun : D)
+    (left : R → Option (List ℕ)) (contents : W → Option (List ℕ)) (view : D → DiskView) (o : Options) (log : L) (begun : D)
     (ended : Result Unit Fault) : Type 0 where
   pub agents : A
   pub source : S
@@ -128,7 +128,7 @@ pub record Runs {F L A S R W H D : Type 0} (asked : Asked F L A S R W H) (tend :
   pub ends : EndsBy asked o watch ran ended
 
 -- No executor was opened over this disk, for this cause.
-pub record RunsNot {F L A S R W H D : Type 0} (asked : Asked F L A S R W H) (tend : A → ChildrenView) (view : D → View) (o : Options)
+pub record RunsNot {F L A S R W H D : Type 0} (asked : Asked F L A S R W H) (tend : A → ChildrenView) (view : D → DiskView) (o : Options)
     (log : L) (begun : D) (ended : Result Unit Fault) : Type 0 where
   pub agents : A
   pub last_agents : A
@@ -141,10 +141,10 @@ pub record RunsNot {F L A S R W H D : Type 0} (asked : Asked F L A S R W H) (ten
   pub refused : NotOpened (view disk) (view last_disk) (tend agents) (tend last_agents) now why
   pub ends : ended ≡ Err (opening_fault why)
 
--- How the program ends over a disk: with a session; because no executor was opened; for want of memory before the disk was asked for
+-- How the program ends over a disk: with a session; because no executor was opened; for lack of memory before the disk was asked for
 -- anything; or because nobody reads which processes live on.
 abbrev pub RunsOn : {F L A S R W H D : Type 0} → Asked F L A S R W H → (A → ChildrenView) → (S → Source)
-    → (R → Option (List ℕ)) → (W → Option (List ℕ)) → (D → View) → Options → L → D → Result Unit Fault → Type 0
+    → (R → Option (List ℕ)) → (W → Option (List ℕ)) → (D → DiskView) → Options → L → D → Result Unit Fault → Type 0
 RunsOn asked tend gives left contents view o log begun ended =
     Runs asked tend gives left contents view o log begun ended
     ⊎ (RunsNot asked tend view o log begun ended

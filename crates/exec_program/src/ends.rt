@@ -1,5 +1,5 @@
 //! How a session ends.
-ghost use Rattle.std.specs.Prelude.{◌≡◌, IfErr};
+ghost use Rattle.std.specs.Prelude.{◌≡◌, true, IfErr, IsErrOf};
 ghost use Rattle.exec_faults.specs.Faults.{HasCause, IsRunEnd};
 ghost use Rattle.exec_program.specs.Requests.{Allows, IsOfStreams};
 ghost use Rattle.exec_program.specs.Runs.{EndsBy, served_directory};
@@ -46,8 +46,16 @@ pub fn reported<H: Host, D: ReportsError>(
     ended
 }
 
+// Whether a session ended because its input or output failed.
+fn is_broken_off(ended: Result<(), Fault>) -> bool
+    ensures { result ≡ true → IsErrOf ended Fault.InputOrOutput }
+{
+    matches!(ended, Err(Fault::InputOrOutput))
+}
+
 /// How the program ends after a session over watched paths: if it broke off because they lead elsewhere, by its device, with the line of
 /// such an end.
+#[tactic(auto, using(crate::proofs::RequestLemmas::allows_line))]
 pub fn ended_over<H: Host>(
     host: &H,
     options: Options,
@@ -57,11 +65,11 @@ pub fn ended_over<H: Host>(
     requires watched { (H.asked host.now).watch (served_directory options) watch.now }
     requires may { Allows (H.may host.now) (IsOfStreams (H.asked host.now) options) }
     ensures run { IsRunEnd ended → IsRunEnd result }
+    ensures ends { EndsBy (H.asked host.now) options.entry watch.now ended result }
     ensures memory { IfErr ended (HasCause ⟦<Global as Grows>⟧.refuses)
         → IfErr result (HasCause ⟦<Global as Grows>⟧.refuses) }
-    ensures ends { EndsBy (H.asked host.now) options.entry watch.now ended result }
 {
-    let (Err(Fault::InputOrOutput), Some(_)) = (ended, served_directory(options)) else {
+    let (true, Some(_)) = (is_broken_off(ended), served_directory(options)) else {
         return ended;
     };
     let Err(error) = host.check(watch) else {

@@ -50,6 +50,7 @@ fn prepared<H: Host>(
 }
 
 // Records this executor beside its journal, if that is in files, with the time of its clock.
+#[tactic(auto, using(crate::proofs::RequestLemmas::names_directory))]
 fn leave_own_word<H: Host>(host: &H, options: Options, clock: &impl Clock)
     requires may { (directory : List ℕ) → directory_of options.journal ≡ Some directory
         → H.may host.now (LeaveWord directory) }
@@ -73,9 +74,9 @@ pub fn serve_agents<H: Host, D: Disk + ReportsError + Drop>(
     requires may { Allows (H.may host.now)
         (IsOfRun (IsFoundOn D.view disk) (H.asked host.now) options) }
     ensures ends { IsRunEnd result }
-    ensures memory { IfErr result (HasCause ⟦<Global as Grows>⟧.refuses) }
     ensures runs { RunsOn (H.asked host.now) H.Agents.view H.Source.gives H.Reader.remaining H.Writer.contents
         D.view options.entry log disk result }
+    ensures memory { IfErr result (HasCause ⟦<Global as Grows>⟧.refuses) }
 {
     let alloc = host.alloc();
     let Ok(reader) = host.reader() else {

@@ -4,7 +4,7 @@ use Rattle.ocf_types.specs.Kinds.{Reply, Request}
 use Rattle.ocf_types.specs.declared.refusal.Refusal.{Refusal}
 use Rattle.ocf_types.specs.declared.refusal.Refusal.TheVariants as refusal
 use Rattle.ocf_types.specs.declared.reply.ReplyOf.TheVariants.{Refused}
-use Rattle.disk_model.specs.View.{View}
+use Rattle.disk_model.specs.Disk.{DiskView}
 use Rattle.executor.specs.Commands.{Serves}
 use Rattle.executor.specs.ExecutorView.{ExecutorView}
 use Rattle.exec_commands.specs.declared.line.Line.{Line}
@@ -27,7 +27,7 @@ use Rattle.exec_session.specs.Steps.{Sends, Steps}
 use Rattle.exec_session.proofs.EventLemmas.{here_keeps}
 use Rattle.exec_session.proofs.StepLemmas.{step_after}
 
-module _ {D : Type 0} (view : D → View) (source : Source) (rules : Rules) where
+module _ {D : Type 0} (view : D → DiskView) (source : Source) (rules : Rules) where
   module _ (sends_so : Sending D) where
     -- the reply of an open executor
     pub open_answered : (found : Result Line Refusal) (reply : LineReply) (p noticed q : SessionView D) → p.executor.is_open ≡ true
@@ -98,7 +98,7 @@ module _ {D : Type 0} (view : D → View) (source : Source) (rules : Rules) wher
       breaks (inl reported) = inl (sent_so (SendsPart rules.form) reported)
       breaks (inr early) = inr (is_open, broke early)
 
-module _ {D : Type 0} (view : D → View) (rules : Rules) (ends_idle : Bool) (limit n start : ℕ) (p m q : SessionPosition D) where
+module _ {D : Type 0} (view : D → DiskView) (rules : Rules) (ends_idle : Bool) (limit n start : ℕ) (p m q : SessionPosition D) where
   abbrev Held : ℕ → Terms
   Held most = record { ends_idle = ends_idle; until = start + most; most = rules.most_turns }
 

@@ -1,7 +1,7 @@
 -- How a session ends, or breaks off.
 use Rattle.std.proofs.Common.{◌≡◌, [], ◌∷◌, Result, Ok, Err, IsErr, inl, inr, refl, subst}
 use Rattle.ocf_types.specs.declared.reply.TurnEnd.TheVariants.{Disk}
-use Rattle.disk_model.specs.View.{View}
+use Rattle.disk_model.specs.Disk.{DiskView}
 use Rattle.exec_commands.specs.declared.line.Line.TheVariants as line
 use Rattle.executor.specs.declared.report.Report.{Report}
 use Rattle.exec_faults.specs.declared.fault.Fault.{Fault}
@@ -15,12 +15,12 @@ use Rattle.exec_session.specs.Runs.{ReachesFault, ReachesLeave}
 use Rattle.exec_session.specs.SessionViews.{SessionPosition, SessionView, SendsAll, SendsPart, session_position}
 use Rattle.exec_session.specs.Steps.{Sends, Steps}
 
-pub ends_err : {D E : Type 0} (view : D → View) (source : Source) (rules : Rules) (p q : SessionPosition D) (r : Result Unit E) → IsErr r
+pub ends_err : {D E : Type 0} (view : D → DiskView) (source : Source) (rules : Rules) (p q : SessionPosition D) (r : Result Unit E) → IsErr r
     → BreaksOff view source rules p q.at → EndsOrBreaks view source rules p q r
 ends_err view source rules p q (Ok x) bad breaks = let none : ⊥ = cc in absurd none
 ends_err view source rules p q (Err e) bad breaks = breaks
 
-module _ {D : Type 0} (view : D → View) (source : Source) (rules : Rules) (p q : SessionPosition D) (m : SessionView D) where
+module _ {D : Type 0} (view : D → DiskView) (source : Source) (rules : Rules) (p q : SessionPosition D) (m : SessionView D) where
   -- the line that a disk fault ends the session was sent, or it broke off
   pub fault_sent : {E : Type 0} (w : SessionPosition D) (r : Result Unit E) → w.at ≡ m → ReachesFault view source rules p m
       → Sends rules.form (ended Disk ∷ []) w q r → EndsOrBreaks view source rules p q r
@@ -57,7 +57,7 @@ module _ {D : Type 0} (view : D → View) (source : Source) (rules : Rules) (p q
   }
 
 -- how a session ends, from where it began to where it is
-pub ends_from : {D N T : Type 0} (view : D → View) (source : Source) (rules : Rules) (report : Report N) (p p' q q' : SessionPosition D)
+pub ends_from : {D N T : Type 0} (view : D → DiskView) (source : Source) (rules : Rules) (report : Report N) (p p' q q' : SessionPosition D)
     (r : Result T Fault) → p ≡ p' → q ≡ q' → EndsAs view source rules report p q r → EndsAs view source rules report p' q' r
 ends_from view source rules report p p' q q' r same same' ends =
     subst (λ (w : SessionPosition _). EndsAs view source rules report w q' r) same

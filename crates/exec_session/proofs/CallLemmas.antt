@@ -8,7 +8,7 @@ use Rattle.ocf_types.specs.declared.refusal.Refusal.{Refusal}
 use Rattle.ocf_types.specs.declared.refusal.Refusal.TheVariants.{UnknownOp}
 use Rattle.ocf_types.specs.declared.reply.ReplyOf.TheVariants.{Refused}
 use Rattle.ocf_types.specs.declared.reply.TurnEnd.{TurnEnd}
-use Rattle.disk_model.specs.View.{View}
+use Rattle.disk_model.specs.Disk.{DiskView}
 use Rattle.executor.specs.ExecutorView.{ExecutorView}
 use Rattle.executor.specs.TurnCalls.{with_empty_book}
 use Rattle.exec_commands.specs.declared.ends.DrainEnd.{DrainEnd}
@@ -42,7 +42,7 @@ use Rattle.exec_session.proofs.SendLemmas.{Plain, cleared_room, closed_plain, is
 use Rattle.exec_session.proofs.SendLemmas.{together_hold, turn_after_room}
 
 -- a tidy by a call, or none, and no message
-room_holds : {D : Type 0} (view : D → View) (rules : Rules) (now : ℕ) (x y : ExecutorView D) → x.is_open ≡ true
+room_holds : {D : Type 0} (view : D → DiskView) (rules : Rules) (now : ℕ) (x y : ExecutorView D) → x.is_open ≡ true
     → MakesRoom view rules now x y → IsBacked view x y []
 room_holds view rules now x y is_open room = by (is_tidy_due rules x now room.pace) refl
   where
@@ -50,7 +50,7 @@ room_holds view rules now x y is_open room = by (is_tidy_due rules x now room.pa
     by true due = let made = room.made due in tidy_holds view x y made.0 is_open made.1
     by false none = none_holds view x y [] (room.none none) nothing
 
-module _ {D : Type 0} (view : D → View) where
+module _ {D : Type 0} (view : D → DiskView) where
   abbrev Goes : SessionView D → SessionView D → Type 0
   Goes p q = GoesByCalls view p q
 
@@ -103,7 +103,7 @@ module _ {D : Type 0} (view : D → View) where
 
   -- a pause
   pauses_go : (since now : ℕ) (client_view : Bool) (p q : SessionView D) → Pauses since now client_view p q → Goes p q
-  pauses_go since now client_view p q (micros, le, same) = unmoved p q (ap (λ (s : SessionView D). s.executor) same) (ap (λ (s : SessionView D). s.client_view) same)
+  pauses_go since now still_reads p q (micros, le, same) = unmoved p q (ap (λ (s : SessionView D). s.executor) same) (ap (λ (s : SessionView D). s.client_view) same)
 
   rests_same : (start now : ℕ) (p q : SessionView D) (after : ℕ) → Rests start now p q after → q.executor ≡ p.executor
   rests_same start now p q after (m, (micros, le, same), shown) =
@@ -279,7 +279,7 @@ module _ {D : Type 0} (view : D → View) where
     winds_go p _ (more_winding now m reported q winds one is_open paused) =
         both_go p m q (winds_go p m winds)
         (both_go m reported q
-        (sent_go m reported (noticed reported.executor) one.client_view.sends_all.receives.reported
-        (finish_sent view one.client_view.now m.executor (with_empty_book m.executor) reported.executor one.client_view.end refl one.is_open
-        one.client_view.takes))
+        (sent_go m reported (noticed reported.executor) one.finish.sends_all.receives.reported
+        (finish_sent view one.finish.now m.executor (with_empty_book m.executor) reported.executor one.finish.end refl one.is_open
+        one.finish.takes))
         (pauses_go 0 now true reported q paused))

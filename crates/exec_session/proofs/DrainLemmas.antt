@@ -3,7 +3,7 @@ use Rattle.std.proofs.Common.{◌≡◌, ◌≤◌, ◌+◌, ◌↔◌, ℕ, Boo
 use Rattle.ocf_types.specs.Boot.{any_busy}
 use Rattle.ocf_types.specs.declared.reply.TurnEnd.{TurnEnd}
 use Rattle.ocf_types.specs.declared.reply.TurnEnd.TheVariants as turn_end
-use Rattle.disk_model.specs.View.{View}
+use Rattle.disk_model.specs.Disk.{DiskView}
 use Rattle.executor.specs.ExecutorView.{ExecutorView}
 use Rattle.exec_commands.specs.declared.ends.DrainEnd.{DrainEnd}
 use Rattle.exec_trace.specs.Edges.{rest_events}
@@ -33,7 +33,7 @@ still_open t turns now end idle true closes e = refl
 still_open t turns now end idle false closes e = let is = sym (done t turns now end idle e) ∙ closes.0 refl in absurd cc
 
 -- a turn that closed the executor ended for the disk, in the tidy or in the turn itself
-pub closes : {D : Type 0} (view : D → View) (rules : Rules) (now : ℕ) (p q : SessionView D)
+pub closes : {D : Type 0} (view : D → DiskView) (rules : Rules) (now : ℕ) (p q : SessionView D)
     (end : TurnEnd)
     → MakesTurn view rules now p q end → (q.executor.is_open ≡ false) ↔ (end ≡ turn_end.Disk)
 closes {D} view rules now p q end made = by made.middle.is_open refl

@@ -6,7 +6,7 @@ use Rattle.std.specs.Prelude.{nat_lt, not, if◌then◌else◌}
 use Rattle.ocf_types.specs.Kinds.{Command}
 use Rattle.ocf_types.specs.declared.reply.TurnEnd.{TurnEnd}
 use Rattle.ocf_types.specs.declared.reply.TurnEnd.TheVariants.{Done}
-use Rattle.disk_model.specs.View.{View}
+use Rattle.disk_model.specs.Disk.{DiskView}
 use Rattle.executor.specs.ExecutorView.{ExecutorView}
 use Rattle.exec_trace.specs.declared.event.IoEvent.{IoEvent}
 use Rattle.exec_trace.specs.declared.event.IoEvent.TheVariants.{Polled, Rested}
@@ -156,7 +156,7 @@ pub lasts_looked : {D : Type 0} (p q : SessionPosition D) → PollsOnce p q → 
 lasts_looked p q (inl same) = lasts_same p.at q.at (ap (λ (w : SessionPosition _). w.at) same)
 lasts_looked p q (inr (ready, same)) = lasts_noted p q (Polled 0 ready) same
 
-module _ {D : Type 0} (view : D → View) (source : Source) (rules : Rules) (p : SessionPosition D) (own : OwnTurn) where
+module _ {D : Type 0} (view : D → DiskView) (source : Source) (rules : Rules) (p : SessionPosition D) (own : OwnTurn) where
   abbrev At : ℕ → Lines → SessionPosition D → Type 0
   At n lines q = Reaches view source rules p own n lines q
 
@@ -398,7 +398,7 @@ quiet_later own book now quiet since le (inl began) = inl began
 quiet_later own book now quiet since le (inr (runs, later)) = inr (runs, omega (arith, le, later))
 
 -- a round that ends the session, whose last step kept this
-pub round_over : {D E : Type 0} (view : D → View) (source : Source) (rules : Rules) (s t : Stage D) (step : Taken) → step ≢ taken.More
+pub round_over : {D E : Type 0} (view : D → DiskView) (source : Source) (rules : Rules) (s t : Stage D) (step : Taken) → step ≢ taken.More
     → Lasts s.at.point.at t.at.point.at
     → ((p : SessionPosition D) → HasComeRound view source rules p s.quiet s.end s.at
     → GoesRound {E = E} view source rules p t.quiet t.end t.at (Ok step)) → Rounds {E = E} view source rules s t (Ok step)
@@ -406,7 +406,7 @@ round_over view source rules s t step ends lasts goes =
     record { lasts = lasts; longer = λ is. absurd (ends is); begins = λ is. absurd (ends is); goes = goes }
 
 -- a round that breaks off
-pub round_fails : {D E : Type 0} (view : D → View) (source : Source) (rules : Rules) (s t : Stage D) (r : Result Taken E) → IsErr r
+pub round_fails : {D E : Type 0} (view : D → DiskView) (source : Source) (rules : Rules) (s t : Stage D) (r : Result Taken E) → IsErr r
     → Lasts s.at.point.at t.at.point.at
     → ((p : SessionPosition D) → HasComeRound view source rules p s.quiet s.end s.at → BreaksOff view source rules p t.at.point.at)
     → Rounds view source rules s t r
@@ -420,19 +420,19 @@ pub leaves_ends : taken.Leaves ≢ taken.More
 leaves_ends is = cc
 
 -- a round that breaks off
-pub round_err : {D E : Type 0} (view : D → View) (source : Source) (rules : Rules) (p : SessionPosition D) (quiet : ℕ) (end : TurnEnd) (s : Midway D)
+pub round_err : {D E : Type 0} (view : D → DiskView) (source : Source) (rules : Rules) (p : SessionPosition D) (quiet : ℕ) (end : TurnEnd) (s : Midway D)
     (r : Result Taken E) → IsErr r → BreaksOff view source rules p s.point.at → GoesRound view source rules p quiet end s r
 round_err view source rules p quiet end s (Ok x) bad breaks = let none : ⊥ = cc in absurd none
 round_err view source rules p quiet end s (Err e) bad breaks = breaks
 
 -- a round in `serve` begins after a turn
-pub round_begins : {D : Type 0} (view : D → View) (source : Source) (rules : Rules) (p : SessionPosition D) (quiet : ℕ) (end : TurnEnd)
+pub round_begins : {D : Type 0} (view : D → DiskView) (source : Source) (rules : Rules) (p : SessionPosition D) (quiet : ℕ) (end : TurnEnd)
     (s : Midway D) → rules.mode ≡ Serve → (come : HasComeRound view source rules p quiet end s) → HasCome view source rules p come.own 0 s
 round_begins view source rules p quiet end s mode come =
     subst (λ (n : ℕ). HasCome view source rules p come.own n s) (zero_round rules.mode mode come.most come.round) come.come
 
 -- the next round begins after a turn that ended like this
-pub round_again : {D : Type 0} (view : D → View) (source : Source) (rules : Rules) (p : SessionPosition D) (now quiet : ℕ) (end : TurnEnd)
+pub round_again : {D : Type 0} (view : D → DiskView) (source : Source) (rules : Rules) (p : SessionPosition D) (now quiet : ℕ) (end : TurnEnd)
     (q : SessionView D) (s : Midway D) → Lasts q s.point.at → HasCome view source rules p (turned now quiet end (held_lines s.held) q) 0 s
     → HasComeRound view source rules p quiet end s
 round_again view source rules p now quiet end q s lasts come = record {
@@ -450,7 +450,7 @@ round_again view source rules p now quiet end q s lasts come = record {
 }
 
 -- nothing is done yet
-pub first_round : {D : Type 0} (view : D → View) (source : Source) (rules : Rules) (p : SessionPosition D) (pending : Pending) (quiet : ℕ)
+pub first_round : {D : Type 0} (view : D → DiskView) (source : Source) (rules : Rules) (p : SessionPosition D) (pending : Pending) (quiet : ℕ)
     (end : TurnEnd) → IsClear pending → end ≡ Done → p.at.executor.is_open ≡ true
     → MayBegin rules.mode (midway p pending) × HasComeRound view source rules p quiet end (midway p pending)
 first_round view source rules p pending quiet end clear none is_open = (

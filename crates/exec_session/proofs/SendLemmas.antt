@@ -10,7 +10,7 @@ use Rattle.ocf_types.specs.declared.refusal.Refusal.TheVariants.{Disk}
 use Rattle.ocf_types.specs.declared.reply.Notice.{Notice}
 use Rattle.ocf_types.specs.declared.reply.ReplyOf.TheVariants.{Refused}
 use Rattle.ocf_types.specs.declared.reply.TurnEnd.{TurnEnd}
-use Rattle.disk_model.specs.View.{View}
+use Rattle.disk_model.specs.Disk.{DiskView}
 use Rattle.executor.specs.Commands.{Serves, ServesOpen, ServesWhile}
 use Rattle.executor.specs.CommandBatches.{TakesCommands}
 use Rattle.executor.specs.ExecutorView.{ExecutorView}
@@ -62,7 +62,7 @@ pub status_plain : {D : Type 0} (x : ExecutorView D) (given : LineReply) → x.i
 status_plain x given is_open (inl (statuses, is, same)) = is_plain x given (answer.Status statuses) is (refl, (is_open, same))
 status_plain x given is_open (inr (is, refuses)) = is_plain x given _ is (refl, tt)
 
-module _ {D : Type 0} (view : D → View) where
+module _ {D : Type 0} (view : D → DiskView) where
   -- one more message, which acknowledges no command and reports no result
   pub one_more : (x y : ExecutorView D) (s : SentItem) → claims s ≡ false → IsBacked view x y [] → IsBacked view x y (s ∷ [])
   one_more x y s none holds = both_hold view x y y [] (s ∷ []) holds (none_holds view y y (s ∷ []) refl (states_nothing s none))

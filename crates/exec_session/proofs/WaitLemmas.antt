@@ -7,7 +7,7 @@ use Rattle.std.proofs.KnownBytes.{Consumes-nil}
 use Rattle.ocf_types.specs.Kinds.{Command}
 use Rattle.ocf_types.specs.Limits.{num_max}
 use Rattle.ocf_types.specs.declared.reply.TurnEnd.TheVariants.{Done}
-use Rattle.disk_model.specs.View.{View}
+use Rattle.disk_model.specs.Disk.{DiskView}
 use Rattle.executor.specs.ExecutorView.{ExecutorView}
 use Rattle.exec_lines.specs.Buffer.{line_bytes}
 use Rattle.exec_lines.specs.Pieces.{IsMidLine}
@@ -105,7 +105,7 @@ open_while mode s may some = by s.point.at.executor.is_open refl
     by false closed = absurd (some (may.while_open closed))
 
 -- an error of a step is that of a session that broke off
-pub comes_err : {D E : Type 0} (view : D → View) (source : Source) (rules : Rules) (p : SessionPosition D) (own : OwnTurn) (most : ℕ) (s : Midway D)
+pub comes_err : {D E : Type 0} (view : D → DiskView) (source : Source) (rules : Rules) (p : SessionPosition D) (own : OwnTurn) (most : ℕ) (s : Midway D)
     (r : Result Taken E) → IsErr r → BreaksOff view source rules p s.point.at → Comes view source rules p own most s r
 comes_err view source rules p own most s (Ok x) bad breaks = let none : ⊥ = cc in absurd none
 comes_err view source rules p own most s (Err e) bad breaks = breaks
@@ -130,7 +130,7 @@ begins_free : (held : Option Held) (left now : Option (List ℕ)) (kept : List �
 begins_free held left now kept free same none =
     subst (λ (h : Option Held). IsReadTo h left kept now) (sym free) (begins left now kept same none)
 
-module _ {D : Type 0} (view : D → View) (source : Source) (rules : Rules) (p : SessionPosition D) (own : OwnTurn) where
+module _ {D : Type 0} (view : D → DiskView) (source : Source) (rules : Rules) (p : SessionPosition D) (own : OwnTurn) where
   abbrev At : ℕ → Lines → SessionPosition D → Type 0
   At n lines q = Reaches view source rules p own n lines q
 
@@ -546,7 +546,7 @@ module _ {D : Type 0} (view : D → View) (source : Source) (rules : Rules) (p :
       by found.End it none = absurd none
 
 -- nothing is done yet
-pub first_come : {D : Type 0} (view : D → View) (source : Source) (rules : Rules) (p : SessionPosition D) (pending : Pending) → IsClear pending
+pub first_come : {D : Type 0} (view : D → DiskView) (source : Source) (rules : Rules) (p : SessionPosition D) (pending : Pending) → IsClear pending
     → MayGoOn rules.mode p.at.executor → HasCome view source rules p (turned 0 0 Done [] p.at) 0 (midway p pending)
 first_come view source rules p pending clear goes_on = record {
   count = 0;

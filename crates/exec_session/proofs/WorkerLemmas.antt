@@ -3,7 +3,7 @@ use Rattle.std.proofs.Common.{◌≡◌, ℕ, Bool, true, false, List, [], ◌�
 use Rattle.ocf_types.specs.Kinds.{Command, Reply}
 use Rattle.ocf_types.specs.declared.reply.TurnEnd.{TurnEnd}
 use Rattle.ocf_types.specs.declared.reply.TurnEnd.TheVariants.{Disk}
-use Rattle.disk_model.specs.View.{View}
+use Rattle.disk_model.specs.Disk.{DiskView}
 use Rattle.executor.specs.ExecutorView.{ExecutorView}
 use Rattle.executor.specs.TurnCalls.{FinishesTurn, TakesTurn, with_empty_book}
 use Rattle.exec_client.specs.MaySend.{AllBacked}
@@ -24,11 +24,11 @@ use Rattle.exec_session.specs.Broken.{BatchBreaks}
 module _ {D : Type 0} where
   -- a fact about a worker's view, by its fields
   pub parts : (P : SessionPosition D → Type 0) (x : ExecutorView D) (e : EdgeView D) (p : SessionPosition D) → at_of x e ≡ p → P p → P (at_of x e)
-  parts P x e p is lemma_known = subst P (sym is) lemma_known
+  parts P x e p is known = subst P (sym is) known
 
   -- the other way
   pub whole : (P : SessionPosition D → Type 0) (x : ExecutorView D) (e : EdgeView D) (p : SessionPosition D) → at_of x e ≡ p → P (at_of x e) → P p
-  whole P x e p is lemma_known = subst P is lemma_known
+  whole P x e p is known = subst P is known
 
   -- the executor is still open after one more event
   pub open_noted : (x : ExecutorView D) (e : EdgeView D) (p m : SessionPosition D) (event : IoEvent) → at_of x e ≡ m → m ≡ noted p event
@@ -46,12 +46,12 @@ module _ {D : Type 0} where
         ap (λ (f : EdgeView D). (at_of x f).at) (asks ∙ ap (λ (f : EdgeView D). noting f (Asked client_view)) rests),
       )
 
-  module _ (view : D → View) where
+  module _ (view : D → DiskView) where
     -- all that was sent is recorded, with the messages since
     pub holds_part : (x : ExecutorView D) (e : EdgeView D) (p : SessionPosition D) → at_of x e ≡ p → AllBacked view e.client_view x → AllBacked view p.at.client_view p.at.executor
     holds_part x e p is holds = whole (λ (P : SessionPosition D). AllBacked view P.at.client_view P.at.executor) x e p is holds
 
-  module _ (sends_so : Sending D) (view : D → View) where
+  module _ (sends_so : Sending D) (view : D → DiskView) where
     pub turn_heard : (rules : Rules) (now : ℕ) (x c m y : ExecutorView D) (e : EdgeView D) (p : SessionPosition D) (q : SessionView D) (end : TurnEnd)
         → at_of x e ≡ p → last_shown p.at.events ≡ Some now → c ≡ with_empty_book x → MakesRoom view rules now c m → m.is_open ≡ true
         → q.executor ≡ y → TakesTurn view now m y end → sends_so (session_view y e.client_view e.events) q (noticed y)
@@ -115,7 +115,7 @@ module _ {D : Type 0} where
               (subst (λ (z : ExecutorView D). sends_so (session_view z e.client_view e.events) q (map answered given)) (sym same) sends_all);
         }
 
-module _ {D : Type 0} (view : D → View) (rules : Rules) where
+module _ {D : Type 0} (view : D → DiskView) (rules : Rules) where
   -- there was a command that waited
   pub all_answered : {T E : Type 0} (r : Result T E) (commands : List Command) (p q : SessionView D) → (commands ≡ [] → ⊥)
       → OnOk r (TogetherReceived (SendsAll rules.form) view rules commands p q) → OnOk r (AnswersAll view rules commands p q)

@@ -8,7 +8,7 @@ use Rattle.ocf_types.specs.declared.reply.ReplyOf.TheVariants.{Refused}
 use Rattle.ocf_types.specs.declared.reply.TidyEnd.{TidyEnd}
 use Rattle.ocf_types.specs.declared.reply.TidyEnd.TheVariants as tidy_end
 use Rattle.ocf_types.specs.declared.reply.TurnEnd.TheVariants as turn_end
-use Rattle.disk_model.specs.View.{View}
+use Rattle.disk_model.specs.Disk.{DiskView}
 use Rattle.executor.specs.Commands.{Serves}
 use Rattle.executor.specs.ExecutorView.{ExecutorView}
 use Rattle.executor.specs.TidyCalls.{Tidies}
@@ -83,14 +83,14 @@ IsClosedReply source (Ok (line.Direct direct)) reply = reply ≡ refused refusal
 IsClosedReply source (Err why) reply = reply ≡ refused refusal.Closed
 
 -- a drain from the next clock reading on, for at most this many milliseconds and turns
-abbrev pub DrainsFor : {D : Type 0} → (D → View) → Bool → ℕ → Rules → SessionView D
+abbrev pub DrainsFor : {D : Type 0} → (D → DiskView) → Bool → ℕ → Rules → SessionView D
     → SessionView D → LineReply → Type 0
 DrainsFor view ends_idle limit rules p q reply =
     (now : ℕ) × (end : DrainEnd) × (reply ≡ answer.Drain end)
     × Drains view rules (record { ends_idle = ends_idle; until = now + limit; most = rules.most_turns }) now (following p (Shown now)) q end
 
 -- A drain, and then a reply that says how it ended, which is sent like this.
-pub record DrainSent {D : Type 0} (sends_so : Sending D) (view : D → View) (ends_idle : Bool) (limit : ℕ) (rules : Rules)
+pub record DrainSent {D : Type 0} (sends_so : Sending D) (view : D → DiskView) (ends_idle : Bool) (limit : ℕ) (rules : Rules)
     (p q : SessionView D) : Type 0 where
   pub reply : LineReply
   pub noticed : SessionView D
@@ -99,7 +99,7 @@ pub record DrainSent {D : Type 0} (sends_so : Sending D) (view : D → View) (en
 
 -- An open executor serves a request: the clock is read, a due tidy is made, and then the request is served. If a disk fault closed the
 -- executor in the tidy, the request is refused for that and nothing else is done.
-pub record ServesNow {D : Type 0} (view : D → View) (rules : Rules) (request : Request)
+pub record ServesNow {D : Type 0} (view : D → DiskView) (rules : Rules) (request : Request)
     (p q : SessionView D) (reply : LineReply) : Type 0 where
   pub now : ℕ
   pub middle : ExecutorView D
@@ -112,12 +112,12 @@ pub record ServesNow {D : Type 0} (view : D → View) (rules : Rules) (request :
   pub closes : q.executor.is_open ≡ false ↔ (given ≡ Refused refusal.Disk)
 
 -- how a tidy ended that was asked for
-abbrev pub TidiesNow : {D : Type 0} → (D → View) → SessionView D → SessionView D → LineReply → Type 0
+abbrev pub TidiesNow : {D : Type 0} → (D → DiskView) → SessionView D → SessionView D → LineReply → Type 0
 TidiesNow view p q reply =
     (end : TidyEnd) × (reply ≡ answer.Tidy end) × Tidies view p.executor q.executor end × (q ≡ moved p q.executor)
 
 -- the reply of an open executor to a line: from the spot at which the line is taken to that at which the reply is sent
-abbrev pub IsOpenReply : {D : Type 0} → (D → View) → Source → Rules → SessionView D
+abbrev pub IsOpenReply : {D : Type 0} → (D → DiskView) → Source → Rules → SessionView D
     → SessionView D → Result Line Refusal → LineReply → Type 0
 IsOpenReply view source rules p q (Ok (line.Request request)) reply = ServesNow view rules request p q reply
 IsOpenReply view source rules p q (Ok (line.Drain limit)) reply = DrainsFor view true limit rules p q reply
@@ -132,7 +132,7 @@ IsOpenReply view source rules p q (Ok (line.Direct direct)) reply = (reply ≡ a
 IsOpenReply view source rules p q (Err why) reply = (reply ≡ refused why) × (q ≡ p)
 
 -- the reply of an executor, open or closed
-pub record IsReply {D : Type 0} (view : D → View) (source : Source) (rules : Rules)
+pub record IsReply {D : Type 0} (view : D → DiskView) (source : Source) (rules : Rules)
     (p q : SessionView D) (found : Result Line Refusal) (reply : LineReply) : Type 0 where
   pub while_open : p.executor.is_open ≡ true → IsOpenReply view source rules p q found reply
   pub once_closed : p.executor.is_open ≡ false → IsClosedReply source found reply × (q ≡ p)

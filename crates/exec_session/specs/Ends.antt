@@ -1,6 +1,6 @@
 -- How a whole session ends.
 use Rattle.std.specs.Prelude.{◌≡◌, true, false, Result, Ok, Err}
-use Rattle.disk_model.specs.View.{View}
+use Rattle.disk_model.specs.Disk.{DiskView}
 use Rattle.child_model.specs.Children.{ChildrenView, given_up}
 use Rattle.executor.specs.ExecutorView.{ExecutorView}
 use Rattle.executor.specs.declared.report.Report.{Report}
@@ -18,7 +18,7 @@ use Rattle.exec_session.specs.SessionViews.{SessionPosition, SessionView, sessio
 
 -- The report is sent first, and in `serve` the line that the session is ready; then all lines are answered, or in `serve` a disk fault
 -- ends the session.
-pub record Runs {D N : Type 0} (view : D → View) (source : Source) (rules : Rules) (report : Report N)
+pub record Runs {D N : Type 0} (view : D → DiskView) (source : Source) (rules : Rules) (report : Report N)
     (p q : SessionPosition D) : Type 0 where
   pub opening_report : SessionView D
   pub report_first : SendsReport rules.form report p.at opening_report
@@ -27,7 +27,7 @@ pub record Runs {D N : Type 0} (view : D → View) (source : Source) (rules : Ru
   pub lines : Finishes view source rules (record p { at = begun }) q
 
 -- how a session from one position to another ends
-abbrev pub EndsAs : {D N T : Type 0} → (D → View) → Source → Rules → Report N → SessionPosition D
+abbrev pub EndsAs : {D N T : Type 0} → (D → DiskView) → Source → Rules → Report N → SessionPosition D
     → SessionPosition D → Result T Fault → Type 0
 EndsAs view source rules report p q (Ok done) = Runs view source rules report p q × (q.at.executor.is_open ≡ true)
 EndsAs view source rules report p q (Err Disk) =
@@ -38,7 +38,7 @@ EndsAs view source rules report p q (Err _) = ⊥
 
 -- A session that begins at this position ended, and its edge shows this. At its end all agent processes are given up, and the agents and
 -- the disk are given back.
-pub record Ended {D C N : Type 0} (view : D → View) (tend : C → ChildrenView) (source : Source) (rules : Rules) (report : Report N)
+pub record Ended {D C N : Type 0} (view : D → DiskView) (tend : C → ChildrenView) (source : Source) (rules : Rules) (report : Report N)
     (p : SessionPosition D) (edge : EdgeView D) (ended : Result Unit Fault) (disk : D) (children : C) : Type 0 where
   pub last : ExecutorView D
   pub ends : EndsAs view source rules report p (session_position (session_view last edge.client_view edge.events) edge.left) ended
@@ -47,7 +47,7 @@ pub record Ended {D C N : Type 0} (view : D → View) (tend : C → ChildrenView
 
 -- However a session ends, its executor went on by calls alone since it was opened, and is closed; and all that its client was sent is
 -- backed by what they recorded. This disk and these agents are those that it gave back.
-pub record ClosesByCalls {D : Type 0} (view : D → View) (opened : ExecutorView D) (client_view : ClientView D) (disk : D) (children : ChildrenView) : Type 0 where
+pub record ClosesByCalls {D : Type 0} (view : D → DiskView) (opened : ExecutorView D) (client_view : ClientView D) (disk : D) (children : ChildrenView) : Type 0 where
   pub last : ExecutorView D
   pub holds : IsBacked view opened last client_view.reported
   pub is_closed : last.is_open ≡ false

@@ -21,14 +21,15 @@ still_runs _ = false
 abbrev pub is_quiet : List Entry → Bool
 is_quiet book = list_all (λ e. still_runs e.answer) book
 
--- After a turn at this time, with this book, nothing has ended or begun since the last of these times, if nothing had since the one
--- before it.
+-- After a turn at `now` with this book, no action has ended or begun since `since`, provided that before the turn none had
+-- since `before`. All times are in milliseconds.
 abbrev pub IsQuietSince : List Entry → ℕ → ℕ → ℕ → Type 0
 IsQuietSince book now before since = (now ≤ since) ⊎ ((is_quiet book ≡ true) × (before ≤ since))
 
--- A pause of this many microseconds, after a turn at the second time, where nothing has ended or begun since the first: a millisecond at
--- most; or a hundredth of the time between them, and 50 milliseconds at most. An action that runs then began at the first time or before,
--- so its end is seen late by at most a hundredth of its duration.
+-- A pause of `micros` microseconds, after a turn at `now`, where no action has ended or begun since `since` (both in
+-- milliseconds): a millisecond at most; or a hundredth of the time between them, and 50 milliseconds at most. An action that
+-- runs during the pause began at `since` or before, so its end is seen late by at most a hundredth of its duration or a
+-- millisecond, whichever is more.
 abbrev pub IsShort : ℕ → ℕ → ℕ → Type 0
 IsShort since now micros = (micros ≤ short_pause) ⊎ ((micros ≤ longest_pause) × (micros ≤ 10 * (now - since)))
 
@@ -40,6 +41,6 @@ pub record IsUntilDue {D : Type 0} (x : ExecutorView D) (events : List IoEvent) 
   pub brief : micros ≤ 1000 * longest_wait
   pub before : All (λ p. 1000 * moment + micros ≤ 1000 * p.0) (all_pairs x.monitors)
 
--- A wait may be this long after a turn at this time, where nothing has ended or begun since the first.
+-- A wait may take `micros` microseconds after a turn at `now`, where no action has ended or begun since `since`.
 abbrev pub MayPause : {D : Type 0} → ℕ → ℕ → ExecutorView D → List IoEvent → ℕ → Type 0
 MayPause since now x events micros = IsShort since now micros ⊎ IsUntilDue x events micros

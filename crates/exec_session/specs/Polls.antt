@@ -11,17 +11,17 @@ abbrev pub Lines : Type 0
 Lines = List (Result Line Refusal)
 
 -- a poll that found input
-abbrev pub states_there : IoEvent → Bool
-states_there (Polled millis ready) = ready
-states_there (Peeked has_line) = has_line
-states_there _ = false
+abbrev pub found_input : IoEvent → Bool
+found_input (Polled millis ready) = ready
+found_input (Peeked has_line) = has_line
+found_input _ = false
 
 -- the last event is a poll that found input: a read after it need not wait
 pub record IsThere (events : List IoEvent) : Type 0 where
   pub before : List IoEvent
   pub last : IoEvent
   pub is_last : events ≡ before ++ last ∷ []
-  pub there : states_there last ≡ true
+  pub there : found_input last ≡ true
 
 -- With these lines unanswered a read may be made: there are none, or input is there.
 abbrev pub MayRead : Lines → List IoEvent → Type 0

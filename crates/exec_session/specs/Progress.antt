@@ -3,7 +3,7 @@ use Rattle.std.specs.Prelude.{◌≡◌, ◌≢◌, ◌⊎◌, ℕ, ◌<◌, ⊤
 use Rattle.std.specs.Io.KnownBytes.{IsAtEnd}
 use Rattle.ocf_types.specs.declared.refusal.Refusal.{Refusal}
 use Rattle.ocf_types.specs.declared.refusal.Refusal.TheVariants.{Memory}
-use Rattle.disk_model.specs.View.{View}
+use Rattle.disk_model.specs.Disk.{DiskView}
 use Rattle.exec_lines.specs.Lines.{first_line, after_first_line}
 use Rattle.exec_commands.specs.Tags.{IsTaggedAs}
 use Rattle.exec_commands.specs.declared.line.Line.{Line}
@@ -22,7 +22,8 @@ abbrev pub PassesLine : Option (List ℕ) → Option (List ℕ) → Type 0
 PassesLine None new = ⊤
 PassesLine (Some xs) new = (0 < length xs) × (first_line xs ≡ []) × (new ≡ Some (after_first_line xs))
 
--- where it is known what a reader has left: the next line is read as this in this mode, and what comes after it is left
+-- if it is known what a reader has left: in this mode its next line is read as `found`, which may be a refusal, and the reader
+-- then has left what comes after that line
 abbrev pub ReadsLine : Mode → Option (List ℕ) → Option (List ℕ) → Result Line Refusal → Type 0
 ReadsLine mode None new found = ⊤
 ReadsLine mode (Some xs) new found = (first_line xs ≢ []) × (new ≡ Some (after_first_line xs)) × IsReadAs mode (first_line xs) found
@@ -45,7 +46,7 @@ ReadsInput mode old new found.Empty = PassesLine old new
 ReadsInput mode old new (found.Line line) = ReadsLine mode old new line
 
 -- A line that was read is answered: the client is sent the notices of a drain, and then only the reply, which is sent like this.
-pub record AnswersSo {D : Type 0} (sends_so : Sending D) (view : D → View) (source : Source) (rules : Rules)
+pub record AnswersSo {D : Type 0} (sends_so : Sending D) (view : D → DiskView) (source : Source) (rules : Rules)
     (found : Result Line Refusal) (p q : SessionView D) : Type 0 where
   pub reply : LineReply
   pub noticed : SessionView D
@@ -53,5 +54,5 @@ pub record AnswersSo {D : Type 0} (sends_so : Sending D) (view : D → View) (so
   pub sends_all : sends_so noticed q (Answered reply ∷ [])
 
 -- the client receives all of it
-abbrev pub Answers : {D : Type 0} → (D → View) → Source → Rules → Result Line Refusal → SessionView D → SessionView D → Type 0
+abbrev pub Answers : {D : Type 0} → (D → DiskView) → Source → Rules → Result Line Refusal → SessionView D → SessionView D → Type 0
 Answers view source rules found p q = AnswersSo (SendsAll rules.form) view source rules found p q

@@ -4,7 +4,7 @@ use Rattle.std.specs.List.{list_any}
 use Rattle.ocf_types.specs.Boot.{any_busy}
 use Rattle.ocf_types.specs.Limits.{event_limit, part_limit, reserve}
 use Rattle.ocf_types.specs.declared.reply.TidyEnd.{TidyEnd}
-use Rattle.disk_model.specs.View.{View}
+use Rattle.disk_model.specs.Disk.{DiskView}
 use Rattle.exec_journal.specs.Tidying.{tidied_tail}
 use Rattle.exec_state.specs.Store.{all_pairs}
 use Rattle.executor.specs.ExecutorView.{ExecutorView}
@@ -61,7 +61,7 @@ is_tidy_due rules x now pace =
 
 -- If a tidy is due at this time, one is made, and else nothing is done. The time of a piece, at least a millisecond, was measured in the
 -- last tidy, or is a guess.
-pub record MakesRoom {D : Type 0} (view : D → View) (rules : Rules) (now : ℕ) (old new : ExecutorView D) : Type 0 where
+pub record MakesRoom {D : Type 0} (view : D → DiskView) (rules : Rules) (now : ℕ) (old new : ExecutorView D) : Type 0 where
   pub pace : ℕ
   pub some_time : 1 ≤ pace
   pub made : is_tidy_due rules old now pace ≡ true → (end : TidyEnd) × Tidies view old new end

@@ -1,7 +1,7 @@
 -- Whole sessions.
 use Rattle.std.specs.Prelude.{◌≡◌, ◌≢◌, ◌⊎◌, ℕ, ◌+◌, ◌*◌, ◌<◌, ⊤, List, [], ◌∷◌, ◌++◌, length, map, true, false, Option, Result, Ok}
 use Rattle.std.specs.Io.KnownBytes.{IsAtEnd}
-use Rattle.disk_model.specs.View.{View}
+use Rattle.disk_model.specs.Disk.{DiskView}
 use Rattle.executor.specs.ExecutorView.{ExecutorView}
 use Rattle.ocf_types.specs.Kinds.{Command}
 use Rattle.ocf_types.specs.declared.command.RequestOf.TheVariants as asked
@@ -48,8 +48,8 @@ abbrev pub MayGoOn : {D : Type 0} → Mode → ExecutorView D → Type 0
 MayGoOn Run x = ⊤
 MayGoOn Serve x = x.is_open ≡ true
 
--- The end of an own turn is news after the own turn before, which counts as Done where there was none: it differs from that one's, and is
--- not Done. A disk fault is sent as the session ends.
+-- The end of an own turn is news, after the end of the own turn before it (`Done` for the first one): they differ, and the new
+-- one is neither `Done` nor `Disk`. A disk fault is sent when the session ends, and not as news.
 abbrev pub IsNews : TurnEnd → TurnEnd → Type 0
 IsNews before end = (end ≢ before) × (end ≢ Done) × (end ≢ Disk)
 
@@ -60,7 +60,7 @@ pub data NewsSo {D : Type 0} (sends_so : Sending D) (before end : TurnEnd) (p q 
 
 -- A turn that a session makes by itself after one that ended like this, at this time, the clock reading at its beginning: the client
 -- receives its notices, and its end if that is news.
-pub record MakesOwnTurn {D : Type 0} (view : D → View) (rules : Rules) (before : TurnEnd) (now : ℕ) (p q : SessionView D) (end : TurnEnd)
+pub record MakesOwnTurn {D : Type 0} (view : D → DiskView) (rules : Rules) (before : TurnEnd) (now : ℕ) (p q : SessionView D) (end : TurnEnd)
     : Type 0 where
   pub noticed : SessionView D
   pub made : MakesTurn view rules now (following p (Shown now)) noticed end
@@ -74,22 +74,23 @@ of_command command = Ok (line.Request (asked.Command command))
 abbrev pub read_to : {D : Type 0} → SessionPosition D → Option (List ℕ) → SessionPosition D
 read_to p left = session_position (following p.at (Read true)) left
 
--- A question that a session asks, after these events and with these lines unanswered, on the way to its next line: in `serve` a poll
--- without a wait; after a read, whether a further line is there; and a read, of a part of a line or of none.
+-- A question that a session asks, after these events and with these lines unanswered, before it has its next line: in `serve` a
+-- poll of the input that does not wait; right after a read, whether what was read holds a further line; or a read that
+-- completes no line.
 abbrev pub IsLook : Mode → Lines → List IoEvent → IoEvent → Type 0
 IsLook mode lines events (Polled millis ready) = MakesTurns mode × (millis ≡ 0)
 IsLook mode lines events (Peeked has_line) = FollowsRead events
 IsLook mode lines events (Read done) = (done ≡ true) × MayRead lines events
 IsLook mode lines events _ = ⊥
 
--- A question that a session asks while it waits after a turn at the second time, where nothing has ended or begun since the first: a poll
--- of the input, short or until the first monitor is due, and a second at most; a pause of that length; a clock reading; and whether
--- anybody still reads the output.
+-- A question that a session asks while it waits after a turn at `now`, where no action has ended or begun since `since`: a poll
+-- of the input, as long as a short pause or until the first monitor is due, and a second at most; a pause as long as that; a
+-- clock reading; or whether anybody still reads the output, with the answer that somebody does.
 abbrev pub IsWait : {D : Type 0} → ℕ → ℕ → SessionView D → IoEvent → Type 0
 IsWait since now p (Polled millis ready) = MayPause since now p.executor p.events (millis * 1000)
 IsWait since now p (Rested micros) = MayPause since now p.executor p.events micros
 IsWait since now p (Shown moment) = ⊤
-IsWait since now p (Asked client_view) = client_view ≡ true
+IsWait since now p (Asked still_reads) = still_reads ≡ true
 IsWait since now p _ = ⊥
 
 -- With these lines a session may wait, and may make a turn: each line that was read is answered, except one that asks an agent for
@@ -120,21 +121,22 @@ turned now since end lines p = record {
   misses = misses_in p.events;
 }
 
--- After this turn, with these lines unanswered, a session may make another one here: the mode is `serve`, its executor is open, each line
--- that was read is answered, except one that asks an agent for metadata, and it has polled for lines since, where none was unanswered in
--- either turn.
+-- After the own turn `own`, with these lines unanswered, a session may make another turn: the mode is `serve`, its executor is
+-- open, and each line that was read is answered, except one that asks an agent for metadata. It has also polled for lines since
+-- `own`, unless such a line was unanswered at that turn or is so now.
 pub record MayTurn {D : Type 0} (mode : Mode) (own : OwnTurn) (lines : Lines) (p : SessionView D) : Type 0 where
   pub serves : MakesTurns mode
   pub rests : MayRest lines
   pub is_open : p.executor.is_open ≡ true
   pub polled : HasPolled own.reads own.misses (own.lines ++ lines) p.events
 
--- A session has come from one position to another. It read line after line, in their order, without a gap, and has not answered these
--- yet. It answered the others in that order; commands that were read one after the other may be a group commit. In `serve` it made turns
--- between them, and polled for lines after each before the next one. No command waits for a line that is not there. Each clock reading of
--- an answer or a turn comes after the read of the last line before it. Only in `run` does a session go on once its executor is closed.
--- The turn is the last own one, and the number counts the lines that were answered or passed over since then.
-pub data Reaches {D : Type 0} (view : D → View) (source : Source) (rules : Rules) (p : SessionPosition D)
+-- A session has come from position `p` to another one; the arguments after `p` are its last own turn, the number of lines that
+-- were answered or passed over (as empty) since that turn, the lines that were read and are not answered, and where it is. It
+-- read line after line, in their order, without a gap. It answered all others in that order; commands that were read one after
+-- the other may be a group commit. In `serve` it made turns between lines, and polled for lines after each turn before it made
+-- the next one. No command waits for a line that is not there. Each clock reading of an answer or a turn comes after the read
+-- of the last line before it. Only in `run` does a session go on once its executor is closed.
+pub data Reaches {D : Type 0} (view : D → DiskView) (source : Source) (rules : Rules) (p : SessionPosition D)
     : OwnTurn → ℕ → Lines → SessionPosition D → Type 0 where
   here : Reaches view source rules p (turned 0 0 Done [] p.at) 0 [] p
   looks : (own : OwnTurn) (n : ℕ) (lines : Lines) (m : SessionPosition D) (event : IoEvent) → Reaches view source rules p own n lines m
@@ -161,7 +163,7 @@ pub data Reaches {D : Type 0} (view : D → View) (source : Source) (rules : Rul
       → Reaches view source rules p (turned now since end lines q) 0 lines (session_position q m.left)
 
 -- the same up to the end of the input
-pub record ReachesEnd {D : Type 0} (view : D → View) (source : Source) (rules : Rules) (p : SessionPosition D) (q : SessionView D) : Type 0 where
+pub record ReachesEnd {D : Type 0} (view : D → DiskView) (source : Source) (rules : Rules) (p : SessionPosition D) (q : SessionView D) : Type 0 where
   pub own : OwnTurn
   pub count : ℕ
   pub left : Option (List ℕ)
@@ -170,7 +172,7 @@ pub record ReachesEnd {D : Type 0} (view : D → View) (source : Source) (rules 
   pub goes_on : MayGoOn rules.mode q.executor
 
 -- the same up to a disk fault that has closed the executor, in `serve`
-pub record ReachesFault {D : Type 0} (view : D → View) (source : Source) (rules : Rules) (p : SessionPosition D) (q : SessionView D) : Type 0 where
+pub record ReachesFault {D : Type 0} (view : D → DiskView) (source : Source) (rules : Rules) (p : SessionPosition D) (q : SessionView D) : Type 0 where
   pub serves : MakesTurns rules.mode
   pub own : OwnTurn
   pub count : ℕ
@@ -180,7 +182,7 @@ pub record ReachesFault {D : Type 0} (view : D → View) (source : Source) (rule
   pub is_closed : q.executor.is_open ≡ false
 
 -- the same up to a line that asks for the end of the session, in `serve`, and is not answered yet
-pub record ReachesLeave {D : Type 0} (view : D → View) (source : Source) (rules : Rules) (p : SessionPosition D) (q : SessionView D) : Type 0 where
+pub record ReachesLeave {D : Type 0} (view : D → DiskView) (source : Source) (rules : Rules) (p : SessionPosition D) (q : SessionView D) : Type 0 where
   pub serves : MakesTurns rules.mode
   pub own : OwnTurn
   pub count : ℕ
@@ -190,25 +192,25 @@ pub record ReachesLeave {D : Type 0} (view : D → View) (source : Source) (rule
 
 -- A disk fault ended a session in `serve`: nothing more was done, no line was answered, and the last line that the client received is
 -- that of the fault.
-pub record EndsByFault {D : Type 0} (view : D → View) (source : Source) (rules : Rules) (p : SessionPosition D) (q : SessionView D) : Type 0 where
+pub record EndsByFault {D : Type 0} (view : D → DiskView) (source : Source) (rules : Rules) (p : SessionPosition D) (q : SessionView D) : Type 0 where
   pub last : SessionView D
   pub fault : ReachesFault view source rules p last
   pub sends_all : SendsAll rules.form last q (ended Disk ∷ [])
 
 -- The last line that was read asked a session in `serve` to end, and it made an orderly end.
-pub record EndsInOrder {D : Type 0} (view : D → View) (source : Source) (rules : Rules) (p : SessionPosition D) (q : SessionView D) : Type 0 where
+pub record EndsInOrder {D : Type 0} (view : D → DiskView) (source : Source) (rules : Rules) (p : SessionPosition D) (q : SessionView D) : Type 0 where
   pub last : SessionView D
   pub asked : ReachesLeave view source rules p last
   pub leaves : LeavesFrom view rules last q
 
 -- all lines were answered; or, in `serve`, a disk fault ended the session, or a line asked for its end
-abbrev pub Finishes : {D : Type 0} → (D → View) → Source → Rules → SessionPosition D → SessionPosition D → Type 0
+abbrev pub Finishes : {D : Type 0} → (D → DiskView) → Source → Rules → SessionPosition D → SessionPosition D → Type 0
 Finishes view source rules p q =
     ReachesEnd view source rules p q.at
     ⊎ (EndsByFault view source rules p q.at ⊎ EndsInOrder view source rules p q.at)
 
 -- Calls alone lead from one spot to another, with these messages, which are backed by what the calls recorded.
-pub record GoesByCalls {D : Type 0} (view : D → View) (p q : SessionView D) : Type 0 where
+pub record GoesByCalls {D : Type 0} (view : D → DiskView) (p q : SessionView D) : Type 0 where
   pub items : List SentItem
   pub reported : IsSent p.client_view q.client_view items
   pub holds : IsBacked view p.executor q.executor items

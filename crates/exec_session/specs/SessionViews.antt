@@ -1,4 +1,5 @@
--- Where a session is: its executor, what its client has received, the log of questions and answers, and what its reader has left.
+-- Where a session is: its executor, what its client has received, the log of questions and answers, and what its reader has
+-- left. A question is here a call of the session's reader, client or clock (`IoEvent`), not a `Question` to the executor.
 use Rattle.std.specs.Prelude.{◌≡◌, ◌≤◌, ◌⊎◌, ℕ, Bool, true, false, List, [], ◌∷◌, ◌++◌, length, Option}
 use Rattle.ocf_types.specs.Limits.{num_max}
 use Rattle.executor.specs.ExecutorView.{ExecutorView}
@@ -50,7 +51,8 @@ pub record SendsPart {D : Type 0} (form : NoticeForm) (p q : SessionView D) (ite
   pub receives : ReceivesPart form p.client_view q.client_view items
   pub events : q.events ≡ p.events ++ Sent false ∷ []
 
--- Why a session may break off: the last question failed, or its loops have gone round as often as they can.
+-- Why a session may break off: the last question failed, or the log has 2^53 - 1 questions or more, so that a loop over
+-- `0..NUM_MAX` may have come to its end.
 abbrev pub MayBreakOff : List IoEvent → Type 0
 MayBreakOff events = EndsInFailure events ⊎ (num_max ≤ length events)
 
@@ -76,10 +78,10 @@ paused p micros = session_view p.executor p.client_view (p.events ++ rest_events
 abbrev pub noted : {D : Type 0} → SessionPosition D → IoEvent → SessionPosition D
 noted p event = session_position (following p.at event) p.left
 
--- A short pause after a turn at the second time, where nothing has ended or begun since the first; then the client was asked whether it
--- still reads, with this answer.
+-- A short pause after a turn at `now`, where no action has ended or begun since `since` (both in milliseconds); then the client
+-- was asked whether it still reads, with the answer `still_reads`.
 abbrev pub Pauses : {D : Type 0} → ℕ → ℕ → Bool → SessionView D → SessionView D → Type 0
-Pauses since now client_view p q = (micros : ℕ) × IsShort since now micros × (q ≡ following (paused p micros) (Asked client_view))
+Pauses since now still_reads p q = (micros : ℕ) × IsShort since now micros × (q ≡ following (paused p micros) (Asked still_reads))
 
 -- the position of a session with this executor and this edge
 abbrev pub at_of : {D : Type 0} → ExecutorView D → EdgeView D → SessionPosition D

@@ -3,7 +3,7 @@ use Rattle.std.specs.Prelude.{◌≡◌, ◌≢◌, ◌⊎◌, ⊤, ℕ, ◌+◌
 use Rattle.std.specs.Io.KnownBytes.{IsAtEnd}
 use Rattle.ocf_types.specs.Kinds.{Command}
 use Rattle.ocf_types.specs.declared.reply.TurnEnd.{TurnEnd}
-use Rattle.disk_model.specs.View.{View}
+use Rattle.disk_model.specs.Disk.{DiskView}
 use Rattle.executor.specs.ExecutorView.{ExecutorView}
 use Rattle.exec_lines.specs.Buffer.{line_bytes}
 use Rattle.exec_lines.specs.Pieces.{IsMidLine}
@@ -71,9 +71,10 @@ abbrev pub IsReadTo : Option Held → Option (List ℕ) → List ℕ → Option 
 IsReadTo None left kept now = IsMidLine left kept now
 IsReadTo (Some held) left kept now = (now ≡ left) × (kept ≡ [])
 
--- A session has come this far from a position: the commands that wait and the line that is held were read and are not answered, its last
--- own turn ended like this, and of at most this many lines since then the others were answered.
-pub record HasCome {D : Type 0} (view : D → View) (source : Source) (rules : Rules)
+-- A session has come to `s` from the position `p`, and its last own turn is `own`. The commands that wait and a line that is
+-- held were read and are not answered. Since that turn `count` lines were answered or passed over; these and the commands that
+-- wait are `most` at most.
+pub record HasCome {D : Type 0} (view : D → DiskView) (source : Source) (rules : Rules)
     (p : SessionPosition D) (own : OwnTurn) (most : ℕ) (s : Midway D) : Type 0 where
   pub count : ℕ
   pub few : count + length s.commands ≤ most
@@ -87,7 +88,8 @@ pub record HasCome {D : Type 0} (view : D → View) (source : Source) (rules : R
 abbrev pub PollsOnce : {D : Type 0} → SessionPosition D → SessionPosition D → Type 0
 PollsOnce p q = (q ≡ p) ⊎ ((ready : Bool) × (q ≡ session_position (following p.at (Polled 0 ready)) p.left))
 
--- A session waited after a turn at the second time, where nothing has ended or begun since the first: question after question.
+-- A session waited after a turn at `now`, where no action has ended or begun since `since`: it asked one question after
+-- another, each of them one that `IsWait` allows.
 pub data Waits {D : Type 0} (since now : ℕ) (p : SessionPosition D) : SessionPosition D → Type 0 where
   still : Waits since now p p
   more : (m : SessionPosition D) (event : IoEvent) → Waits since now p m → IsWait since now m.at event
@@ -106,7 +108,7 @@ IsFound found.Empty left now = PassesLine left now
 IsFound found.End left now = IsAtEnd left
 
 -- A session has come so far that these commands wait, and has read what comes next, which is not answered.
-pub record HasFound {D : Type 0} (view : D → View) (source : Source) (rules : Rules)
+pub record HasFound {D : Type 0} (view : D → DiskView) (source : Source) (rules : Rules)
     (p : SessionPosition D) (own : OwnTurn) (most : ℕ) (commands : List Command) (found : Found) (q : SessionPosition D) : Type 0 where
   pub count : ℕ
   pub few : count + length commands ≤ most
@@ -116,7 +118,7 @@ pub record HasFound {D : Type 0} (view : D → View) (source : Source) (rules : 
   pub goes_on : MayGoOn rules.mode q.at.executor
 
 -- What was found was answered, or passed over, or is the end of the input, as the result says; or the answer broke off.
-abbrev pub TakesFound : {D E : Type 0} → (D → View) → Source → Rules → Found → SessionView D → SessionView D → Result Bool E → Type 0
+abbrev pub TakesFound : {D E : Type 0} → (D → DiskView) → Source → Rules → Found → SessionView D → SessionView D → Result Bool E → Type 0
 TakesFound view source rules (found.Line line) p q (Ok has_ended) = (has_ended ≡ false) × Answers view source rules line p q
 TakesFound view source rules found.Empty p q (Ok has_ended) = (has_ended ≡ false) × (q ≡ p)
 TakesFound view source rules found.End p q (Ok has_ended) = (has_ended ≡ true) × (q ≡ p)
@@ -124,14 +126,14 @@ TakesFound view source rules (found.Line line) p q (Err fault) = AnswerBreaks vi
 TakesFound view source rules _ p q (Err fault) = ⊥
 
 -- the session has come this far, or to the end of the input, or to a disk fault, or to the line that asks for its end
-abbrev pub ComesOrEnds : {D : Type 0} → (D → View) → Source → Rules → SessionPosition D → OwnTurn → ℕ → Midway D → Taken → Type 0
+abbrev pub ComesOrEnds : {D : Type 0} → (D → DiskView) → Source → Rules → SessionPosition D → OwnTurn → ℕ → Midway D → Taken → Type 0
 ComesOrEnds view source rules p own most s More = HasCome view source rules p own most s
 ComesOrEnds view source rules p own most s End = ReachesEnd view source rules p s.point.at
 ComesOrEnds view source rules p own most s Closed = ReachesFault view source rules p s.point.at
 ComesOrEnds view source rules p own most s Leaves = ReachesLeave view source rules p s.point.at
 
 -- the same, or it broke off
-abbrev pub Comes : {D E : Type 0} → (D → View) → Source → Rules → SessionPosition D → OwnTurn → ℕ → Midway D → Result Taken E → Type 0
+abbrev pub Comes : {D E : Type 0} → (D → DiskView) → Source → Rules → SessionPosition D → OwnTurn → ℕ → Midway D → Result Taken E → Type 0
 Comes view source rules p own most s (Ok taken) = ComesOrEnds view source rules p own most s taken
 Comes view source rules p own most s (Err fault) = BreaksOff view source rules p s.point.at
 
@@ -139,9 +141,10 @@ Comes view source rules p own most s (Err fault) = BreaksOff view source rules p
 abbrev pub MayTakeAfter : Mode → ℕ → Type 0
 MayTakeAfter mode most = (n : ℕ) → n ≤ most → MayTake mode n
 
--- A step of a session that has found this, with no part of a further line: the log grows; what was read may stay unanswered, and no
--- further line was begun; and a session that had come so far comes further by it, or ends, or breaks off.
-pub record Takes {D E : Type 0} (view : D → View) (source : Source) (rules : Rules) (found : Found) (s t : Midway D)
+-- A step of a session that has found `found` as the next of its input, and has read no part of the line after it. After the
+-- step the log is no shorter, what was read may stay unanswered, and still no part of a further line was read. A session that
+-- had come to `s` comes further by this step, or ends, or breaks off.
+pub record Takes {D E : Type 0} (view : D → DiskView) (source : Source) (rules : Rules) (found : Found) (s t : Midway D)
     (result : Result Taken E) : Type 0 where
   pub lasts : Lasts s.point.at t.point.at
   pub stays : MayStay rules.mode t
@@ -151,7 +154,7 @@ pub record Takes {D E : Type 0} (view : D → View) (source : Source) (rules : R
 
 -- The lines that are there are taken: the log grows, and a session that has taken no line since its last turn comes further, by as many
 -- lines as there may be between two turns, or ends, or breaks off.
-pub record TakesLines {D E : Type 0} (view : D → View) (source : Source) (rules : Rules) (s t : Midway D) (result : Result Taken E)
+pub record TakesLines {D E : Type 0} (view : D → DiskView) (source : Source) (rules : Rules) (s t : Midway D) (result : Result Taken E)
     : Type 0 where
   pub lasts : Lasts s.point.at t.point.at
   pub comes : (p : SessionPosition D) (own : OwnTurn) → HasCome view source rules p own 0 s
@@ -174,8 +177,8 @@ abbrev pub IsRound : Mode → ℕ → Type 0
 IsRound Run most = ⊤
 IsRound Serve most = most ≡ 0
 
--- Since this turn, which ended like this with these lines unanswered: nothing had ended or begun since that time, and the numbers of
--- reads and of polls have not fallen.
+-- The own turn `own` ended with `end`, with these lines unanswered. Up to it no action had ended or begun since `since`, and
+-- the numbers of reads and of polls that found nothing are no lower now than at its end.
 pub record IsSince {D : Type 0} (own : OwnTurn) (since : ℕ) (end : TurnEnd) (lines : Lines) (p : SessionView D) : Type 0 where
   pub quiet : own.since ≤ since
   pub ended : own.end ≡ end
@@ -184,7 +187,7 @@ pub record IsSince {D : Type 0} (own : OwnTurn) (since : ℕ) (end : TurnEnd) (l
   pub misses : own.misses ≤ misses_in p.events
 
 -- a session whose last own turn ended like this is at the beginning of a round
-pub record HasComeRound {D : Type 0} (view : D → View) (source : Source) (rules : Rules) (p : SessionPosition D) (quiet : ℕ) (end : TurnEnd)
+pub record HasComeRound {D : Type 0} (view : D → DiskView) (source : Source) (rules : Rules) (p : SessionPosition D) (quiet : ℕ) (end : TurnEnd)
     (s : Midway D) : Type 0 where
   pub most : ℕ
   pub own : OwnTurn
@@ -193,7 +196,7 @@ pub record HasComeRound {D : Type 0} (view : D → View) (source : Source) (rule
   pub come : HasCome view source rules p own most s
 
 -- a round leads to the beginning of the next one, or ends the session, or breaks off
-abbrev pub GoesRound : {D E : Type 0} → (D → View) → Source → Rules → SessionPosition D → ℕ → TurnEnd → Midway D → Result Taken E → Type 0
+abbrev pub GoesRound : {D E : Type 0} → (D → DiskView) → Source → Rules → SessionPosition D → ℕ → TurnEnd → Midway D → Result Taken E → Type 0
 GoesRound view source rules p quiet own s (Ok More) = HasComeRound view source rules p quiet own s
 GoesRound view source rules p quiet own s (Ok End) = ReachesEnd view source rules p s.point.at
 GoesRound view source rules p quiet own s (Ok Closed) = ReachesFault view source rules p s.point.at
@@ -212,7 +215,7 @@ stage at quiet end = record { at = at; quiet = quiet; end = end }
 
 -- A round: the log grows, by at least one event where the session goes on, and then a further round may begin; and a session that was at
 -- the beginning of this round comes to that of the next, or ends, or breaks off.
-pub record Rounds {D E : Type 0} (view : D → View) (source : Source) (rules : Rules) (s t : Stage D) (result : Result Taken E)
+pub record Rounds {D E : Type 0} (view : D → DiskView) (source : Source) (rules : Rules) (s t : Stage D) (result : Result Taken E)
     : Type 0 where
   pub lasts : Lasts s.at.point.at t.at.point.at
   pub longer : IfOk result (λ taken. taken ≡ More → length s.at.point.at.events < length t.at.point.at.events)

@@ -95,7 +95,8 @@ fn closed_reply<M: Metadata>(context: &SessionContext<M>, line: &Result<Line, Re
     }
 }
 
-// Does what a request asks at this time, after a due tidy. If the disk failed in the tidy, the request is refused for that.
+// Does what a request asks, at this time in milliseconds since 1970. The caller has made a due tidy before; if that closed the
+// executor, the request is refused with `Disk`, and nothing is done.
 fn request_reply<D: Disk + Drop, C: Children + Drop>(
     executor: &mut Executor<D, C>,
     request: Request,
@@ -129,7 +130,8 @@ fn status_reply<D: Disk + Drop, C: Children + Drop>(
     }
 }
 
-// Does what the commands ask at this time, after a due tidy. If the disk failed in the tidy, each is refused for that.
+// Does what the commands ask, as one group commit, at this time in milliseconds since 1970. The caller has made a due tidy
+// before; if that closed the executor, each command is refused with `Disk`, and nothing is done.
 fn serve_gathered<D: Disk + Drop, C: Children + Drop>(
     executor: &mut Executor<D, C>,
     gathered: &mut Gathered,
@@ -251,8 +253,9 @@ impl<'a, R: Input, D: Disk + Drop, C: Children + Drop, T: Client<D, C>, K: Clock
         self.send_reply(context, &reply)
     }
 
-    // Answers a line while the executor is open. Each reply is made in a function of its own: a function clears the space of all replies
-    // that it can make, 824 bytes each, whenever it is called, and most lines are requests.
+    // Answers a line while the executor is open. Each kind of reply is made in a function of its own: compiled, a function
+    // clears at each call the stack space of every reply that it may make (824 bytes each), and most lines need only that of a
+    // request.
     fn answer_open<M: Metadata>(
         &mut self,
         context: &SessionContext<M>,
@@ -335,7 +338,8 @@ impl<'a, R: Input, D: Disk + Drop, C: Children + Drop, T: Client<D, C>, K: Clock
         }
     }
 
-    /// Answers a line that is held for an agent's metadata, if the agent has answered by now. Whether it has.
+    /// Answers a line that is held for an agent's metadata, if the metadata, or why there are none, are known by now. Whether
+    /// the line was answered. For a held `leave` it does nothing and gives `false`.
     pub fn answer_held<M: Metadata>(
         &mut self,
         context: &SessionContext<'_, M>,

@@ -22,9 +22,10 @@ pub struct SessionContext<'a, M> {
     pub form: NoticeForm<'a>,
     /// The most turns of a drain, which makes at least one.
     pub most_turns: u64,
-    /// Once the journal's tail is past this offset, in bytes, a session tidies by itself, if that gains a quarter of a part, and nothing
-    /// waits for it or the part is nearly full; 0 for never.
+    /// An offset in bytes; 0 for never. Once the journal's tail, the offset of the next record in the current part, is past it,
+    /// a session tidies by itself if that frees at least a quarter of a part, and either nothing would have to wait for it or
+    /// the part is nearly full.
     pub tidy_at: u64,
-    /// How fast it tidies.
+    /// How long a piece of a tidy takes, as measured; by this a session judges whether a tidy would delay anything.
     pub pace: Pace,
 }

@@ -62,7 +62,6 @@ impl<'a, R: Input, D: Disk + Drop, C: Children + Drop, T: Client<D, C>, K: Clock
     ) -> Result<Taken, Failed>
         requires open { waiting self.old.pending.gathered ≢ []
             → self.old.worker.at.executor.is_open ≡ true }
-        ensures none { waiting self.new.pending.gathered ≡ [] }
         ensures held { self.new.pending.held ≡ self.old.pending.held }
         ensures buffer { self.new.pending.buffer ≡ self.old.pending.buffer }
         ensures goes_on { IfOk result
@@ -74,6 +73,7 @@ impl<'a, R: Input, D: Disk + Drop, C: Children + Drop, T: Client<D, C>, K: Clock
             (midway self.old.worker self.old.pending)
             → Comes D.view (M.gives context.now.metadata.now) (rules_of context.now) p own (most + 1)
             (midway self.new.worker self.new.pending) result }
+        ensures none { waiting self.new.pending.gathered ≡ [] }
     {
         self.worker
             .answer_gathered(context, &mut self.pending.gathered)?;

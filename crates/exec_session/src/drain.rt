@@ -28,7 +28,7 @@ pub struct Terms {
     pub ends_idle: bool,
     /// The time of its limit, in milliseconds since 1970.
     pub until: u64,
-    /// The most turns that it makes, beyond the first.
+    /// The most turns that it makes in all; it makes one even if this is 0.
     pub most: u64,
 }
 

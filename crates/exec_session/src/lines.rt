@@ -26,7 +26,7 @@ pub enum Found {
 }
 
 impl Found {
-    /// Makes it a line that is refused for want of memory.
+    /// Makes it a line that is refused for lack of memory.
     pub fn run_out(&mut self)
         ensures { self.new ≡ Found.Line (Err Refusal.Memory) }
     {

@@ -26,8 +26,9 @@ const LONGEST: u64 = 50_000;
 // The longest pause of a watch while nothing is queued or running, in microseconds.
 const LONGEST_IDLE: u64 = 10_000;
 
-/// How long to pause before the next turn: not at all after a turn in which something happened; then a tenth of the time since that turn,
-/// up to a millisecond; and from there on a hundredth of it, up to 50.
+/// How long to pause before the next turn: not at all after a turn in which an action ended or began; then a tenth of the time
+/// since that turn, up to a millisecond; and once a hundredth of that time is more than a millisecond, that hundredth, up to 50
+/// milliseconds, or 10 while nothing is queued or running.
 #[derive(Drop)]
 pub struct Pause {
     // The beginning of the last turn, if the clock could be read.

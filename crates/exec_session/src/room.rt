@@ -64,7 +64,7 @@ fn is_tidy_due<D: Disk + Drop, C: Children + Drop, M>(
     now: u64,
     pace: u64,
 ) -> bool
-    requires lemma_known { pace ≤ 1000 }
+    requires pace { pace ≤ 1000 }
     ensures { result ≡ is_tidy_due (rules_of context.now) executor.now now pace }
 {
     let tail = executor.tail();

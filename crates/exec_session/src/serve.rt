@@ -49,7 +49,8 @@ impl<'a, R: Input, D: Disk + Drop, C: Children + Drop, T: Client<D, C>, K: Clock
     T,
     K,
 > {
-    // Takes the lines that are there, up to one that is held, unless the session ends before. Commands may still wait after it.
+    // Takes the lines that are there, 64 reads at most, up to the first that is held, unless the session ends before. When it
+    // returns, commands may still wait for their answer.
     fn take_waiting<M: Metadata>(
         &mut self,
         context: &SessionContext<'_, M>,
@@ -82,7 +83,6 @@ impl<'a, R: Input, D: Disk + Drop, C: Children + Drop, T: Client<D, C>, K: Clock
     ) -> Result<Taken, Failed>
         requires mode { context.now.mode ≡ Mode.Serve }
         requires waits { MayWait context.now.mode (midway self.old.worker self.old.pending) }
-        ensures none { IfOk result (λ taken. taken ≡ More → waiting self.new.pending.gathered ≡ []) }
         ensures polled { IfOk result (λ taken. taken ≡ More
             → HasPolled (reads_in self.old.worker.at.events) (misses_in self.old.worker.at.events)
             (held_lines self.new.pending.held) self.new.worker.at.events) }
@@ -90,6 +90,7 @@ impl<'a, R: Input, D: Disk + Drop, C: Children + Drop, T: Client<D, C>, K: Clock
             (λ taken. taken ≡ More → MayGoOn context.now.mode self.new.worker.at.executor) }
         ensures takes { TakesLines D.view (M.gives context.now.metadata.now) (rules_of context.now)
             (midway self.old.worker self.old.pending) (midway self.new.worker self.new.pending) result }
+        ensures none { IfOk result (λ taken. taken ≡ More → waiting self.new.pending.gathered ≡ []) }
     {
         let waited = self.take_waiting(context)?;
         if waited != Taken::More {
@@ -107,7 +108,6 @@ impl<'a, R: Input, D: Disk + Drop, C: Children + Drop, T: Client<D, C>, K: Clock
         requires mode { context.now.mode ≡ Mode.Serve }
         requires open { self.old.worker.at.executor.is_open ≡ true }
         requires none { waiting self.old.pending.gathered ≡ [] }
-        ensures none { IfOk result (λ taken. taken ≡ More → waiting self.new.pending.gathered ≡ []) }
         ensures polled { IfOk result (λ taken. taken ≡ More
             → HasPolled (reads_in self.old.worker.at.events) (misses_in self.old.worker.at.events)
             (held_lines self.old.pending.held ++ held_lines self.new.pending.held)
@@ -116,6 +116,7 @@ impl<'a, R: Input, D: Disk + Drop, C: Children + Drop, T: Client<D, C>, K: Clock
             (λ taken. taken ≡ More → MayGoOn context.now.mode self.new.worker.at.executor) }
         ensures takes { TakesLines D.view (M.gives context.now.metadata.now) (rules_of context.now)
             (midway self.old.worker self.old.pending) (midway self.new.worker self.new.pending) result }
+        ensures none { IfOk result (λ taken. taken ≡ More → waiting self.new.pending.gathered ≡ []) }
     {
         let Some(line) = &self.pending.held else {
             return self.answer_waiting(context);

@@ -196,10 +196,11 @@ impl<'a, R: Input, D: Disk + Drop, C: Children + Drop, T: Client<D, C>, K: Clock
 /// Sends a client the report of the opening, and then answers each line of the input, up to its end. In `serve` it first sends that it is
 /// ready, and makes turns by itself, too, and sends how they ended. Commands whose lines were read whole, one after the other, are one
 /// group commit: they are recorded together, and their replies are flushed together. Any other reply is flushed before the next line is
-/// answered, and a turn's notices before the next turn. If the disk failed, the end of the input is a fault; in `serve` the session ends
-/// at once, with the line of a turn that ended so. Input or output that fails is another fault, and so is a reply that finds no memory.
-/// In any case all agent processes are given up then, and the executor is closed. The buffers for lines are passed in, so that no memory
-/// is refused between the opening and its report.
+/// answered, and a turn's notices before the next turn. After a disk fault a session in `run` goes on to the end of its input,
+/// and in `serve` it ends at once, with the line `{"end":"disk"}`; both then end with `Fault::Disk`. If input or output fails,
+/// it ends with `Fault::InputOrOutput`, and with `Fault::ReplyMemory` if there is no memory for a reply or a notice. However it
+/// ends, all agent processes are then given up, and the executor is closed. The buffers for lines are passed in, so that no
+/// memory is refused between the opening and its report.
 #[inline(never)]
 pub fn run_lines<
     'a,

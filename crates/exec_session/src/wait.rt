@@ -16,8 +16,8 @@ use std::rt::Clock;
 // The longest wait while nothing is queued or running, in milliseconds.
 const LONGEST_IDLE: u32 = 1_000;
 
-// How long to wait for input after a turn, in microseconds: 0 if something happened in it; while nothing is queued or running, until the
-// next monitor is due.
+// How long to wait for input after a turn, in microseconds: 0 if an action ended or began in it; while nothing is queued or
+// running, until the next monitor is due, and a second at most; else, and if a monitor is due already, a short pause.
 #[tactic(auto, using(crate::proofs::RoundLemmas::waits_none, crate::proofs::RoundLemmas::waits_once))]
 fn wait_micros<R: Input, D: Disk + Drop, C: Children + Drop, T: Client<D, C>, K: Clock>(
     worker: &mut Worker<'_, R, D, C, T, K>,
@@ -68,8 +68,9 @@ fn wait_for_line<R: Input, D: Disk + Drop, C: Children + Drop, T: Client<D, C>, 
     }
 }
 
-/// Waits until a line is there, an action may have ended, or a monitor is due. While a line is held, it waits no longer than between two
-/// turns of a watch, and not at all before the agent was asked. Whether anybody may still read the output.
+/// Waits until a line is there, an action may have ended, or a monitor is due, a second at most. While a line is held, it does
+/// not poll for lines, and pauses only as long as between two turns of a watch; it does not wait at all right after the line
+/// came, so that its agent is asked for metadata at once. Gives whether anybody may still read the output.
 pub fn wait<R: Input, D: Disk + Drop, C: Children + Drop, T: Client<D, C>, K: Clock>(
     worker: &mut Worker<'_, R, D, C, T, K>,
     pause: &mut Pause,

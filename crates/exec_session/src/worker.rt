@@ -189,7 +189,7 @@ impl<'a, R: Input, D: Disk + Drop, C: Children + Drop, T: Client<D, C>, K: Clock
         self.executor.runs_any()
     }
 
-    /// Whether the client's last failure was want of memory.
+    /// Whether the client's last failure was lack of memory.
     pub fn lacks_memory(&self) -> bool
         ensures memory { IsTrue result → IsTrue T.refuses }
     {

@@ -17,7 +17,7 @@ use Rattle.ocf_types.specs.LawfulState.{IsAscending}
 use Rattle.ocf_types.specs.Lemmas.{same_number}
 use Rattle.recurring.specs.declared.monitor.Monitor.{Monitor}
 use Rattle.recurring.specs.Monitors.{recurs, cancelled, settled, due_at, monitor_due_at}
-use Rattle.exec_state.specs.MonitorsAfter.{run_ended, monitors_stepped}
+use Rattle.exec_state.specs.MonitorsAfter.{monitors_run_ended, monitors_stepped}
 use Rattle.exec_state.proofs.Picks.{due_in}
 
 -- the test of numbers that differ fails
@@ -133,7 +133,7 @@ due_settled (m ∷ ms) own at call = by (m.recur.call == own) (m.recur.call == c
 
 -- the same after the running action has ended
 due_ended : (ms : List Monitor) (running : Option Running) (at call : ℕ)
-    → due_in (run_ended at running ms) call
+    → due_in (monitors_run_ended at running ms) call
     ≡ due_where (of_call call (recurs ms))
     (or_else (option_and_then
     (λ x. cond (is_run_of call x) (option_map (λ m. at + m.interval) (of_call call (recurs ms))) None) running) (due_in ms call))
@@ -172,7 +172,7 @@ due_stepped r ms next_call next_run at (step.Cancel interval) call same ascends 
     subst (λ (l : List Recur). due_in (cancelled interval ms) call
     ≡ due_where (of_call call (without_interval interval l)) (due_in ms call)) same (due_cancel ms interval call (rw same ascends))
 due_stepped r ms next_call next_run at (step.Result run end) call same ascends below a =
-    subst (λ (l : List Recur). due_in (run_ended at r.history.running ms) call
+    subst (λ (l : List Recur). due_in (monitors_run_ended at r.history.running ms) call
     ≡ due_where (of_call call l)
     (or_else (option_and_then
     (λ x. cond (is_run_of call x) (option_map (λ m. at + m.interval) (of_call call l)) None) r.history.running)

@@ -15,17 +15,17 @@ use Rattle.recurring.specs.declared.monitor.Monitor.{Monitor}
 use Rattle.recurring.specs.DueIndex.{Dues, pairs_at, pairs_of_all}
 use Rattle.recurring.specs.Monitors.{pairs}
 use Rattle.exec_state.specs.declared.registered.Registered.{Registered}
-use Rattle.exec_state.specs.Seen.{seen, seen_all, monitors_all, find_all_due}
+use Rattle.exec_state.specs.Seen.{seen, seen_all, monitors_all, map_entries}
 use Rattle.exec_state.specs.Store.{Monitors, all_pairs, dues_by_id, monitors_at}
 use Rattle.exec_state.proofs.Choices.{none_before}
-use Rattle.exec_state.proofs.Entries.{IsAbsent, at_id-absent, find_all_due-remove_entry}
+use Rattle.exec_state.proofs.Entries.{IsAbsent, at_id-absent, map_entries-remove_entry}
 use Rattle.exec_state.proofs.Lookups.{key_fact}
 
 -- the pairs of an entry's monitors
 abbrev pairs_in : {H : Type 0} → Registered H → List (ℕ × ℕ)
 pairs_in r = pairs r.monitors
 
-dues_seen : {H : Type 0} (es : List (List ℕ × Registered H)) → dues_by_id (monitors_all es) ≡ find_all_due pairs_in es
+dues_seen : {H : Type 0} (es : List (List ℕ × Registered H)) → dues_by_id (monitors_all es) ≡ map_entries pairs_in es
 dues_seen [] = refl
 dues_seen (e ∷ es) = ap (λ (xs : Dues). (e.0, pairs e.1.monitors) ∷ xs) (dues_seen es)
 
@@ -69,7 +69,7 @@ length-dues (e ∷ es) = ap suc (length-dues es)
 pub dues_without : {H : Type 0} (id : List ℕ) (es : List (List ℕ × Registered H)) → IsDistinct bytes_eq (keys_of es)
     → dues_by_id (monitors_all (remove_entry (bytes_eq id) es)) ≡ filter (λ e. not (bytes_eq id e.0)) (dues_by_id (monitors_all es))
 dues_without id es distinct =
-    dues_seen (remove_entry (bytes_eq id) es) ∙ find_all_due-remove_entry pairs_in id es distinct
+    dues_seen (remove_entry (bytes_eq id) es) ∙ map_entries-remove_entry pairs_in id es distinct
     ∙ ap (λ (xs : Dues). filter (λ e. not (bytes_eq id e.0)) xs) (sym (dues_seen es))
 
 -- the monitors of the resource at an index, written again

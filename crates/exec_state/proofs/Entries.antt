@@ -18,7 +18,7 @@ use Rattle.ocf_types.specs.State.{at_id}
 use Rattle.exec_state.specs.declared.registered.Registered.{Registered}
 use Rattle.recurring.specs.declared.monitor.Monitor.{Monitor}
 use Rattle.recurring.specs.Monitors.{recurs, all_due_at}
-use Rattle.exec_state.specs.Seen.{seen, seen_all, monitors_all, find_all_due}
+use Rattle.exec_state.specs.Seen.{seen, seen_all, monitors_all, map_entries}
 use Rattle.exec_state.specs.Lawful.{recurs_by_id, recurring_by_id}
 
 -- no key equals the id
@@ -50,71 +50,71 @@ module _ {A : Type 0} where
 
 module _ {H A : Type 0} (look : Registered H → A) where
   -- the keys stay the same
-  pub keys-find_all_due : (es : List (List ℕ × Registered H)) → keys_of (find_all_due look es) ≡ keys_of es
-  keys-find_all_due [] = refl
-  keys-find_all_due (e ∷ es) = ap (λ (ks : List (List ℕ)). e.0 ∷ ks) (keys-find_all_due es)
+  pub keys-map_entries : (es : List (List ℕ × Registered H)) → keys_of (map_entries look es) ≡ keys_of es
+  keys-map_entries [] = refl
+  keys-map_entries (e ∷ es) = ap (λ (ks : List (List ℕ)). e.0 ∷ ks) (keys-map_entries es)
 
-  pub length-find_all_due : (es : List (List ℕ × Registered H)) → length (find_all_due look es) ≡ length es
-  length-find_all_due [] = refl
-  length-find_all_due (e ∷ es) = ap suc (length-find_all_due es)
+  pub length-map_entries : (es : List (List ℕ × Registered H)) → length (map_entries look es) ≡ length es
+  length-map_entries [] = refl
+  length-map_entries (e ∷ es) = ap suc (length-map_entries es)
 
-  absent_seen : (id : List ℕ) (es : List (List ℕ × Registered H)) → IsAbsent id es → IsAbsent id (find_all_due look es)
-  absent_seen id es h = subst (λ (ks : List (List ℕ)). AllByRecursion (λ k. bytes_eq id k ≡ false) ks) (sym (keys-find_all_due es)) h
+  absent_seen : (id : List ℕ) (es : List (List ℕ × Registered H)) → IsAbsent id es → IsAbsent id (map_entries look es)
+  absent_seen id es h = subst (λ (ks : List (List ℕ)). AllByRecursion (λ k. bytes_eq id k ≡ false) ks) (sym (keys-map_entries es)) h
 
   -- a write at the id
-  pub find_all_due-set_value : (id : List ℕ) (f : A → A) (es : List (List ℕ × Registered H)) (v w : Registered H)
+  pub map_entries-set_value : (id : List ℕ) (f : A → A) (es : List (List ℕ × Registered H)) (v w : Registered H)
       → IsDistinct bytes_eq (keys_of es)
       → lookup (bytes_eq id) es ≡ Some v → look w ≡ f (look v)
-      → find_all_due look (set_value (bytes_eq id) es w) ≡ at_id id f (find_all_due look es)
-  find_all_due-set_value id f [] v w distinct at is = refl
-  find_all_due-set_value id f (e ∷ es) v w distinct at is =
-      by (bytes_eq id e.0) refl (find_all_due-set_value id f es v w (IsDistinct-tail bytes_eq e.0 (keys_of es) distinct))
+      → map_entries look (set_value (bytes_eq id) es w) ≡ at_id id f (map_entries look es)
+  map_entries-set_value id f [] v w distinct at is = refl
+  map_entries-set_value id f (e ∷ es) v w distinct at is =
+      by (bytes_eq id e.0) refl (map_entries-set_value id f es v w (IsDistinct-tail bytes_eq e.0 (keys_of es) distinct))
     where
       by : (b : Bool) → bytes_eq id e.0 ≡ b
           → (lookup (bytes_eq id) es ≡ Some v → look w ≡ f (look v)
-          → find_all_due look (set_value (bytes_eq id) es w) ≡ at_id id f (find_all_due look es))
-          → find_all_due look (set_value (bytes_eq id) (e ∷ es) w) ≡ at_id id f (find_all_due look (e ∷ es))
+          → map_entries look (set_value (bytes_eq id) es w) ≡ at_id id f (map_entries look es))
+          → map_entries look (set_value (bytes_eq id) (e ∷ es) w) ≡ at_id id f (map_entries look (e ∷ es))
       by true same rest =
           let here : Some e.1 ≡ Some v = rw same at at in
           let value : e.1 ≡ v = cc in
           let now : look w ≡ f (look e.1) = is ∙ ap (λ (r : Registered H). f (look r)) (sym value) in
-          rw same (ap (λ (r : A). (e.0, r) ∷ find_all_due look es) now
+          rw same (ap (λ (r : A). (e.0, r) ∷ map_entries look es) now
           ∙ ap (λ (xs : List (List ℕ × A)). (e.0, f (look e.1)) ∷ xs)
-          (sym (at_id-absent id f (find_all_due look es) (absent_seen id es (absent_after id e es distinct same)))))
+          (sym (at_id-absent id f (map_entries look es) (absent_seen id es (absent_after id e es distinct same)))))
       by false other rest = rw other (ap (λ (xs : List (List ℕ × A)). (e.0, look e.1) ∷ xs) (rest (rw other at at) is))
 
   -- without the id
-  pub find_all_due-remove_entry : (id : List ℕ) (es : List (List ℕ × Registered H)) → IsDistinct bytes_eq (keys_of es)
-      → find_all_due look (remove_entry (bytes_eq id) es) ≡ filter (λ e. not (bytes_eq id e.0)) (find_all_due look es)
-  find_all_due-remove_entry id [] distinct = refl
-  find_all_due-remove_entry id (e ∷ es) distinct =
-      by (bytes_eq id e.0) refl (find_all_due-remove_entry id es (IsDistinct-tail bytes_eq e.0 (keys_of es) distinct))
+  pub map_entries-remove_entry : (id : List ℕ) (es : List (List ℕ × Registered H)) → IsDistinct bytes_eq (keys_of es)
+      → map_entries look (remove_entry (bytes_eq id) es) ≡ filter (λ e. not (bytes_eq id e.0)) (map_entries look es)
+  map_entries-remove_entry id [] distinct = refl
+  map_entries-remove_entry id (e ∷ es) distinct =
+      by (bytes_eq id e.0) refl (map_entries-remove_entry id es (IsDistinct-tail bytes_eq e.0 (keys_of es) distinct))
     where
       by : (b : Bool) → bytes_eq id e.0 ≡ b
-          → find_all_due look (remove_entry (bytes_eq id) es) ≡ filter (λ e. not (bytes_eq id e.0)) (find_all_due look es)
-          → find_all_due look (remove_entry (bytes_eq id) (e ∷ es)) ≡ filter (λ e. not (bytes_eq id e.0)) (find_all_due look (e ∷ es))
-      by true same rest = rw same (sym (others-absent id (find_all_due look es) (absent_seen id es (absent_after id e es distinct same))))
+          → map_entries look (remove_entry (bytes_eq id) es) ≡ filter (λ e. not (bytes_eq id e.0)) (map_entries look es)
+          → map_entries look (remove_entry (bytes_eq id) (e ∷ es)) ≡ filter (λ e. not (bytes_eq id e.0)) (map_entries look (e ∷ es))
+      by true same rest = rw same (sym (others-absent id (map_entries look es) (absent_seen id es (absent_after id e es distinct same))))
       by false other rest = rw other (ap (λ (xs : List (List ℕ × A)). (e.0, look e.1) ∷ xs) rest)
 
   -- a write at an index
-  pub find_all_due-set_value_at : (f : A → A) (es : List (List ℕ × Registered H)) (i : ℕ) (v w : Registered H) (d : List ℕ × A)
+  pub map_entries-set_value_at : (f : A → A) (es : List (List ℕ × Registered H)) (i : ℕ) (v w : Registered H) (d : List ℕ × A)
       → slice_get (values_of es) i ≡ Some v → look w ≡ f (look v)
-      → find_all_due look (set_value_at es i w) ≡ set (find_all_due look es) i (on_value f (get_or (find_all_due look es) i d))
-  find_all_due-set_value_at f [] i v w d at is = refl
-  find_all_due-set_value_at f (e ∷ es) zero v w d at is =
+      → map_entries look (set_value_at es i w) ≡ set (map_entries look es) i (on_value f (get_or (map_entries look es) i d))
+  map_entries-set_value_at f [] i v w d at is = refl
+  map_entries-set_value_at f (e ∷ es) zero v w d at is =
       let value : e.1 ≡ v = cc in
-      ap (λ (r : A). (e.0, r) ∷ find_all_due look es) (is ∙ ap (λ (r : Registered H). f (look r)) (sym value))
-  find_all_due-set_value_at f (e ∷ es) (suc i) v w d at is =
-      ap (λ (xs : List (List ℕ × A)). (e.0, look e.1) ∷ xs) (find_all_due-set_value_at f es i v w d at is)
+      ap (λ (r : A). (e.0, r) ∷ map_entries look es) (is ∙ ap (λ (r : Registered H). f (look r)) (sym value))
+  map_entries-set_value_at f (e ∷ es) (suc i) v w d at is =
+      ap (λ (xs : List (List ℕ × A)). (e.0, look e.1) ∷ xs) (map_entries-set_value_at f es i v w d at is)
 
   -- a write that the function does not see
-  pub find_all_due-same_at : (es : List (List ℕ × Registered H)) (i : ℕ) (v w : Registered H)
-      → slice_get (values_of es) i ≡ Some v → look w ≡ look v → find_all_due look (set_value_at es i w) ≡ find_all_due look es
-  find_all_due-same_at [] i v w at is = refl
-  find_all_due-same_at (e ∷ es) zero v w at is =
+  pub map_entries-same_at : (es : List (List ℕ × Registered H)) (i : ℕ) (v w : Registered H)
+      → slice_get (values_of es) i ≡ Some v → look w ≡ look v → map_entries look (set_value_at es i w) ≡ map_entries look es
+  map_entries-same_at [] i v w at is = refl
+  map_entries-same_at (e ∷ es) zero v w at is =
       let value : e.1 ≡ v = cc in
-      ap (λ (r : A). (e.0, r) ∷ find_all_due look es) (is ∙ ap look (sym value))
-  find_all_due-same_at (e ∷ es) (suc i) v w at is = ap (λ (xs : List (List ℕ × A)). (e.0, look e.1) ∷ xs) (find_all_due-same_at es i v w at is)
+      ap (λ (r : A). (e.0, r) ∷ map_entries look es) (is ∙ ap look (sym value))
+  map_entries-same_at (e ∷ es) (suc i) v w at is = ap (λ (xs : List (List ℕ × A)). (e.0, look e.1) ∷ xs) (map_entries-same_at es i v w at is)
 
 -- a write at the index of an id is one at the id
 index_is : {A : Type 0} (id : List ℕ) (es : List (List ℕ × A)) (i : ℕ) (w : A) → i < length (keys_of es)

@@ -61,7 +61,7 @@ first_each next_call next_run clock (e ∷ es) h = (
     ended_len = last_short e.1.history.ended;
     ended = each_drop (IsLawfulEnded next_call next_run clock) (length e.1.history.ended - kept_in First) e.1.history.ended h.0.ended;
     failed = tt;
-    lemma_known = refl;
+    known = refl;
   },
   first_each next_call next_run clock es h.1,
 )

@@ -4,7 +4,7 @@ use Rattle.ocf_types.specs.Kinds.{Reply}
 use Rattle.ocf_types.specs.declared.refusal.Refusal.TheVariants.{Memory}
 use Rattle.ocf_types.specs.declared.reply.ReplyOf.TheVariants.{Refused}
 
--- the given reply is this one; in place of one that is not a refusal, it may be the refusal for lack of memory
+-- the second reply is the first, or, if the first is no refusal, the refusal for lack of memory
 abbrev pub IsReplyOrMemory : Reply → Reply → Type 0
 IsReplyOrMemory (Refused refusal) given = given ≡ Refused refusal
 IsReplyOrMemory reply given = (given ≡ reply) ⊎ (given ≡ Refused Memory)

@@ -10,16 +10,16 @@ use Rattle.recurring.specs.declared.monitor.Monitor.{Monitor}
 use Rattle.recurring.specs.Monitors.{cancelled, settled, monitor_due_at}
 use Rattle.exec_state.specs.Store.{Monitors}
 
--- the monitors of a resource after the running action has ended at a moment: if it is a monitor's, that is due its interval later
-abbrev pub run_ended : ℕ → Option Running → List Monitor → List Monitor
-run_ended at None ms = ms
-run_ended at (Some x) ms = if nat_lt 0 x.interval then settled x.call at ms else ms
+-- the monitors of a resource after the running action ended at a moment: if a recurring one ran, it is due its interval later
+abbrev pub monitors_run_ended : ℕ → Option Running → List Monitor → List Monitor
+monitors_run_ended at None ms = ms
+monitors_run_ended at (Some x) ms = if nat_lt 0 x.interval then settled x.call at ms else ms
 
 -- the monitors of a resource after a step at a moment, with this running action
 abbrev pub monitors_stepped : ℕ → Option Running → Step → List Monitor → List Monitor
 monitors_stepped at running (step.Recur m) ms = ms ++ monitor_due_at at m ∷ []
 monitors_stepped at running (step.Cancel interval) ms = cancelled interval ms
-monitors_stepped at running (step.Result run end) ms = run_ended at running ms
+monitors_stepped at running (step.Result run end) ms = monitors_run_ended at running ms
 monitors_stepped at running _ ms = ms
 
 -- the running action of the resource of an id

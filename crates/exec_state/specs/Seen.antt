@@ -16,16 +16,16 @@ seen r = record { provider = r.provider; agent = r.agent; params = r.params; his
 abbrev pub monitors_of : {H : Type 0} → Registered H → List Monitor
 monitors_of r = r.monitors
 
--- the entries with a function applied to each value
-abbrev pub find_all_due : {H A : Type 0} → (Registered H → A) → List (List ℕ × Registered H) → List (List ℕ × A)
-find_all_due look es = map (λ e. (e.0, look e.1)) es
+-- the entries of a map, with a function applied to each value
+abbrev pub map_entries : {H A : Type 0} → (Registered H → A) → List (List ℕ × Registered H) → List (List ℕ × A)
+map_entries look es = map (λ e. (e.0, look e.1)) es
 
 -- the resources of the entries, and their monitors
 abbrev pub seen_all : {H : Type 0} → List (List ℕ × Registered H) → List (List ℕ × Resource)
-seen_all es = find_all_due seen es
+seen_all es = map_entries seen es
 
 abbrev pub monitors_all : {H : Type 0} → List (List ℕ × Registered H) → List (List ℕ × List Monitor)
-monitors_all es = find_all_due monitors_of es
+monitors_all es = map_entries monitors_of es
 
 -- the step applies to the resource in a state with some next numbers
 abbrev pub CanTake : Step → Resource → Type 0

@@ -18,8 +18,8 @@ use Rattle.recurring.specs.Monitors.{all_due_at, pairs}
 abbrev pub Monitors : Type 0
 Monitors = List (List ℕ × List Monitor)
 
--- the state that the journal keeps, the due moments of the recurring monitors, whether a resource can be registered without an
--- allocation, and whether the allocator refuses growths
+-- what contracts see of a `State`: the state that the journal keeps, the monitors with their due moments (which it does
+-- not keep), whether a resource can be registered without an allocation, and whether the allocator refuses growths
 pub record Store : Type 0 where
   pub state : State
   pub monitors : Monitors

@@ -10,7 +10,7 @@ use growth::Grows;
 use ocf_types::{Change, Event, EventOf, Moment};
 
 impl<A: Grows> State<A> {
-    /// The boot that an opening at that moment records, exactly when an action is queued or running.
+    /// The boot that an opening at `now`, in milliseconds since 1970, records; `None` if no action is queued or running.
     pub fn boot(&self, now: u64) -> Option<Event<A>>
         ensures { result ≡ boot_event self.now.state (moment self.now.state now) }
     {

@@ -43,14 +43,14 @@ impl<A: Grows> State<A> {
         self.registry.find_next_due();
     }
 
-    /// The least moment, in milliseconds, at which a recurring monitor is due; `None` exactly when there is no monitor.
+    /// The least moment, in milliseconds since 1970, at which a recurring monitor is due; `None` exactly if there is none.
     pub fn first_due(&self) -> Option<u64>
         ensures { IsFirstMoment (all_pairs self.now.monitors) result }
     {
         self.registry.first_due()
     }
 
-    /// Whether the cached moment shows that no resource begins an action at that moment.
+    /// Whether the moment that `find_next_due` cached shows that no resource begins an action at `now`. `false` shows nothing.
     pub fn rests(&self, now: Moment) -> bool
         ensures { IsTrue result → Rests self.now now }
     {

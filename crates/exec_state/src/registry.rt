@@ -39,7 +39,7 @@ pub(crate) struct Registry<A: Allocator + Copy = Global> {
     next_ops: Option<Ops<A>>,
     // The due moments of the recurring monitors.
     dues: DueIndex<A>,
-    // A moment before which no resource begins an action: 0 after a change.
+    // A cached moment, in milliseconds since 1970, before which no resource begins an action: 0 if unknown, as after a change.
     rests_until: u64,
 }
 
@@ -318,14 +318,14 @@ impl<A: Grows> Registry<A> {
         self.dues.first_due()
     }
 
-    /// The call of that resource's first due recurring monitor: of the least due moment, and among equals of the lowest call.
+    /// The call of that resource's recurring monitor that is due first, of equals the lowest; `None` if none is due by `now`.
     pub(crate) fn due_of(&self, id: &RscId, now: Moment) -> Option<CallId>
         ensures { IsLeastDue (pairs (monitors_at self.now.monitors id.now)) now result }
     {
         self.dues.due_of(id, now)
     }
 
-    /// Whether the cached moment shows that no resource begins an action at that moment.
+    /// Whether the cached moment is after `now`, so that no resource begins an action at `now`; `false` shows nothing.
     pub(crate) fn rests(&self, now: Moment) -> bool
         ensures { IsTrue result → AllRest self.now.resources self.now.monitors now }
     {

@@ -7,7 +7,7 @@ use Rattle.ocf_types.specs.State.{State, after_all}
 use Rattle.ocf_types.specs.declared.reply.Notice.{Notice}
 use Rattle.ocf_types.specs.declared.reply.TurnEnd.{TurnEnd}
 use Rattle.ocf_types.specs.declared.reply.TurnEnd.TheVariants as turn_end
-use Rattle.disk_model.specs.View.{Lawful, View}
+use Rattle.disk_model.specs.Disk.{Lawful, DiskView}
 use Rattle.disk_model.specs.declared.disk.DiskFault.{DiskFault}
 use Rattle.child_model.specs.Children.{ChildrenView}
 use Rattle.child_model.specs.declared.answer.Entry.{Entry}
@@ -19,12 +19,12 @@ use Rattle.exec_turn.specs.Picks.{begins}
 use Rattle.exec_ledger.specs.Pieces.{Effects, CrashCondition, no_effects}
 use Rattle.exec_turn.specs.Polls.{polls, results}
 use Rattle.exec_turn.specs.Starts.{Started, refusal_notices, refusals, starts}
-use Rattle.exec_turn.specs.Turn.{IsFinish, IsTurn, PickedAt, TurnReport, TurnKind, Whole}
+use Rattle.exec_turn.specs.Turn.{IsFinish, IsTurn, PickedAt, TurnAnswers, TurnKind, Whole}
 use Rattle.exec_ledger.specs.BatchStarts.{BatchStart, following, due_after_all, batch_start}
 use Rattle.exec_turn.specs.Turns.{BeginsBatch, Finishes, PollsBatch, StartsBatch, Turns, TurnsAs, end_of}
 
 -- a turn that did nothing
-pub book_full : {D : Type 0} (kind : TurnKind) (view : D → View) (k : D) (x : BatchStart) (from : ChildrenView)
+pub book_full : {D : Type 0} (kind : TurnKind) (view : D → DiskView) (k : D) (x : BatchStart) (from : ChildrenView)
     → kind turn_end.BookFull x no_effects [] → CrashCondition view k k x.state x.state no_effects
     → TurnsAs kind view k k x x.state x.due from from [] turn_end.BookFull
 book_full kind view k x from does leaves = record {
@@ -43,7 +43,7 @@ book_full kind view k x from does leaves = record {
 both_entries : (was first second : List Entry) {mid now : List Entry} → mid ≡ was ++ first → now ≡ mid ++ second → now ≡ was ++ (first ++ second)
 both_entries was first second one two = two ∙ ap (λ (l : List Entry). l ++ second) one ∙ append_assoc was first second
 
-module _ {D : Type 0} {view : D → View} {at : ℕ} {k0 k1 : D} {s0 s1 : State} {d0 d1 : Due} {p0 p1 : Position} {a0 a1 : Bool} {from c1 : ChildrenView}
+module _ {D : Type 0} {view : D → DiskView} {at : ℕ} {k0 k1 : D} {s0 s1 : State} {d0 d1 : Due} {p0 p1 : Position} {a0 a1 : Bool} {from c1 : ChildrenView}
     {n1 : List Notice} where
   -- the batch of results failed
   results_failed : (kind : TurnKind) {f : DiskFault} (p : PollsBatch view k0 k1 (batch_start s0 d0 p0 at a0) (batch_start s1 d1 p1 at a1) from c1 n1 (Err f))
@@ -157,7 +157,7 @@ module _ {D : Type 0} {view : D → View} {at : ℕ} {k0 k1 : D} {s0 s1 : State}
             (joined view k0 k2 k3 s0 s2 s3 (record { entries = entries; events = before; pending = [] })
             (record { entries = []; events = es; pending = pending }) refl begun_leaves last)
 
-        abbrev all_reported : TurnReport end (batch_start s0 d0 p0 at a0)
+        abbrev all_reported : TurnAnswers end (batch_start s0 d0 p0 at a0)
         all_reported = record {
           polled = p.answers;
           begun = begun;
@@ -241,19 +241,19 @@ module _ {D : Type 0} {view : D → View} {at : ℕ} {k0 k1 : D} {s0 s1 : State}
           }
 
 -- the same with other notices
-pub polled_reported : {D : Type 0} {view : D → View} {k l : D} {x y : BatchStart} {from to : ChildrenView} {n m : List Notice} {r : Result Unit DiskFault}
+pub polled_reported : {D : Type 0} {view : D → DiskView} {k l : D} {x y : BatchStart} {from to : ChildrenView} {n m : List Notice} {r : Result Unit DiskFault}
     → m ≡ n → PollsBatch view k l x y from to n r → PollsBatch view k l x y from to m r
 polled_reported {view = view} {k = k} {l = l} {x = x} {y = y} {from = from} {to = to} {r = r} same polled =
     subst (λ (reported : List Notice). PollsBatch view k l x y from to reported r) (sym same) polled
 
 -- a disk fault ends a turn as such
-pub failed_end : {D : Type 0} {view : D → View} {old new : D} {x : BatchStart} {t : State} {due : Due} {from to : ChildrenView} {reported : List Notice}
+pub failed_end : {D : Type 0} {view : D → DiskView} {old new : D} {x : BatchStart} {t : State} {due : Due} {from to : ChildrenView} {reported : List Notice}
     (r : Result TurnEnd DiskFault) → IsErr r → Turns view old new x t due from to reported turn_end.Disk → Turns view old new x t due from to reported (end_of r)
 failed_end (Ok end) bad turns = let none : ⊥ = cc in absurd none
 failed_end (Err f) bad turns = turns
 
 -- picks end neither with a full book nor with a disk fault
-pub picks_ended : {D : Type 0} {view : D → View} {k l : D} {x y : BatchStart} {begun : List Active} {end : TurnEnd}
+pub picks_ended : {D : Type 0} {view : D → DiskView} {k l : D} {x y : BatchStart} {begun : List Active} {end : TurnEnd}
     → BeginsBatch view k l x y begun (Ok end) → (end ≡ turn_end.BookFull → ⊥) × (end ≡ turn_end.Disk → ⊥)
 picks_ended {x = x} {begun = begun} {end = end} b = (λ is. (so is).0.0, λ is. (so is).0.0)
   where

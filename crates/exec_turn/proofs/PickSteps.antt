@@ -19,7 +19,7 @@ use Rattle.exec_journal.specs.Batches.{IsTooLong, kept_free}
 use Rattle.exec_ledger.specs.Actives.{Active}
 use Rattle.ocf_env.specs.Instances.{registration_of}
 use Rattle.ocf_env.specs.Invocations.{IsInvocation}
-use Rattle.exec_turn.specs.Launches.{IsOfOne, IsStart, all_starting, what_starts}
+use Rattle.exec_turn.specs.Launches.{HasOwnLaunch, IsStart, actions_of_starts, action_of_start}
 use Rattle.exec_state.specs.Store.{Chooses}
 use Rattle.exec_turn.specs.Picks.{ArePicks, Cut, MayBegin, Picked, begin_of, begins}
 use Rattle.exec_turn.specs.declared.picks.StartOf.{StartOf}
@@ -82,7 +82,7 @@ pub may_more : (s : State) (tail at run size : ℕ) (bs : List Active) (a : Acti
     → length (encoded_batch (begins at (bs ++ a ∷ []))) ≡ size → tail + 5 + size + 1 + 32768 ≤ 8388608 → MayBegin s tail at (bs ++ a ∷ [])
 may_more s tail at run size bs a run_is drawn size_is fit = record {
   runs = omega (arith, run_is, drawn, longer bs a);
-  room =
+  reserve =
       λ some over. let over2 : 8388608
       < tail + 5 + length (encoded_batch (begins at (bs ++ a ∷ []))) + 1 + kept_free (begins at (bs ++ a ∷ [])) = over in
       absurd (omega (arith, kept at bs a, size_is, fit, over2));
@@ -152,10 +152,10 @@ pub batch_more : (at : ℕ) (bs : List Active) (a : Active) (batch longer_batch 
 batch_more at bs a batch longer_batch e grown batch_is e_is = grown ∙ (λ k. batch_is k ++ e_is k ∷ []) ∙ sym (begins_push at bs a)
 
 -- one more start
-pub starting_more : (xs ys : List (StartOf Call)) (x : StartOf Call) (a : Active) → ys ≡ xs ++ x ∷ [] → what_starts x ≡ a
-    → all_starting ys ≡ all_starting xs ++ a ∷ []
+pub starting_more : (xs ys : List (StartOf Call)) (x : StartOf Call) (a : Active) → ys ≡ xs ++ x ∷ [] → action_of_start x ≡ a
+    → actions_of_starts ys ≡ actions_of_starts xs ++ a ∷ []
 starting_more xs ys x a grown is =
-    ap all_starting grown ∙ map-append what_starts xs (x ∷ []) ∙ ap (λ (y : Active). all_starting xs ++ y ∷ []) is
+    ap actions_of_starts grown ∙ map-append action_of_start xs (x ∷ []) ∙ ap (λ (y : Active). actions_of_starts xs ++ y ∷ []) is
 
 pub one_longer : {A : Type 0} (xs ys : List A) (x : A) → ys ≡ xs ++ x ∷ [] → length ys ≡ length xs + 1
 one_longer xs ys x grown = ap (λ (l : List _). length l) grown ∙ longer xs x
@@ -165,6 +165,6 @@ each_push P [] x h k = (k, tt)
 each_push P (y ∷ ys) x h k = (h.0, each_push P ys x h.1 k)
 
 -- each start is of one action
-pub starts_of_one : (site : SiteView) (s : State) (xs : List (StartOf Call)) → AllByRecursion (IsStart site s) xs → AllByRecursion IsOfOne xs
+pub starts_of_one : (site : SiteView) (s : State) (xs : List (StartOf Call)) → AllByRecursion (IsStart site s) xs → AllByRecursion HasOwnLaunch xs
 starts_of_one site s [] h = tt
 starts_of_one site s (x ∷ xs) h = (h.0.of_one, starts_of_one site s xs h.1)

@@ -18,7 +18,7 @@ use Rattle.child_model.specs.declared.answer.Poll.{Poll}
 use Rattle.child_model.specs.declared.answer.Poll.TheVariants as poll
 use Rattle.exec_ledger.specs.Actives.{Active, active_in, active_of, runs_of, active}
 use Rattle.exec_turn.specs.Actives.{notice_of, result_of}
-use Rattle.exec_turn.specs.Polls.{IsPoll, Polled, Polls, after_polls, ending, is_late, ends_of, polled_on, result_notices, results, entries_of, polls, said}
+use Rattle.exec_turn.specs.Polls.{IsPoll, Polled, Polls, after_polls, ending, is_late, ends_of, polled_on, result_notices, results, entries_of, polls, book_entry}
 use Rattle.std.specs.Map.{keys_of}
 use Rattle.std.specs.Str.{bytes_eq}
 use Rattle.std.proofs.lemmas.List.Elements.{All-from_recursion}
@@ -57,7 +57,7 @@ record PolledAs (x : Running) (answer : Poll) (entries : List Entry) (end : Opti
 
 polled_once : (x : Running) (answer : Poll) (end : Option RunEnd) (v : ChildrenView)
     → (after_poll v x.run answer).live ≡ live_after end x.run v.live → (IsPoll answer → AllByRecursion IsRunEnd (option_to_list end))
-    → PolledAs x answer (said x.run (poll_answer answer) ∷ []) end v (after_poll v x.run answer)
+    → PolledAs x answer (book_entry x.run (poll_answer answer) ∷ []) end v (after_poll v x.run answer)
 polled_once x answer end v live ends = record {
   book = refl;
   log = refl;
@@ -74,10 +74,10 @@ polled_as : (at : ℕ) (x : Running) (answer : Poll) (kill : Result Unit KillFau
 polled_as at x poll.Running kill v = by (is_late at x)
   where
     first : Entry
-    first = said x.run (poll_answer poll.Running)
+    first = book_entry x.run (poll_answer poll.Running)
 
     last : Entry
-    last = said x.run (kill_answer kill)
+    last = book_entry x.run (kill_answer kill)
 
     by : (b : Bool) → PolledAs x poll.Running (first ∷ (if b then last ∷ [] else [])) (if b then Some run_end.TimedOut else None) v
         (if b then after_kill (after_poll v x.run poll.Running) x.run kill else after_poll v x.run poll.Running)

@@ -12,7 +12,7 @@ use Rattle.exec_state.specs.Resting.{Rests}
 use Rattle.exec_state.specs.Store.{Store, dues}
 use Rattle.exec_turn.specs.Picks.{ArePicks, Picked}
 use Rattle.ocf_env.specs.Locations.{Call}
-use Rattle.exec_turn.specs.Launches.{all_starting}
+use Rattle.exec_turn.specs.Launches.{actions_of_starts}
 use Rattle.exec_turn.specs.declared.picks.StartOf.{StartOf}
 use Rattle.exec_turn.proofs.Choosing.{own_found}
 
@@ -33,12 +33,12 @@ none_of s at run rest (e ∷ es) h =
 rest_picked : (s : Store) (tail at : ℕ) → IsLawfulState s.state → Rests s at → Picked turn_end.Done s.state (dues s) tail at []
 rest_picked s tail at lawful rest = (
   none_of s at s.state.next_run rest s.state.resources (own_found s.state.resources lawful.ids),
-  record { runs = omega (arith, lawful.next_run.1); room = λ lt. absurd (omega (arith, lt)) },
+  record { runs = omega (arith, lawful.next_run.1); reserve = λ lt. absurd (omega (arith, lt)) },
 )
 
 -- and there are no starts
 pub rests_picked : (s : Store) (tail at : ℕ) (xs : List (StartOf Call)) → IsLawfulState s.state → Rests s at → xs ≡ []
-    → Picked turn_end.Done s.state (dues s) tail at (all_starting xs)
+    → Picked turn_end.Done s.state (dues s) tail at (actions_of_starts xs)
 rests_picked s tail at xs lawful rest none =
-    subst (λ (l : List (StartOf Call)). Picked turn_end.Done s.state (dues s) tail at (all_starting l)) (sym none)
+    subst (λ (l : List (StartOf Call)). Picked turn_end.Done s.state (dues s) tail at (actions_of_starts l)) (sym none)
     (rest_picked s tail at lawful rest)

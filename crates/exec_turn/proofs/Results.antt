@@ -385,5 +385,5 @@ module _ {X : Type 0} (who : X → Active) (ends : X → List RunEnd) (one : (x 
         apply = ended_apply fit s at xs moment later can run apart;
         fits = omega (arith, ended_fit fit at xs can, few);
         plain = each_ended (λ e. IsRegistration e.change → ⊥) at (λ x e h. h) xs;
-        room = inl (ended_results at xs);
+        reserve = inl (ended_results at xs);
       }

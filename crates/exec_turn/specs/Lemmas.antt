@@ -10,7 +10,7 @@ use Rattle.ocf_types.specs.State.{State, after_all}
 use Rattle.disk_model.specs.Image.{Image}
 use Rattle.disk_model.specs.Lemmas.{started}
 use Rattle.disk_model.specs.Runs.{CrashesTo}
-use Rattle.disk_model.specs.View.{Lawful, View}
+use Rattle.disk_model.specs.Disk.{Lawful, DiskView}
 use Rattle.child_model.specs.Children.{Asked}
 use Rattle.child_model.specs.declared.answer.Entry.{Entry}
 use Rattle.exec_journal.specs.Found.{FoundAs}
@@ -20,7 +20,7 @@ use Rattle.exec_ledger.specs.Pieces.{HasBegin, CrashCondition, Prefix, is_begin}
 use Rattle.exec_turn.specs.Starts.{Started, starts}
 use Rattle.exec_ledger.specs.Lemmas.{asked_in, asked_none, asked_one, settles}
 
--- each start that was asked has its begin in the batch
+-- each start that was requested has its begin in the batch
 pub asked_starts : (at clock : ℕ) (xs : List Started) (run u : ℕ) → Asked (starts clock xs) run u
     → (u ≡ clock) × HasBegin run (begins at (map (λ x. x.what) xs))
 asked_starts at clock [] run u asked = absurd (asked_none run u asked)
@@ -36,8 +36,8 @@ asked_starts at clock (x ∷ xs) run u asked = ⊎_elim
     (later.0, or_right (x.what.running.run == run) (list_any (λ e. is_begin run e.change) (begins at (map (λ x. x.what) xs))) later.1))
     (asked_in (starts clock (x ∷ [])) (starts clock xs) run u asked)
 
--- Starts may be added to a part that recorded their begins: what a crash leaves from then on has all begins.
-pub then_started : {D : Type 0} (view : D → View) (old new : D) (s t : State) (at clock : ℕ) (bs : List Active) (xs : List Started)
+-- Starts may follow the batch that recorded their begins: what a crash leaves from then on has all begins.
+pub then_started : {D : Type 0} (view : D → DiskView) (old new : D) (s t : State) (at clock : ℕ) (bs : List Active) (xs : List Started)
     → ((view new).honest → Lawful (view new)) → clock ≡ (view new).clock → map (λ x. x.what) xs ≡ bs
     → CrashCondition view old new s t (record { entries = []; events = begins at bs; pending = [] })
     → CrashCondition view old new s t (record { entries = starts clock xs; events = begins at bs; pending = [] })

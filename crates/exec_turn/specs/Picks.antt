@@ -32,13 +32,13 @@ begin_of at a = record { at = at; change = change.Step a.id (step.Begin a.runnin
 abbrev pub begins : ℕ → List Active → List Event
 begins at begun = map (begin_of at) begun
 
--- In this state, and with the journal's last gate at this offset, there is a run number for each of these begins, and they leave
--- the reserve free; an empty batch always does.
+-- In this state there is a run number for each of these actions; and their begins, appended at the gate at offset `tail`, leave
+-- the reserve free, as an empty batch always does.
 pub record MayBegin (s : State) (tail at : ℕ) (begun : List Active) : Type 0 where
   pub runs : s.next_run + length begun ≤ num_max
-  pub room : 0 < length begun → IsTooLong tail (begins at begun) → ⊥
+  pub reserve : 0 < length begun → IsTooLong tail (begins at begun) → ⊥
 
--- The picks were cut before one of them, for a reason that holds of the batch with it.
+-- The picks ended before `next`, for a reason that holds of the actions begun together with `next`.
 pub record Cut (s : State) (due : Due) (at : ℕ) (begun : List Active) (Why : List Active → Type 0) : Type 0 where
   pub next : Active
   pub later : List Active

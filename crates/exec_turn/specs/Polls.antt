@@ -27,16 +27,16 @@ abbrev pub is_late : ℕ → Running → Bool
 is_late at x = nat_le (x.since + x.timeout) at
 
 -- an answer about a run, as an entry of the book
-abbrev pub said : ℕ → Answer → Entry
-said run answer = record { run = run; at = 0; answer = answer }
+abbrev pub book_entry : ℕ → Answer → Entry
+book_entry run answer = record { run = run; at = 0; answer = answer }
 
 -- the entries of a poll in the book: the poll, and the kill of an action that runs past its timeout
 abbrev pub entries_of : ℕ → Running → Poll → Result Unit KillFault → List Entry
 entries_of at x poll.Running kill =
-    said x.run (poll_answer poll.Running) ∷ (if is_late at x then said x.run (kill_answer kill) ∷ [] else [])
-entries_of at x (poll.Exited code) kill = said x.run (poll_answer (poll.Exited code)) ∷ []
-entries_of at x (poll.Signaled signal) kill = said x.run (poll_answer (poll.Signaled signal)) ∷ []
-entries_of at x poll.Fault kill = said x.run (poll_answer poll.Fault) ∷ []
+    book_entry x.run (poll_answer poll.Running) ∷ (if is_late at x then book_entry x.run (kill_answer kill) ∷ [] else [])
+entries_of at x (poll.Exited code) kill = book_entry x.run (poll_answer (poll.Exited code)) ∷ []
+entries_of at x (poll.Signaled signal) kill = book_entry x.run (poll_answer (poll.Signaled signal)) ∷ []
+entries_of at x poll.Fault kill = book_entry x.run (poll_answer poll.Fault) ∷ []
 
 -- the children after a poll
 abbrev pub polled_on : ℕ → Running → Poll → Result Unit KillFault → ChildrenView → ChildrenView

@@ -20,13 +20,13 @@ pub record EachPolled (x : BatchStart) (ps : List Polled) : Type 0 where
   pub each : map (λ p. p.who) ps ≡ active x.state
   pub bytes : AllByRecursion (λ p. IsPoll p.poll) ps
 
--- the actions begun from this view, by what ended the picks; want of memory ends them only where the allocator refuses growths
+-- the actions begun from this view, by what ended the picks; lack of memory ends them only where the allocator refuses growths
 abbrev pub PickedAt : TurnEnd → BatchStart → List Active → Type 0
 PickedAt end x bs = Picked end x.state x.due x.position.tail x.at bs × (end ≡ turn_end.Memory → IsTrue x.refuses)
 
--- The answers in a turn: a poll of each running action, the actions begun after their results, and a start of each of these, all
--- in order of registration, when the journal's disk had had this many device calls.
-pub record TurnReport (end : TurnEnd) (x : BatchStart) : Type 0 where
+-- The answers in a turn: to a poll of each running action, and to a start of each action begun after their results, in order of
+-- registration; the starts were requested when the journal's disk had had `clock` device calls.
+pub record TurnAnswers (end : TurnEnd) (x : BatchStart) : Type 0 where
   pub polled : List Polled
   pub begun : List Active
   pub started : List Started
@@ -37,7 +37,7 @@ pub record TurnReport (end : TurnEnd) (x : BatchStart) : Type 0 where
 
 -- a turn with these answers that left nothing pending
 abbrev pub Whole : TurnEnd → BatchStart → Effects → List Notice → Type 0
-Whole end x did reported = (t : TurnReport end x)
+Whole end x did reported = (t : TurnAnswers end x)
     × (did ≡ record {
       entries = polls x.at t.polled ++ starts t.clock t.started;
       events = results x.at t.polled ++ begins x.at t.begun ++ refusals x.at t.started;
@@ -45,29 +45,29 @@ Whole end x did reported = (t : TurnReport end x)
     })
     × (reported ≡ result_notices x.at t.polled ++ refusal_notices x.at t.started)
 
--- one that did nothing
+-- a turn that did nothing
 abbrev pub Nothing : Effects → List Notice → Type 0
 Nothing did reported = (did ≡ no_effects) × (reported ≡ [])
 
--- one whose batch of results was recorded, and which began nothing
+-- a turn whose batch of results was recorded, and which began nothing
 abbrev pub OnlyResults : BatchStart → Effects → List Notice → Type 0
 OnlyResults x did reported = (ps : List Polled) × EachPolled x ps
     × (did ≡ record { entries = polls x.at ps; events = results x.at ps; pending = [] }) × (reported ≡ result_notices x.at ps)
 
--- one whose batch of results failed: it polled, and no more
+-- a turn whose batch of results failed: it polled, and no more
 abbrev pub NoResults : BatchStart → Effects → List Notice → Type 0
 NoResults x did reported = (ps : List Polled) × EachPolled x ps
     × (did ≡ record { entries = polls x.at ps; events = []; pending = results x.at ps }) × (reported ≡ [])
 
--- one whose batch of begins failed: nothing was spawned
+-- a turn whose batch of begins failed: nothing was spawned
 abbrev pub NoBegins : BatchStart → Effects → List Notice → Type 0
 NoBegins x did reported = (ps : List Polled) × (end : TurnEnd) × (bs : List Active) × EachPolled x ps
     × PickedAt end (following x (results x.at ps)) bs
     × (did ≡ record { entries = polls x.at ps; events = results x.at ps; pending = begins x.at bs }) × (reported ≡ result_notices x.at ps)
 
--- one whose batch of refused starts failed
+-- a turn whose batch of results of refused starts failed, after all agents were spawned
 abbrev pub NoRefusals : BatchStart → Effects → List Notice → Type 0
-NoRefusals x did reported = (end : TurnEnd) × (t : TurnReport end x)
+NoRefusals x did reported = (end : TurnEnd) × (t : TurnAnswers end x)
     × (did ≡ record {
       entries = polls x.at t.polled ++ starts t.clock t.started;
       events = results x.at t.polled ++ begins x.at t.begun;
@@ -82,7 +82,7 @@ IsTurn turn_end.BookFull x did reported = Nothing did reported
 IsTurn turn_end.Disk x did reported = NoResults x did reported ⊎ (NoBegins x did reported ⊎ NoRefusals x did reported)
 IsTurn end x did reported = Whole end x did reported
 
--- one that begins nothing, by its end
+-- a turn that begins nothing, by its end
 abbrev pub IsFinish : TurnKind
 IsFinish turn_end.Done x did reported = OnlyResults x did reported
 IsFinish turn_end.BookFull x did reported = Nothing did reported

@@ -1,4 +1,4 @@
--- The contracts of a turn and of its three steps.
+-- The contracts of a turn and of its three batches.
 use Rattle.std.specs.Prelude.{◌≡◌, ◌≢◌, ◌*◌, ◌+◌, ◌<◌, ◌≤◌, List, [], ◌++◌, length, map, Result, Ok, Err, IfOk, OnErr, is_ok, if◌then◌else◌}
 use Rattle.std.specs.List.{AllByRecursion}
 use Rattle.ocf_types.specs.Due.{Due}
@@ -6,13 +6,13 @@ use Rattle.ocf_types.specs.State.{State}
 use Rattle.ocf_types.specs.declared.reply.Notice.{Notice}
 use Rattle.ocf_types.specs.declared.reply.TurnEnd.{TurnEnd}
 use Rattle.ocf_types.specs.declared.reply.TurnEnd.TheVariants as turn_end
-use Rattle.disk_model.specs.View.{Increased, View}
+use Rattle.disk_model.specs.Disk.{Increased, DiskView}
 use Rattle.disk_model.specs.declared.disk.DiskFault.{DiskFault}
 use Rattle.ocf_env.specs.Locations.{Call}
 use Rattle.child_model.specs.Children.{ChildrenView}
 use Rattle.exec_ledger.specs.Actives.{Active}
 use Rattle.exec_turn.specs.AgentsLive.{AgentsLive, AgentsLiveBut}
-use Rattle.exec_turn.specs.Launches.{AllLaunch, IsOfOne, all_starting}
+use Rattle.exec_turn.specs.Launches.{AllLaunch, HasOwnLaunch, actions_of_starts}
 use Rattle.exec_turn.specs.Picks.{begins}
 use Rattle.exec_ledger.specs.Pieces.{Effects, CrashCondition, batch_effects}
 use Rattle.exec_turn.specs.Polls.{Polled, polls, result_notices, results}
@@ -22,13 +22,13 @@ use Rattle.exec_ledger.specs.BatchStarts.{Moves, RecordsBatch, BatchStart, due_a
 use Rattle.exec_turn.specs.declared.buffers.TurnBuffers.{TurnBuffers}
 use Rattle.exec_turn.specs.declared.picks.StartOf.{StartOf}
 
--- the agent processes of all running actions live, and the next run is above all whose start was asked
+-- the agent processes of all running actions live, and the next run number is above every run whose start was requested
 pub record ChildrenMatch (s : State) (v : ChildrenView) : Type 0 where
   pub agents_live : AgentsLive s v.live
   pub rising : v.last_run < s.next_run
 
--- The first step: polls, and the batch of their results.
-pub record PollsBatch {D : Type 0} (view : D → View) (k l : D) (x y : BatchStart) (from to : ChildrenView) (reported : List Notice)
+-- The first batch: polls, and their results.
+pub record PollsBatch {D : Type 0} (view : D → DiskView) (k l : D) (x y : BatchStart) (from to : ChildrenView) (reported : List Notice)
     (result : Result Unit DiskFault) : Type 0 where
   pub answers : List Polled
   pub each : EachPolled x answers
@@ -41,25 +41,25 @@ pub record PollsBatch {D : Type 0} (view : D → View) (k l : D) (x y : BatchSta
   pub cause : OnErr result (Increased (view k).failures (view l).failures)
   pub reported_is : reported ≡ (if is_ok result then result_notices x.at answers else [])
 
--- The second: the actions begun, by what ended the picks, and the batch of begins.
-pub record BeginsBatch {D : Type 0} (view : D → View) (k l : D) (x y : BatchStart) (begun : List Active) (result : Result TurnEnd DiskFault) : Type 0 where
+-- The second batch: the actions begun, by what ended the picks, and their begins.
+pub record BeginsBatch {D : Type 0} (view : D → DiskView) (k l : D) (x y : BatchStart) (begun : List Active) (result : Result TurnEnd DiskFault) : Type 0 where
   pub end : TurnEnd
   pub ended : IfOk result (λ reported. reported ≡ end)
   pub picked : PickedAt end x begun
   pub recorded : RecordsBatch view k l x y (begins x.at begun) result
 
--- These may be started: each runs, has the launch of its action, and its run is above all whose start was asked; the agent
+-- These may be started: each runs, has the launch of its action, and a run above all whose start was requested; the agent
 -- processes of all other running actions live.
 pub record Startable (s : State) (v : ChildrenView) (begun : List (StartOf Call)) : Type 0 where
-  pub run : AllRun s (all_starting begun)
+  pub run : AllRun s (actions_of_starts begun)
   pub launches : AllLaunch v.site s begun
-  pub of_one : AllByRecursion IsOfOne begun
-  pub rising : Rising v.last_run (all_starting begun)
+  pub of_one : AllByRecursion HasOwnLaunch begun
+  pub rising : Rising v.last_run (actions_of_starts begun)
   pub last : v.last_run < s.next_run
-  pub agents_live : AgentsLiveBut s v.live (all_starting begun)
+  pub agents_live : AgentsLiveBut s v.live (actions_of_starts begun)
 
--- The third: starts, and the batch of results of those that were refused.
-pub record StartsBatch {D : Type 0} (view : D → View) (k l : D) (x y : BatchStart) (begun : List Active) (from to : ChildrenView)
+-- The third batch: starts, and the results of those that were refused.
+pub record StartsBatch {D : Type 0} (view : D → DiskView) (k l : D) (x y : BatchStart) (begun : List Active) (from to : ChildrenView)
     (was reported : List Notice) (result : Result Unit DiskFault) : Type 0 where
   pub answers : List Started
   pub each : map (λ a. a.what) answers ≡ begun
@@ -75,7 +75,7 @@ end_of (Ok end) = end
 end_of (Err fault) = turn_end.Disk
 
 -- A turn of a kind, of an open executor: from the view before it to a state, due moments and children, with its notices.
-pub record TurnsAs {D : Type 0} (kind : TurnKind) (view : D → View) (old new : D) (x : BatchStart) (t : State) (due : Due) (from to : ChildrenView)
+pub record TurnsAs {D : Type 0} (kind : TurnKind) (view : D → DiskView) (old new : D) (x : BatchStart) (t : State) (due : Due) (from to : ChildrenView)
     (reported : List Notice) (end : TurnEnd) : Type 0 where
   pub effects : Effects
   pub book : to.book ≡ from.book ++ effects.entries
@@ -92,12 +92,12 @@ pub record TurnsAs {D : Type 0} (kind : TurnKind) (view : D → View) (old new :
   pub cause : end ≡ turn_end.Disk → Increased (view old).failures (view new).failures
 
 -- a turn that begins what has to begin, and one that begins nothing
-abbrev pub Turns : {D : Type 0} → (D → View) → D → D → BatchStart → State → Due → ChildrenView → ChildrenView → List Notice → TurnEnd → Type 0
+abbrev pub Turns : {D : Type 0} → (D → DiskView) → D → D → BatchStart → State → Due → ChildrenView → ChildrenView → List Notice → TurnEnd → Type 0
 Turns view old new x t due from to reported end = TurnsAs IsTurn view old new x t due from to reported end
 
-abbrev pub Finishes : {D : Type 0} → (D → View) → D → D → BatchStart → State → Due → ChildrenView → ChildrenView → List Notice → TurnEnd → Type 0
+abbrev pub Finishes : {D : Type 0} → (D → DiskView) → D → D → BatchStart → State → Due → ChildrenView → ChildrenView → List Notice → TurnEnd → Type 0
 Finishes view old new x t due from to reported end = TurnsAs IsFinish view old new x t due from to reported end
 
 -- the notices of the last turn
-abbrev pub reports_of : {M : Type 0} → TurnBuffers M → List Notice
-reports_of batches = batches.notices.items
+abbrev pub turn_notices : {M : Type 0} → TurnBuffers M → List Notice
+turn_notices buffers = buffers.notices.items

@@ -4,7 +4,7 @@ ghost use Rattle.ocf_types.specs.Answer.{moment};
 ghost use Rattle.exec_ledger.specs.LedgerView.{due_in};
 ghost use Rattle.exec_ledger.specs.BatchStarts.{batch_start_of};
 ghost use Rattle.exec_turn.specs.Actives.{any_running};
-ghost use Rattle.exec_turn.specs.Turns.{ChildrenMatch, Finishes, reports_of};
+ghost use Rattle.exec_turn.specs.Turns.{ChildrenMatch, Finishes, turn_notices};
 
 use crate::buffers::TurnBuffers;
 use crate::turn::record_polls;
@@ -32,12 +32,12 @@ pub fn runs_any<A: Grows>(state: &State<A>) -> bool
 /// order of registration, and killed where it runs past its timeout. Queued actions stay queued, and due monitors stay due.
 ///
 /// A result is recorded before it is reported. The turn ends with `BookFull`, having done nothing, where the children's book
-/// takes less than two entries a resource; with `Disk` where the journal's device failed, which closes the ledger; and else with
-/// `Done`. It allocates nothing.
+/// has no capacity for two entries per resource; with `Disk` if the journal's device failed, which closes the ledger; else with
+/// `Done`. It allocates nothing itself; the children may, in `end_killed`.
 pub fn finish_turn<D: Disk + Drop, C: Children, A: Grows>(
     ledger: &mut Ledger<D, A>,
     children: &mut C,
-    batches: &mut TurnBuffers<A>,
+    buffers: &mut TurnBuffers<A>,
     now: u64,
 ) -> TurnEnd
     requires open { ledger.old.is_open ≡ true }
@@ -45,7 +45,7 @@ pub fn finish_turn<D: Disk + Drop, C: Children, A: Grows>(
     ensures finishes { Finishes D.view ledger.old.disk ledger.new.disk
         (batch_start_of ledger.old (moment ledger.old.state now)) ledger.new.state
         (due_in ledger.new)
-        (C.view children.old) (C.view children.new) (reports_of batches.new) result }
+        (C.view children.old) (C.view children.new) (turn_notices buffers.new) result }
     ensures full { result ≡ TurnEnd.BookFull
         ↔ (C.view children.old).room < 2 * length ledger.old.state.resources }
     ensures unchanged { result ≡ TurnEnd.BookFull
@@ -57,11 +57,11 @@ pub fn finish_turn<D: Disk + Drop, C: Children, A: Grows>(
     ledger.lemma_known();
     let state = ledger.state();
     if children.room() / 2 < state.len() {
-        batches.notices.clear();
+        buffers.notices.clear();
         return TurnEnd::BookFull;
     }
     let at = state.moment(now);
-    match record_polls(ledger, children, batches, at) {
+    match record_polls(ledger, children, buffers, at) {
         Ok(()) => TurnEnd::Done,
         Err(DiskFault) => TurnEnd::Disk,
     }

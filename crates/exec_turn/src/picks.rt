@@ -7,7 +7,7 @@ ghost use Rattle.exec_state.specs.Store.{dues};
 ghost use Rattle.ocf_types.specs.Limits.{longest_begin};
 ghost use Rattle.ocf_types.specs.Indexes.{id_at};
 ghost use Rattle.ocf_types.specs.Encoding.{encoded_event};
-ghost use Rattle.exec_turn.specs.Launches.{IsStart, all_starting, what_starts};
+ghost use Rattle.exec_turn.specs.Launches.{IsStart, actions_of_starts, action_of_start};
 ghost use Rattle.exec_turn.specs.Picks.{Picked, begin_of, begins};
 
 use disk_model::Disk;
@@ -19,14 +19,14 @@ use ocf_types::laws::lemma_lengths;
 use ocf_types::{Change, Event, EventOf, Moment, RunId, Running, StateView, Step, TurnEnd};
 use std::alloc::{AllocError, Allocator, Global};
 
-/// An action that has begun, and its launch. `I` is the type of the call.
+/// An action to be spawned once its begin is recorded, and its launch. `I` is the type of the invocation.
 #[derive(Drop)]
 pub(crate) struct StartOf<I> {
     pub(crate) launch: LaunchOf<I>,
     pub(crate) running: Running,
 }
 
-/// A start whose texts lie in memory of the allocator.
+/// A start whose strings are allocated by `A`.
 pub(crate) type Start<A = Global> = StartOf<Invocation<A>>;
 
 // The begin of an action of the resource at an index.
@@ -48,7 +48,7 @@ fn begin_at<A: Grows>(state: &State<A>, index: usize, running: &Running, at: Mom
     }
 }
 
-// The start of an action of the resource at an index: the only error is want of memory.
+// The start of an action of the resource at an index. The only error is a refused allocation.
 fn start_of<A: Grows, S: Allocator>(
     alloc: A,
     site: &Site<S>,
@@ -59,7 +59,7 @@ fn start_of<A: Grows, S: Allocator>(
     requires index { index < length state.now.state.resources }
     ensures start { IfOk result (IsStart site.now state.now.state) }
     ensures what { IfOk result
-        (λ start. what_starts start
+        (λ start. action_of_start start
         ≡ record { id = id_at state.now.state index; running = running }) }
     ensures memory { OnErr result (IsTrue A.refuses) }
 {
@@ -75,9 +75,9 @@ fn start_of<A: Grows, S: Allocator>(
     Ok(StartOf { launch, running })
 }
 
-/// Picks the action that each resource has to begin, in order of registration: the batch of their begins, and their starts.
-/// Stops at the first action for which run numbers, journal space or memory have run out. Where it is known that nothing has to
-/// begin, no resource is asked.
+/// Picks the action that each resource begins at `at`, in order of registration; puts its begin into `batch` and its start into
+/// `starts`. Ends before the first action for which run numbers, journal space or memory have run out, and returns which; else
+/// `Done`. Where [`State::rests`] says that nothing begins, no resource is looked at.
 pub(crate) fn pick_all<D: Disk + Drop, A: Grows, S: Allocator>(
     alloc: A,
     site: &Site<S>,
@@ -90,13 +90,13 @@ pub(crate) fn pick_all<D: Disk + Drop, A: Grows, S: Allocator>(
     requires batch_room { length state.now.state.resources ≤ vec_capacity batch.old }
     requires start_room { length state.now.state.resources ≤ vec_capacity starts.old }
     ensures picked { Picked result state.now.state (dues state.now)
-        (journal_position journal.now).tail at (all_starting starts.new.items) }
-    ensures memory { result ≡ TurnEnd.Memory → IsTrue A.refuses }
-    ensures batch { batch.new.items ≡ begins at (all_starting starts.new.items) }
+        (journal_position journal.now).tail at (actions_of_starts starts.new.items) }
+    ensures batch { batch.new.items ≡ begins at (actions_of_starts starts.new.items) }
     ensures are_starts { AllByRecursion (IsStart site.now state.now.state) starts.new.items }
     ensures few { vec_len starts.new ≤ length state.now.state.resources }
     ensures batch_room { vec_capacity batch.new ≡ vec_capacity batch.old }
     ensures start_room { vec_capacity starts.new ≡ vec_capacity starts.old }
+    ensures memory { result ≡ TurnEnd.Memory → IsTrue A.refuses }
 {
     batch.clear();
     starts.clear();

@@ -28,7 +28,7 @@ fn is_late(running: &Running, at: Moment) -> bool
 }
 
 // Polls one action, and kills it where it runs past its timeout: how it ended, if it did.
-fn ask<C: Children>(children: &mut C, running: &Running, at: Moment) -> Option<RunEnd>
+fn poll_one<C: Children>(children: &mut C, running: &Running, at: Moment) -> Option<RunEnd>
     requires room { 2 ≤ (C.view children.old).room }
     requires lives { Contains (C.view children.old).live running.now.run }
     ensures polled { (answer : Poll) × (kill : Result Unit KillFault) × IsPoll answer
@@ -77,7 +77,7 @@ fn poll_at<C: Children, A: Grows>(
     let Some(running) = state.running_at(index) else {
         return;
     };
-    let Some(end) = ask(children, &running, at) else {
+    let Some(end) = poll_one(children, &running, at) else {
         return;
     };
     let id = state.id_at(index).copied();
@@ -89,8 +89,8 @@ fn poll_at<C: Children, A: Grows>(
     notices.push_reserved(notice);
 }
 
-/// Polls every running action, in order of registration: the batch of their results, and their notices. Every killed process
-/// has ended when it returns.
+/// Polls every running action, in order of registration, and leaves the batch of their results in `batch` and their notices in
+/// `notices`. Then it ends the agents that it killed, all together; one that lives on is the children's matter.
 pub(crate) fn poll_all<C: Children, A: Grows>(
     state: &State<A>,
     children: &mut C,

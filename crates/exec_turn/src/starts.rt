@@ -9,7 +9,7 @@ ghost use Rattle.child_model.specs.MayStart.{IsLaunch};
 ghost use Rattle.exec_journal.specs.Journal.{InSync, journal_disk};
 ghost use Rattle.exec_turn.specs.Buffers.{GrowsInRoom};
 ghost use Rattle.exec_turn.specs.Actives.{notice_of, result_of};
-ghost use Rattle.exec_turn.specs.Launches.{AllLaunch, IsOfOne, all_starting, what_starts};
+ghost use Rattle.exec_turn.specs.Launches.{AllLaunch, HasOwnLaunch, actions_of_starts, action_of_start};
 ghost use Rattle.exec_turn.specs.Starts.{Rising, Starts, refused_end};
 
 use crate::picks::Start;
@@ -21,7 +21,7 @@ use growth::Grows;
 use ocf_types::{Change, Event, EventOf, Moment, Notice, Outcome, RunEnd, Step};
 use op_history::run_notice;
 
-// Spawns one of them: if that is refused, its result is appended to the batch, and its notice to the notices.
+// Spawns the agent of one start: if that is refused, its result is appended to the batch, and its notice to the notices.
 fn start_one<D: Disk + Drop, C: Children, A: Grows>(
     state: &State<A>,
     journal: &Journal<D, A>,
@@ -33,7 +33,7 @@ fn start_one<D: Disk + Drop, C: Children, A: Grows>(
 )
     requires settled { InSync journal.now (D.view (journal_disk journal.now)) state.now.state }
     requires launches { IsLaunch (C.view children.old).site state.now.state start.now.launch }
-    requires of_one { IsOfOne start.now }
+    requires of_one { HasOwnLaunch start.now }
     requires rising { (C.view children.old).last_run < start.now.running.run }
     requires few { length (C.view children.old).live < live_limit }
     requires room { 0 < (C.view children.old).room }
@@ -43,9 +43,9 @@ fn start_one<D: Disk + Drop, C: Children, A: Grows>(
         × (C.view children.new
         ≡ after_start (C.view children.old) start.now.running.run
         (D.view (journal_disk journal.now)).clock answer)
-        × (batch.new.items ≡ batch.old.items ++ map (result_of at (what_starts start.now))
+        × (batch.new.items ≡ batch.old.items ++ map (result_of at (action_of_start start.now))
         (refused_end answer))
-        × (notices.new.items ≡ notices.old.items ++ map (notice_of at (what_starts start.now))
+        × (notices.new.items ≡ notices.old.items ++ map (notice_of at (action_of_start start.now))
         (refused_end answer)) }
     ensures batch { GrowsInRoom 1 batch.old batch.new }
     ensures notices { GrowsInRoom 1 notices.old notices.new }
@@ -61,8 +61,8 @@ fn start_one<D: Disk + Drop, C: Children, A: Grows>(
     notices.push_reserved(notice);
 }
 
-/// Spawns each of these, in order, where the journal is settled at a state in which all of them run: the batch of results of
-/// those that were refused, and their notices.
+/// Spawns the agent of each start, in order. The journal must be settled at a state in which all these actions run. `batch`
+/// becomes the results of the refused ones, and their notices are appended to `notices`.
 pub(crate) fn start_all<D: Disk + Drop, C: Children, A: Grows>(
     state: &State<A>,
     journal: &Journal<D, A>,
@@ -74,14 +74,14 @@ pub(crate) fn start_all<D: Disk + Drop, C: Children, A: Grows>(
 )
     requires settled { InSync journal.now (D.view (journal_disk journal.now)) state.now.state }
     requires launches { AllLaunch (C.view children.old).site state.now.state starts.now }
-    requires of_one { AllByRecursion IsOfOne starts.now }
-    requires rising { Rising (C.view children.old).last_run (all_starting starts.now) }
+    requires of_one { AllByRecursion HasOwnLaunch starts.now }
+    requires rising { Rising (C.view children.old).last_run (actions_of_starts starts.now) }
     requires few { length (C.view children.old).live + length starts.now ≤ live_limit }
     requires room { length starts.now ≤ (C.view children.old).room }
     requires batch_room { length starts.now ≤ vec_capacity batch.old }
     requires notice_room { vec_len notices.old + length starts.now ≤ vec_capacity notices.old }
     ensures started { (reported : List Notice)
-        × Starts at (D.view (journal_disk journal.now)).clock (all_starting starts.now)
+        × Starts at (D.view (journal_disk journal.now)).clock (actions_of_starts starts.now)
         (C.view children.old)
         (C.view children.new) batch.new.items reported
         × (notices.new.items ≡ notices.old.items ++ reported) }

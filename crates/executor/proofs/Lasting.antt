@@ -6,7 +6,7 @@ use Rattle.ocf_types.specs.declared.command.RequestOf.TheVariants as asked
 use Rattle.ocf_types.specs.declared.refusal.Refusal.{Refusal}
 use Rattle.ocf_types.specs.declared.reply.TidyEnd.{TidyEnd}
 use Rattle.ocf_types.specs.declared.reply.TurnEnd.{TurnEnd}
-use Rattle.disk_model.specs.View.{View}
+use Rattle.disk_model.specs.Disk.{DiskView}
 use Rattle.exec_ledger.specs.Commands.{Obeys}
 use Rattle.exec_ledger.specs.LedgerView.{LedgerView}
 use Rattle.exec_ledger.specs.Pieces.{Effects}
@@ -26,7 +26,7 @@ pub record Lasts {D : Type 0} (x y : ExecutorView D) : Type 0 where
 same_lasts : {D : Type 0} (x y : ExecutorView D) → y ≡ x → Lasts x y
 same_lasts x y same = record { opening_report = ap (λ (z : ExecutorView _). z.opening_report) same; refuses = ap (λ (z : ExecutorView _). z.refuses) same }
 
-module _ {D : Type 0} (view : D → View) where
+module _ {D : Type 0} (view : D → DiskView) where
   obeyed : (v : Result Event Refusal) (x y : ExecutorView D) (r : Reply) → Obeys view v (ledger_of x) (ledger_of y) r → y.refuses ≡ x.refuses
   obeyed (Err refusal) x y r obeys = ap (λ (h : LedgerView D). h.refuses) obeys.1
   obeyed (Ok e) x y r obeys = obeys.allocator

@@ -1,4 +1,4 @@
--- Want of memory is reported only where the allocator refuses memory.
+-- Lack of memory is reported only where the allocator refuses memory.
 use Rattle.std.proofs.Common.{◌≡◌, ℕ, Bool, true, false, List, [], ◌∷◌, Result, Ok, Err, Contains, IsTrue, refl, sym, ap, subst, ◌∙◌}
 use Rattle.std.specs.List.{AllByRecursion}
 use Rattle.std.proofs.lemmas.List.Elements.{All-from_recursion}
@@ -10,7 +10,7 @@ use Rattle.ocf_types.specs.declared.refusal.Refusal.TheVariants.{Closed, Memory}
 use Rattle.ocf_types.specs.declared.reply.ReplyOf.TheVariants as reply
 use Rattle.ocf_types.specs.declared.reply.TurnEnd.{TurnEnd}
 use Rattle.ocf_types.specs.declared.reply.TurnEnd.TheVariants as turn_end
-use Rattle.disk_model.specs.View.{View}
+use Rattle.disk_model.specs.Disk.{DiskView}
 use Rattle.exec_ledger.specs.Commands.{Obeys}
 use Rattle.exec_ledger.specs.Replies.{MemoryOnlyIf}
 use Rattle.exec_ledger.specs.BatchStarts.{batch_start}
@@ -44,7 +44,7 @@ among : (b : Bool) (rs : List Reply) → AllByRecursion (MemoryOnlyIf b) rs → 
 among b rs all (k, lt, is) =
     subst (MemoryOnlyIf b) is (All-from_recursion (MemoryOnlyIf b) rs all k (reply.Refused Memory) lt) refl
 
-module _ {D : Type 0} (view : D → View) where
+module _ {D : Type 0} (view : D → DiskView) where
   -- requests
   asked_refused : (v : Result Event Refusal) (now : ℕ) (c : Command) (x y : ExecutorView D) (r : Reply) → event_of x.state now c ≡ v
       → Obeys view v (ledger_of x) (ledger_of y) r → r ≡ reply.Refused Memory → IsTrue x.refuses
@@ -90,7 +90,7 @@ module _ {D : Type 0} (view : D → View) where
   memory_reported Cleared x y d does lacks = absurd lacks
   memory_reported Abandoned x y d does lacks = absurd lacks
 
-  -- so where no growth is refused no call reports want of memory
+  -- so where no growth is refused no call reports lack of memory
   pub memory_there : (x y : ExecutorView D) (es : List Exchange) (d : Effects) → Calls view x es y d → x.refuses ≡ false
       → AllByRecursion (λ e. LacksMemory e → ⊥) es
   memory_there x y [] d calls none = tt

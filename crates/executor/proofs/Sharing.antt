@@ -11,7 +11,7 @@ use Rattle.ocf_types.specs.declared.refusal.Refusal.TheVariants.{Disk, Memory, U
 use Rattle.ocf_types.specs.declared.reply.ReplyOf.TheVariants.{Refused}
 use Rattle.ocf_types.specs.declared.reply.TidyEnd.{TidyEnd}
 use Rattle.ocf_types.specs.declared.reply.TidyEnd.TheVariants.{Closed}
-use Rattle.disk_model.specs.View.{View}
+use Rattle.disk_model.specs.Disk.{DiskView}
 use Rattle.exec_state.specs.Answers.{IsReplyOrMemory}
 use Rattle.exec_ledger.specs.Commands.{TakesCommand}
 use Rattle.exec_ledger.specs.LedgerView.{LedgerView, While}
@@ -25,7 +25,7 @@ use Rattle.executor.specs.ExecutorView.{ChildrenInvariant, ExecutorView, ledger_
 use Rattle.executor.specs.TidyCalls.{TidiesWhile}
 use Rattle.executor.proofs.Keeping.{kept_tends}
 
-module _ {D : Type 0} (view : D → View) (now : ℕ) where
+module _ {D : Type 0} (view : D → DiskView) (now : ℕ) where
   -- a ledger that ended open began open
   pub command_open : (b : Bool) (c : Command) (r : Reply) (h k : LedgerView D) → TakesCommand view now c h k r → k.is_open ≡ true → h.is_open ≡ b
       → h.is_open ≡ true
@@ -64,12 +64,12 @@ question_kept s q r answers = given_kept (reply_to s q) r (by q) answers
     by (question.History id) is = sent_kept (resource_at s id) _ (λ x bad. cc) is
 
 -- a tidy of a ledger is one of its executor, and leaves what is beside it
-pub tidy_taken : {D : Type 0} (view : D → View) (b : Bool) (x : ExecutorView D) (h : LedgerView D) (end : TidyEnd)
+pub tidy_taken : {D : Type 0} (view : D → DiskView) (b : Bool) (x : ExecutorView D) (h : LedgerView D) (end : TidyEnd)
     → While b (LedgerTidies view (ledger_of x) h end) ((end ≡ Closed) × (h ≡ ledger_of x)) → TidiesWhile b view x (with_ledger x h) end
 tidy_taken view true x h end tidies = (tidies, still_beside x h)
 tidy_taken view false x h end tidies = (tidies.0, same_view x (with_ledger x h) tidies.1 (still_beside x h))
 
-pub tidied_tends : {D : Type 0} (view : D → View) (b : Bool) (x : ExecutorView D) (h : LedgerView D) (end : TidyEnd) → x.is_open ≡ b
+pub tidied_tends : {D : Type 0} (view : D → DiskView) (b : Bool) (x : ExecutorView D) (h : LedgerView D) (end : TidyEnd) → x.is_open ≡ b
     → While b (LedgerTidies view (ledger_of x) h end) ((end ≡ Closed) × (h ≡ ledger_of x)) → ChildrenInvariant x → ChildrenInvariant (with_ledger x h)
 tidied_tends view true x h end was tidies tended is =
     kept_tends (ledger_of x) h x.children x.site x.reported x.reported x.opening_report (same_runs x.state h.state (ap (λ (y : LedgerView _). y.state) tidies.same)) (tended was)

@@ -4,7 +4,7 @@ use Rattle.std.specs.List.{AllByRecursion, flat_map}
 use Rattle.std.proofs.Common.{true≢false, refl, sym, ap, subst, ◌∙◌}
 use Rattle.ocf_types.specs.Kinds.{Command, Reply}
 use Rattle.ocf_types.specs.declared.command.RequestOf.TheVariants as asked
-use Rattle.disk_model.specs.View.{View}
+use Rattle.disk_model.specs.Disk.{DiskView}
 use Rattle.exec_ledger.specs.Commands.{TakesCommand}
 use Rattle.exec_ledger.specs.LedgerView.{LedgerView}
 use Rattle.exec_ledger.specs.Lemmas.{of_closed, of_open, while_closed, while_open}
@@ -46,7 +46,7 @@ at_once now [] = tt
 at_once now (Single c r ∷ ss) = (refl, at_once now ss)
 at_once now (GroupedBatch cs rs ∷ ss) = (refl, at_once now ss)
 
-module _ {D : Type 0} (view : D → View) (now : ℕ) where
+module _ {D : Type 0} (view : D → DiskView) (now : ℕ) where
   pub command_served : (b : Bool) (c : Command) (r : Reply) (x : ExecutorView D) (h : LedgerView D) → x.is_open ≡ b
       → TakesCommand view now c (ledger_of x) h r → Serves view now (asked.Command c) x (with_ledger x h) r
   command_served true c r x h was does = while_open _ was ((of_open _ _ was does).0, still_beside x h)

@@ -15,8 +15,9 @@ use Rattle.executor.specs.Machine.{Label, Machine, MovesAll}
 use Rattle.executor.specs.Interruptions.{dropped, interrupted}
 use Rattle.executor.specs.declared.opening.OpenError.{OpenError}
 
--- the observations of an incarnation whose opening was done: its moment, the interruptions and drops that its opening reported, the calls
--- that returned, those under way at the crash, how many device calls the disk had had then, and whether its allocator refuses growths
+-- the observations of an incarnation whose opening succeeded: its moment, the interruptions and drops that its opening
+-- reported, the calls that returned, those under way at the crash, how many device calls the disk had had then, and whether its
+-- allocator refuses growths
 pub record SeenUptime : Type 0 where
   pub now : ℕ
   pub ran : List Notice

@@ -3,7 +3,7 @@ use Rattle.std.specs.Prelude.{◌≡◌, Bool, List, true}
 use Rattle.ocf_types.specs.Due.{Due}
 use Rattle.ocf_types.specs.State.{State}
 use Rattle.ocf_types.specs.declared.reply.Notice.{Notice}
-use Rattle.disk_model.specs.View.{View}
+use Rattle.disk_model.specs.Disk.{DiskView}
 use Rattle.ocf_env.specs.Locations.{SiteView}
 use Rattle.child_model.specs.Children.{Admits, ChildrenView}
 use Rattle.exec_journal.specs.Position.{Position}
@@ -66,16 +66,16 @@ pub record OnlyLedgerChanges {D : Type 0} (old new : ExecutorView D) : Type 0 wh
 abbrev pub due_in : {D : Type 0} → ExecutorView D → Due
 due_in x = due_of x.monitors
 
--- Its journal is settled at its state, its reserve holds the results of what runs and a boot, the agent processes of all running
--- actions live, and its children admit its site.
-pub record ExecutorKeeps {D : Type 0} (view : D → View) (x : ExecutorView D) : Type 0 where
+-- Its journal is settled at its state, its reserve has space for the results of what runs and for a boot, the agent processes
+-- of all running actions live, and its children admit its site.
+pub record ExecutorKeeps {D : Type 0} (view : D → DiskView) (x : ExecutorView D) : Type 0 where
   pub journal : (view x.disk).honest → IsInSync x.position x.state (view x.disk)
-  pub room : HasReserve x.position.tail x.state
+  pub reserve : HasReserve x.position.tail x.state
   pub matched : ChildrenMatch x.state x.children
   pub admits : Admits x.children.site x.site
 
 -- the invariant: the same while it is open
-abbrev pub ExecutorInvariant : {D : Type 0} → (D → View) → ExecutorView D → Type 0
+abbrev pub ExecutorInvariant : {D : Type 0} → (D → DiskView) → ExecutorView D → Type 0
 ExecutorInvariant view x = x.is_open ≡ true → ExecutorKeeps view x
 
 -- The part of the invariant that is not the ledger's.

@@ -26,7 +26,8 @@ run_of _ = []
 abbrev pub runs_begun : List Event → List ℕ
 runs_begun es = flat_map (λ e. run_of e.change) es
 
--- no run number is begun twice: each is above all that began before it, and none is below the next one of the start
+-- no run number is begun twice: each is above all that began before it, and none is below the run number that is next in the
+-- first state
 abbrev pub RunsAscend : State → List Event → Type 0
 RunsAscend s es = AllByRecursion (λ run. s.next_run ≤ run) (runs_begun es) × IsAscending (runs_begun es)
 
@@ -45,7 +46,7 @@ EndsBetween es = (before between later : List Event) (first second : Event) (id 
     → es ≡ before ++ first ∷ (between ++ second ∷ later) → first.change ≡ change.Step id (step.Begin call run)
     → second.change ≡ change.Step id (step.Begin next_call next_run) → has_end id run between ≡ true
 
--- the interruptions that boots report, each of the state before it
+-- the interruptions that a change reports, and those that events report: a boot reports what runs in the state before it
 abbrev pub written_by : State → ℕ → Change → List Notice
 written_by s at change.Boot = interrupted s at
 written_by s at _ = []

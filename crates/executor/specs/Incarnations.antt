@@ -9,7 +9,7 @@ use Rattle.ocf_types.specs.declared.reply.TidyEnd.{TidyEnd}
 use Rattle.ocf_types.specs.declared.reply.TurnEnd.{TurnEnd}
 use Rattle.disk_model.specs.Image.{Image}
 use Rattle.disk_model.specs.Runs.{CrashesTo}
-use Rattle.disk_model.specs.View.{View}
+use Rattle.disk_model.specs.Disk.{DiskView}
 use Rattle.child_model.specs.Children.{Asked, ChildrenView}
 use Rattle.exec_journal.specs.Found.{FoundAs}
 use Rattle.exec_journal.specs.Opening.{OpensLike}
@@ -39,7 +39,7 @@ pub data Exchange : Type 0 where
   Abandoned : Exchange
 
 -- what a call does, from one view of the executor to another
-abbrev pub Does : {D : Type 0} → (D → View) → Exchange → ExecutorView D → ExecutorView D → Effects → Type 0
+abbrev pub Does : {D : Type 0} → (D → DiskView) → Exchange → ExecutorView D → ExecutorView D → Effects → Type 0
 Does view (Took i reply) old new effects = TakesWhile old.is_open view i old new reply effects
 Does view (Batch now commands replies) old new effects = TakesBatch view now commands old new replies effects
 Does view (Finished now end) old new effects = FinishedWhile old.is_open view now old new end effects
@@ -48,15 +48,15 @@ Does view Cleared old new effects = (new ≡ with_empty_book old) × (effects �
 Does view Abandoned old new effects = (new ≡ abandoned old) × (effects ≡ no_effects)
 
 -- one call after the other; a session is the calls of its inputs
-abbrev pub Calls : {D : Type 0} → (D → View) → ExecutorView D → List Exchange → ExecutorView D → Effects → Type 0
+abbrev pub Calls : {D : Type 0} → (D → DiskView) → ExecutorView D → List Exchange → ExecutorView D → Effects → Type 0
 Calls view old [] new effects = (new ≡ old) × (effects ≡ no_effects)
 Calls {D} view old (e ∷ es) new effects =
     (mid : ExecutorView D) × (first : Effects) × (later : Effects) × Does view e old mid first × Calls view mid es new later
     × (effects ≡ followed_by first later)
 
--- An incarnation whose opening was done: the disk that its opening was handed, and when; the executor as it was opened, as the calls
--- that returned left it, and as those under way would have left it; the effects of both; and the moment of the disk's clock at
--- which it crashed or was closed.
+-- An incarnation whose opening succeeded: the disk that its opening was handed, and when; the executor as it was opened, as the
+-- calls that returned left it, and as those under way would have left it; the effects of both; and the disk's clock, a number
+-- of device calls, when it crashed or was closed.
 pub record Uptime (D : Type 0) : Type 0 where
   pub disk : D
   pub now : ℕ
@@ -68,7 +68,7 @@ pub record Uptime (D : Type 0) : Type 0 where
   pub stop : ℕ
 
 -- It was opened, calls returned, others were begun, and it crashed at some moment after the last return.
-pub record Serves {D : Type 0} (view : D → View) (x : Uptime D) : Type 0 where
+pub record Serves {D : Type 0} (view : D → DiskView) (x : Uptime D) : Type 0 where
   pub children : ChildrenView
   pub was_running : List Notice
   pub was_queued : List Notice
@@ -92,7 +92,7 @@ MayBoot (Some Disk) = ⊤
 MayBoot (Some _) = ⊥
 
 -- An opening at this moment that was refused or crashed: its effect on the disk, without a boot unless one may be recorded.
-pub record EndsOpening (old new : View) (now : ℕ) (end : Option OpenError) : Type 0 where
+pub record EndsOpening (old new : DiskView) (now : ℕ) (end : Option OpenError) : Type 0 where
   pub did : OpensDisk old new now
   pub unbooted : (MayBoot end → ⊥) → CrashesTo old new (OpensLike old)
 
@@ -105,13 +105,13 @@ abbrev pub last_disk : {D : Type 0} → Incarnation D → D
 last_disk (InOpening old new now end) = new
 last_disk (Up x) = x.last.disk
 
--- the calls of an incarnation
-abbrev pub Lasted : {D : Type 0} → (D → View) → Incarnation D → Type 0
+-- what is so of every incarnation: its opening ended so, or it was opened, was called, and crashed
+abbrev pub Lasted : {D : Type 0} → (D → DiskView) → Incarnation D → Type 0
 Lasted view (InOpening old new now end) = EndsOpening (view old) (view new) now end
 Lasted view (Up x) = Serves view x
 
 -- the images that its crash may have left
-abbrev pub CrashLeaves : {D : Type 0} → (D → View) → Incarnation D → Image → Type 0
+abbrev pub CrashLeaves : {D : Type 0} → (D → DiskView) → Incarnation D → Image → Type 0
 CrashLeaves view (InOpening old new now end) c = (view new).since (view old).clock c
 CrashLeaves view (Up x) c = (view x.last.disk).since x.stop c
 
@@ -119,17 +119,17 @@ CrashLeaves view (Up x) c = (view x.last.disk).since x.stop c
 abbrev pub BeginsAs : State → Image → Type 0
 BeginsAs start c = FoundAs start c × PairHasReserve c
 
--- The images that a history may leave that begins with this state, the last incarnation first.
-abbrev pub IncarnationsLeave : {D : Type 0} → (D → View) → State → List (Incarnation D) → Image → Type 0
+-- the images that a history may leave if it begins with this state; its last incarnation comes first in the list
+abbrev pub IncarnationsLeave : {D : Type 0} → (D → DiskView) → State → List (Incarnation D) → Image → Type 0
 IncarnationsLeave view start [] c = BeginsAs start c
 IncarnationsLeave view start (x ∷ older) c = CrashLeaves view x c
 
 -- each image of this disk is one that a history may leave
-abbrev pub GoesOnFrom : {D : Type 0} → (D → View) → State → List (Incarnation D) → D → Type 0
+abbrev pub GoesOnFrom : {D : Type 0} → (D → DiskView) → State → List (Incarnation D) → D → Type 0
 GoesOnFrom view start older disk = (c : Image) → (view disk).now c → IncarnationsLeave view start older c
 
 -- A history, the last incarnation first: each begins on a disk that the one before may have left, and its disk is honest throughout.
-abbrev pub AreIncarnations : {D : Type 0} → (D → View) → State → List (Incarnation D) → Type 0
+abbrev pub AreIncarnations : {D : Type 0} → (D → DiskView) → State → List (Incarnation D) → Type 0
 AreIncarnations view start [] = ⊤
 AreIncarnations view start (x ∷ older) =
     AreIncarnations view start older × GoesOnFrom view start older (first_disk x) × Lasted view x × (view (last_disk x)).honest
@@ -147,8 +147,9 @@ pub record Survives {D : Type 0} (x : Uptime D) (p : List Event) : Type 0 where
   pub acknowledged : p ≡ x.done.events ++ later
   pub begins : (run clock : ℕ) → Asked (followed_by x.done x.under_way).entries run clock → clock ≤ x.stop → HasBegin run p
 
--- The events of a history that remain, from the state with which it began: of each incarnation its boot, which remains once the
--- opening was done and may remain where it crashed or its device failed, and that prefix of the events of its calls.
+-- The events of a history that remain, from the state with which it began: of each incarnation its boot, which remains if the
+-- opening succeeded and may remain if the opening crashed or the device failed in it, and a prefix (`Survives`) of the events
+-- of its calls.
 abbrev pub SurvivingEvents : {D : Type 0} → State → List (Incarnation D) → List Event → Type 0
 SurvivingEvents start [] zs = zs ≡ []
 SurvivingEvents {D} start (InOpening old new now end ∷ older) zs =

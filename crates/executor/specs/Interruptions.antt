@@ -1,4 +1,4 @@
--- The notices of an opening, of the actions that a crashed executor left.
+-- The notices of an opening: of the actions that the executor before this opening left running or queued.
 use Rattle.std.specs.Prelude.{ℕ, List, map, option_to_list}
 use Rattle.std.specs.List.{flat_map}
 use Rattle.ocf_types.specs.Notices.{drop_notice, run_notice}

@@ -10,7 +10,8 @@ abbrev pub as_calls : List Input → List Reply → List Exchange
 as_calls (i ∷ is) (r ∷ rs) = Took i r ∷ as_calls is rs
 as_calls _ _ = []
 
--- A machine agrees with another: it has its resource, the due moments of its monitors, and numbers that are not above its.
+-- The machine x agrees with y: they have the same resource and the same due moments of its monitors, and the next numbers of x
+-- are not above those of y.
 pub record SameIsolated (x y : Isolated) : Type 0 where
   pub resource : x.resource ≡ y.resource
   pub due : (call : ℕ) → has_monitor y.resource call ≡ true → x.due call ≡ y.due call

@@ -1,5 +1,5 @@
 -- The machine of an executor, a labelled transition system: each call is a step, whose label has the call with its answer, the answers
--- of agent processes in it, and the notices of a turn. It knows no disk and no journal. `Runs` adds crashes and openings.
+-- of agent processes in it, and the notices of a turn. It knows no disk and no journal. `Behaves` adds crashes and openings.
 use Rattle.std.specs.Prelude.{◌≡◌, ◌≢◌, ◌⊎◌, ◌↔◌, ◌*◌, ◌<◌, ℕ, Bool, true, false, List, [], ◌∷◌, length, Ok, Contains, IsTrue, ⊤}
 use Rattle.ocf_types.specs.Answer.{event_of, moment, reply_to}
 use Rattle.ocf_types.specs.Due.{Due}
@@ -13,7 +13,7 @@ use Rattle.ocf_types.specs.declared.reply.TidyEnd.{TidyEnd}
 use Rattle.ocf_types.specs.declared.reply.TidyEnd.TheVariants as tidy
 use Rattle.ocf_types.specs.declared.reply.TurnEnd.{TurnEnd}
 use Rattle.ocf_types.specs.declared.reply.TurnEnd.TheVariants as turn_end
-use Rattle.disk_model.specs.View.{Increased}
+use Rattle.disk_model.specs.Disk.{Increased}
 use Rattle.child_model.specs.declared.answer.Entry.{Entry}
 use Rattle.exec_state.specs.Answers.{IsReplyOrMemory}
 use Rattle.two_parts.specs.Head.{last_epoch}
@@ -36,8 +36,9 @@ pub record Machine : Type 0 where
   pub refuses : Bool
 
 -- The label of a step: the call with its answer; the starts, polls and kills of agent processes in it, each with its answer; the
--- notices of a turn; and what the machine does not keep itself: how many answers the book of agent processes took before the step, the
--- position of the journal's next record then, and how many calls the device had failed before the step and after it.
+-- notices of a turn; and what the machine does not keep itself: how many more answers the book of agent processes had room for
+-- before the step, the position of the journal's next record then, and how many calls the device had failed before the step
+-- and after it.
 pub record Label : Type 0 where
   pub exchange : Exchange
   pub answers : List Entry
@@ -49,7 +50,7 @@ pub record Label : Type 0 where
 -- The choices that the machine leaves open, each with the condition under which a call may make it.
 --
 -- Memory. A question or a registration may be refused for memory (`IsReplyOrMemory`, `Adds`), and a turn that ends for memory begins only
--- the first of the actions that come next (`PickedAt`): a call that reports want of memory, only where the allocator refuses growths.
+-- the first of the actions that come next (`PickedAt`): a call that reports lack of memory, only where the allocator refuses growths.
 abbrev pub LacksMemory : Exchange → Type 0
 LacksMemory (Took (input.Request now request) reply) = reply ≡ Refused Memory
 LacksMemory (Took (input.Turn now) reply) = reply ≡ Turn turn_end.Memory
@@ -64,11 +65,11 @@ LacksOnlyIf e m = LacksMemory e → IsTrue m.refuses
 abbrev pub LacksReserve : Label → Event → Type 0
 LacksReserve l e = IsTooLong l.position.tail (e ∷ [])
 
--- The book's capacity. A turn does nothing exactly where the book takes fewer answers than this many for each resource.
+-- The book's capacity. A turn does nothing exactly where the book has room for fewer answers than this many for each resource.
 abbrev pub LacksBook : Label → ℕ → Machine → Type 0
 LacksBook l each m = l.room < each * length m.state.resources
 
--- The device. Where it failed a call the machine may close, with these events pending: recorded, or not.
+-- The device. Where the device failed a call the machine may close, with these events pending: a crash leaves all or none.
 abbrev pub Closes : List Event → Machine → Effects → Type 0
 Closes es n did = (n.is_open ≡ false) × (did ≡ batch_effects false es)
 
@@ -96,7 +97,7 @@ abbrev pub TakesOne : Label → ℕ → Command → Reply → Machine → Machin
 TakesOne l now c r m n did = TakesAll l now (c ∷ []) (r ∷ []) m n did
     ⊎ ((e : Event) × (event_of m.state now c ≡ Ok e) × (r ≡ Refused JournalFull) × LacksReserve l e × GoesOn [] m n did)
 
--- A turn of a kind at a moment, for which the book has to take this many answers for each resource.
+-- A turn of a kind at a moment, for which the book needs room for this many answers for each resource.
 pub record MovesTurn (kind : TurnKind) (each : ℕ) (end : TurnEnd) (at : ℕ) (l : Label) (m n : Machine) (did : Effects) : Type 0 where
   -- the answers of agent processes make its events and its notices
   pub turns : kind end (batch_start m.state m.due l.position at m.refuses) did l.notices

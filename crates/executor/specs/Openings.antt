@@ -7,7 +7,7 @@ use Rattle.ocf_types.specs.State.{State}
 use Rattle.ocf_types.specs.declared.reply.Notice.{Notice}
 use Rattle.disk_model.specs.Image.{Image}
 use Rattle.disk_model.specs.Runs.{CrashesTo}
-use Rattle.disk_model.specs.View.{Increased, Unwritten, View}
+use Rattle.disk_model.specs.Disk.{Increased, Unwritten, DiskView}
 use Rattle.child_model.specs.Children.{ChildrenView, given_up}
 use Rattle.gated_slots.specs.declared.append.SlotFault.{SlotFault}
 use Rattle.gated_slots.specs.declared.append.SlotFault.TheVariants as slot
@@ -34,8 +34,9 @@ pub record Starts (c : Image) (now : ℕ) (t : State) (due : Due) (was_running w
   pub ran : was_running ≡ interrupted state (moment state now)
   pub queued : was_queued ≡ dropped state (moment state now)
 
--- a pair that a crash might have left before the opening, or one that is found as the parts read at its start, or as the boot of that
-abbrev pub StartsLike : View → ℕ → Image → Type 0
+-- a pair that a crash might have left before the opening, or one that is found as the state that the parts held when it began,
+-- or as that state's boot
+abbrev pub StartsLike : DiskView → ℕ → Image → Type 0
 StartsLike old now c = OpensLike old c ⊎ ((s : State) × FoundAs s old.reads × BootsFrom s now c)
 
 -- on these parts something is queued or running, and a boot does not fit after the last record
@@ -50,8 +51,9 @@ abbrev pub IsQuiet : Image → Type 0
 IsQuiet c = (IsToWrite c → ⊥) × ((s : State) → FoundAs s c → any_busy s ≡ false)
 
 -- The effect of an opening on the disk, done or failed.
-pub record OpensDisk (old new : View) (now : ℕ) : Type 0 where
-  -- at any moment a crash leaves a pair that it might have left before, one that is found as the parts read, or the boot of that
+pub record OpensDisk (old new : DiskView) (now : ℕ) : Type 0 where
+  -- at any moment a crash leaves a pair that it might have left before, or one that is found as the state that the parts held,
+  -- or as that state's boot
   pub crash : CrashesTo old new (StartsLike old now)
   -- where each pair that a crash might have left before has capacity for its boot, each that it leaves has
   pub reserved : (old.honest → AllHaveReserve old) → CrashesTo old new PairHasReserve
@@ -73,7 +75,7 @@ pub record IsUnready (from to : ChildrenView) (s : State) (fault : OpenError) : 
   pub memory : fault ≡ why.Memory → (to ≡ given_up from) × (from.last_run < s.next_run)
 
 -- The executor was opened: from one view of the disk and these children, and with these notices, which it remembers.
-pub record Opened {D : Type 0} (view : D → View) (old : View) (from : ChildrenView) (now : ℕ) (x : ExecutorView D)
+pub record Opened {D : Type 0} (view : D → DiskView) (old : DiskView) (from : ChildrenView) (now : ℕ) (x : ExecutorView D)
     (was_running was_queued : List Notice) : Type 0 where
   pub over : IsOver from x
   pub sound : ExecutorInvariant view x
@@ -96,9 +98,10 @@ pub record IsOwn (c : Image) (from : ChildrenView) : Type 0 where
   pub earlier : from.last_run < state.next_run
 
 -- The executor was not opened: from one view of the disk and of the children to another.
-pub record NotOpened (old new : View) (from to : ChildrenView) (now : ℕ) (fault : OpenError) : Type 0 where
+pub record NotOpened (old new : DiskView) (from to : ChildrenView) (now : ℕ) (fault : OpenError) : Type 0 where
   pub did : OpensDisk old new now
-  -- the children are as they were, or given up: never where the pair is damaged, or where they are another journal's
+  -- the children are as they were, or given up; they are not given up where the pair is damaged, nor where they are another
+  -- journal's
   pub children : (to ≡ from) ⊎ (to ≡ given_up from)
   pub untouched : (d : Damage) → fault ≡ why.Damaged d → to ≡ from
   pub foreign : fault ≡ why.Foreign → (to ≡ from) × (new.honest → IsForeign old.reads from)
@@ -111,8 +114,8 @@ pub record NotOpened (old new : View) (from to : ChildrenView) (now : ℕ) (faul
   -- damage is reported as it was found, and a disk fault has a cause
   pub damaged : new.honest → (d : Damage) → fault ≡ why.Damaged d → HasDamage old.reads d
   pub cause : fault ≡ why.Disk → Increased old.failures new.failures
-  -- full where a boot is needed and does not fit, and the children are this journal's: never where each pair that a crash might have
-  -- left before has capacity for its boot
+  -- full only where a boot is needed and does not fit, and the children are this journal's; so never where each pair that a
+  -- crash might have left before has capacity for its boot
   pub full : new.honest → fault ≡ why.Full → LacksReserve old.reads
   pub not_foreign : new.honest → fault ≡ why.Full → IsForeign old.reads from → ⊥
   pub never_full : (old.honest → AllHaveReserve old) → new.honest → fault ≡ why.Full → ⊥

@@ -79,7 +79,7 @@ own_runs id s es = runs_of (filter (λ a. bytes_eq id a.id) (active s)) ++ flat_
 abbrev pub entries_of_runs : List ℕ → List Entry → List Entry
 entries_of_runs runs entries = filter (λ e. list_any (nat_eq e.run) runs) entries
 
--- the moment of a call after this one: the one that is handed in, where one is
+-- the moment of a call that follows one at this moment: the moment that it is handed, or this one if it is handed none
 abbrev pub moment_in : ℕ → Exchange → ℕ
 moment_in from (Took (input.Request now request) reply) = cut now
 moment_in from (Took (input.Turn now) reply) = cut now

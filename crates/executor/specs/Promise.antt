@@ -11,7 +11,7 @@ use Rattle.ocf_types.specs.declared.outcome.Outcome.TheVariants.{Run}
 use Rattle.ocf_types.specs.declared.outcome.RunEnd.{RunEnd}
 use Rattle.ocf_types.specs.declared.reply.Notice.{Notice}
 use Rattle.exec_ledger.specs.Replies.{acknowledged}
-use Rattle.exec_ledger.specs.Together.{is_kept}
+use Rattle.exec_ledger.specs.Together.{is_no_refusal}
 use Rattle.executor.specs.Histories.{IsInOrder, IsWithin, interruptions}
 use Rattle.executor.specs.Incarnations.{Exchange, Batch, Took}
 use Rattle.executor.specs.Machine.{Label}
@@ -19,8 +19,8 @@ use Rattle.executor.specs.Behaves.{HasBegins, Opening, Seen, Serving}
 use Rattle.executor.specs.SeenIncarnations.{reports}
 use Rattle.executor.specs.declared.session.InputOf.TheVariants as input
 
--- a claim of an answer that something is recorded: a command that was asked at a moment and got this acknowledgement, or the result of a
--- notice
+-- what an answer claims to be recorded: the event of a command that was given at a moment and got this acknowledgement, or the
+-- result of a notice
 pub data Claim : Type 0 where
   Acknowledged : ℕ → Command → Reply → Claim
   Ended : Notice → Claim
@@ -28,7 +28,7 @@ pub data Claim : Type 0 where
 -- the acknowledgements of commands at one moment, of those that were not refused
 abbrev pub acknowledgements : ℕ → List Command → List Reply → List Claim
 acknowledgements now (c ∷ cs) (r ∷ rs) =
-    (if is_kept r then Acknowledged now c r ∷ [] else []) ++ acknowledgements now cs rs
+    (if is_no_refusal r then Acknowledged now c r ∷ [] else []) ++ acknowledgements now cs rs
 acknowledgements now _ _ = []
 
 abbrev pub acknowledged_in : Exchange → List Claim
@@ -51,7 +51,7 @@ pub record IsOfResult (n : Notice) (e : Event) : Type 0 where
   pub is : e ≡ record { at = n.result.at; change = change.Step n.id (step.Result n.result.run end) }
   pub ended : n.result.outcome ≡ Run end
 
--- the event of a claim: the event that its own command is in this state, or its result
+-- this event is the one of a claim: the event that its own command is in this state, or the result of its notice
 abbrev pub IsClaimed : State → Claim → Event → Type 0
 IsClaimed s (Acknowledged now c reply) e = (event_of s now c ≡ Ok e) × (reply ≡ acknowledged e.change)
 IsClaimed s (Ended notice) e = IsOfResult notice e

@@ -13,5 +13,5 @@ pub record ReportView : Type 0 where
 abbrev pub report_of : {M : Type 0} → Report M → ReportView
 report_of r = record { interrupted = r.interrupted.items; dropped = r.dropped.items }
 
-abbrev pub reported_of : Reported → ReportView
-reported_of r = record { interrupted = r.interrupted.items; dropped = r.dropped.items }
+abbrev pub remembered_report : Reported → ReportView
+remembered_report r = record { interrupted = r.interrupted.items; dropped = r.dropped.items }

@@ -2,7 +2,7 @@
 use Rattle.std.specs.Prelude.{Bool, true, List, [], ◌∷◌, ◌++◌}
 use Rattle.ocf_types.specs.State.{State}
 use Rattle.ocf_types.specs.declared.reply.Notice.{Notice}
-use Rattle.disk_model.specs.View.{View}
+use Rattle.disk_model.specs.Disk.{DiskView}
 use Rattle.executor.specs.Incarnations.{Calls, Exchange, Finished, InOpening, Up, AreIncarnations, Incarnation, Took}
 use Rattle.executor.specs.Machine.{Label}
 use Rattle.executor.specs.Behaves.{Opening, Seen, Serving}
@@ -10,14 +10,14 @@ use Rattle.exec_ledger.specs.Pieces.{Effects}
 use Rattle.executor.specs.ExecutorView.{ExecutorView}
 use Rattle.executor.specs.declared.session.InputOf.TheVariants as input
 
--- the notices of a call, of those that an executor holds after it: of a turn, of an executor that was open
+-- the notices of a call, given those that the executor holds after it: only a turn of an open executor has any
 abbrev pub notices_of : Bool → Exchange → List Notice → List Notice
 notices_of true (Took (input.Turn now) reply) reported = reported
 notices_of true (Finished now end) reported = reported
 notices_of _ _ reported = []
 
 -- the label of a call of an executor that was open or not
-abbrev pub label_in : {D : Type 0} → (D → View) → Bool → Exchange → ExecutorView D → ExecutorView D → Effects → Label
+abbrev pub label_in : {D : Type 0} → (D → DiskView) → Bool → Exchange → ExecutorView D → ExecutorView D → Effects → Label
 label_in view was_open e old new effects = record {
   exchange = e;
   answers = effects.entries;
@@ -28,13 +28,13 @@ label_in view was_open e old new effects = record {
 }
 
 -- the labels of calls, one after the other
-abbrev pub labels : {D : Type 0} → (view : D → View) → (old : ExecutorView D) → (es : List Exchange) → (new : ExecutorView D) → (effects : Effects)
+abbrev pub labels : {D : Type 0} → (view : D → DiskView) → (old : ExecutorView D) → (es : List Exchange) → (new : ExecutorView D) → (effects : Effects)
     → Calls view old es new effects → List Label
 labels view old [] new effects calls = []
 labels view old (e ∷ es) new effects (mid, first, later, does, rest, is) = label_in view old.is_open e old mid first ∷ labels view mid es new later rest
 
 -- of each incarnation its labels and its report, the last incarnation first
-abbrev pub seen : {D : Type 0} → (view : D → View) → (start : State) → (incarnations : List (Incarnation D)) → AreIncarnations view start incarnations → List Seen
+abbrev pub seen : {D : Type 0} → (view : D → DiskView) → (start : State) → (incarnations : List (Incarnation D)) → AreIncarnations view start incarnations → List Seen
 seen view start [] is = []
 seen view start (InOpening old new now end ∷ older) is = Opening now end ∷ seen view start older is.0
 seen view start (Up x ∷ older) is = Serving (record {

@@ -3,7 +3,7 @@ use Rattle.std.specs.Prelude.{◌≡◌, ◌↔◌, ◌*◌, ◌<◌, ℕ, Bool,
 use Rattle.ocf_types.specs.Answer.{moment}
 use Rattle.ocf_types.specs.declared.reply.TurnEnd.{TurnEnd}
 use Rattle.ocf_types.specs.declared.reply.TurnEnd.TheVariants.{BookFull, Closed, Disk}
-use Rattle.disk_model.specs.View.{View}
+use Rattle.disk_model.specs.Disk.{DiskView}
 use Rattle.child_model.specs.Children.{emptied, given_up}
 use Rattle.exec_ledger.specs.LedgerView.{While}
 use Rattle.exec_ledger.specs.BatchStarts.{batch_start}
@@ -11,34 +11,34 @@ use Rattle.exec_turn.specs.Turn.{IsFinish, IsTurn, TurnKind}
 use Rattle.exec_turn.specs.Turns.{TurnsAs}
 use Rattle.executor.specs.ExecutorView.{ExecutorView, due_in}
 
--- An open executor makes a turn of a kind at this moment, for which the book has to take this many entries a resource: from one view
--- of it to another.
-pub record MakesTurn {D : Type 0} (kind : TurnKind) (entries : ℕ) (view : D → View) (now : ℕ) (old new : ExecutorView D) (end : TurnEnd) : Type 0 where
+-- An open executor makes a turn of a kind at this moment, for which the book needs room for this many entries for each
+-- resource: from one view of it to another.
+pub record MakesTurn {D : Type 0} (kind : TurnKind) (entries : ℕ) (view : D → DiskView) (now : ℕ) (old new : ExecutorView D) (end : TurnEnd) : Type 0 where
   pub turns : TurnsAs kind view old.disk new.disk
       (batch_start old.state (due_in old) old.position (moment old.state now) old.refuses) new.state (due_in new) old.children new.children new.reported end
   -- its site, its allocator and the report of its opening stay
   pub site : new.site ≡ old.site
   pub allocator : new.refuses ≡ old.refuses
   pub opening_report : new.opening_report ≡ old.opening_report
-  -- nothing is done exactly when the book takes less than that
+  -- nothing is done exactly when the book has room for fewer
   pub full : (end ≡ BookFull) ↔ (old.children.room < entries * length old.state.resources)
   pub unchanged : end ≡ BookFull → new ≡ record old { reported = [] }
   -- a disk fault alone closes it
   pub closes : (new.is_open ≡ false) ↔ (end ≡ Disk)
 
 -- a turn that begins what has to begin: a poll, a kill and a start are three entries
-abbrev pub TakesTurn : {D : Type 0} → (D → View) → ℕ → ExecutorView D → ExecutorView D → TurnEnd → Type 0
+abbrev pub TakesTurn : {D : Type 0} → (D → DiskView) → ℕ → ExecutorView D → ExecutorView D → TurnEnd → Type 0
 TakesTurn view now old new end = MakesTurn IsTurn 3 view now old new end
 
 -- one that begins nothing: a poll and a kill are two
-abbrev pub FinishesTurn : {D : Type 0} → (D → View) → ℕ → ExecutorView D → ExecutorView D → TurnEnd → Type 0
+abbrev pub FinishesTurn : {D : Type 0} → (D → DiskView) → ℕ → ExecutorView D → ExecutorView D → TurnEnd → Type 0
 FinishesTurn view now old new end = MakesTurn IsFinish 2 view now old new end
 
 -- both, of an executor that is open or closed: a closed one does nothing
-abbrev pub TurnsWhile : Bool → {D : Type 0} → (D → View) → ℕ → ExecutorView D → ExecutorView D → TurnEnd → Type 0
+abbrev pub TurnsWhile : Bool → {D : Type 0} → (D → DiskView) → ℕ → ExecutorView D → ExecutorView D → TurnEnd → Type 0
 TurnsWhile is_open view now old new end = While is_open (TakesTurn view now old new end) ((end ≡ Closed) × (new ≡ old))
 
-abbrev pub FinishesWhile : Bool → {D : Type 0} → (D → View) → ℕ → ExecutorView D → ExecutorView D → TurnEnd → Type 0
+abbrev pub FinishesWhile : Bool → {D : Type 0} → (D → DiskView) → ℕ → ExecutorView D → ExecutorView D → TurnEnd → Type 0
 FinishesWhile is_open view now old new end = While is_open (FinishesTurn view now old new end) ((end ≡ Closed) × (new ≡ old))
 
 -- the executor after its children's book was emptied, and after it gave up its children, which closes it

@@ -9,7 +9,7 @@ ghost use Rattle.disk_model.specs.Image.{Image};
 ghost use Rattle.two_parts.specs.declared.damage.Damage.{Damage};
 ghost use Rattle.child_model.specs.Children.{ChildrenView};
 ghost use Rattle.child_model.specs.declared.answer.Entry.{Entry};
-ghost use Rattle.exec_journal.specs.Found.{FoundAs, IsFirstPart, IsFreshPair};
+ghost use Rattle.exec_journal.specs.Found.{FoundAs, IsFirstLayout, IsFreshPair};
 ghost use Rattle.exec_journal.specs.Opening.{Opens};
 ghost use Rattle.exec_journal.specs.Reserve.{PairHasReserve};
 ghost use Rattle.exec_turn.specs.AgentsLive.{AgentsLive};
@@ -100,7 +100,7 @@ pub fn lemma_report_stays<D: Disk>()
         → y.opening_report ≡ x.opening_report }
 {}
 
-/// Want of memory is reported only where the executor's allocator refuses memory: with an allocator that never refuses, no call
+/// Lack of memory is reported only where the executor's allocator refuses memory: with an allocator that never refuses, no call
 /// reports it.
 pub fn lemma_memory_is_there<D: Disk>()
     ensures reported { (x y : ExecutorView D) (call : Exchange) (d : Effects) → Does D.view call x y d
@@ -140,7 +140,7 @@ pub fn promise<D: Disk>()
 /// So an opening after a history gives the state after what remains, with what ran reported as interrupted, and never reports
 /// damage or a full journal.
 ///
-/// A refused opening is an incarnation, too. Its boot may remain only where the device failed: want of memory, foreign children,
+/// A refused opening is an incarnation, too. Its boot may remain only where the device failed: lack of memory, foreign children,
 /// a full journal and damage come before the boot. Where only the journal was opened, for reading, that is an incarnation without
 /// a boot, however it ended.
 ///
@@ -148,7 +148,7 @@ pub fn promise<D: Disk>()
 /// empty state, and so is a journal of the first layout, with the state that it leads to.
 pub fn lemma_whole_history<D: Disk>()
     ensures fresh { (c : Image) → IsFreshPair c → BeginsAs empty c }
-    ensures first { (start : State) (c : Image) → FoundAs start c → IsFirstPart c
+    ensures first { (start : State) (c : Image) → FoundAs start c → IsFirstLayout c
         → BeginsAs start c }
     ensures holds { (start : State) (incarnations : List (Incarnation D)) → AreIncarnations D.view start incarnations
         → (c : Image) → IncarnationsLeave D.view start incarnations c

@@ -1,4 +1,4 @@
-//! The report of an opening: the actions that a crashed executor left.
+//! The report of an opening: the actions that the executor before this opening left running or queued.
 ghost use Rattle.std.specs.Prelude.{◌≡◌, ◌++◌, ◌<◌, IfOk, IsTrue, OnErr, OnOk, length};
 ghost use Rattle.ocf_types.specs.Indexes.{entry_at};
 ghost use Rattle.executor.specs.Interruptions.{dropped, dropped_in, interrupted, interrupted_in};
@@ -10,7 +10,8 @@ use op_history::{drop_notice, run_notice};
 use past::Past;
 use std::alloc::{AllocError, Allocator, Global};
 
-/// The actions that a crashed executor left: those that ran, and those that were queued, each by registration and then by call.
+/// The actions that the executor before this opening left: those that ran, and those that were queued, each list in the order
+/// of registrations and then of calls.
 #[derive(Drop)]
 pub struct Report<A: Allocator = Global> {
     pub interrupted: Vec<Notice, A>,
@@ -76,7 +77,7 @@ fn push_dropped<A: Grows>(
 }
 
 impl<A: Grows> Report<A> {
-    /// The report of an opening at this moment that found this state. The only error is want of memory.
+    /// The report of an opening at this moment that found this state. The only error is lack of memory.
     #[tactic(auto, using(crate::proofs::Openings::Reporting::reported_more))]
     pub(crate) fn of(alloc: A, state: &State<A>, at: Moment) -> Result<Report<A>, AllocError>
         ensures interrupted { IfOk result

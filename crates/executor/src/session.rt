@@ -36,8 +36,8 @@ impl<D: Disk + Drop, C: Children + Drop, A: Grows> Executor<D, C, A> {
         }
     }
 
-    /// Takes inputs one after the other, and appends one reply to each: that to a turn is how it ended. The notices are those of the
-    /// last turn.
+    /// Takes inputs one after the other, and appends one reply to each; the reply to a turn says how it ended. Afterwards
+    /// `notices` has those of the last turn only.
     ///
     /// Where there is no memory for the replies nothing is done, and the inputs are handed back.
     pub fn session(

@@ -27,7 +27,7 @@ impl<D: Disk + Drop, C: Children + Drop, A: Grows> Executor<D, C, A> {
             &self.site,
             &mut self.ledger,
             &mut self.children,
-            &mut self.batches,
+            &mut self.buffers,
             now,
         );
         self.ledger.lemma_known();
@@ -45,7 +45,7 @@ impl<D: Disk + Drop, C: Children + Drop, A: Grows> Executor<D, C, A> {
             return TurnEnd::Closed;
         }
         self.ledger.lemma_known();
-        let end = finish_turn(&mut self.ledger, &mut self.children, &mut self.batches, now);
+        let end = finish_turn(&mut self.ledger, &mut self.children, &mut self.buffers, now);
         self.ledger.lemma_known();
         end
     }
@@ -61,7 +61,7 @@ impl<D: Disk + Drop, C: Children + Drop, A: Grows> Executor<D, C, A> {
     pub fn notices(&self) -> &[Notice]
         ensures value { result.now ≡ self.now.reported }
     {
-        self.batches.notices()
+        self.buffers.notices()
     }
 
     /// The children's book: all their answers since it was last emptied.

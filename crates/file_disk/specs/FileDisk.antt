@@ -3,7 +3,7 @@ use Rattle.std.specs.Prelude.{◌≡◌, ◌⊎◌, ℕ, ◌<◌, ◌≤◌, Lis
 use Rattle.ocf_types.specs.declared.part.Part.{Part}
 use Rattle.disk_model.specs.Image.{Image, part_limit}
 use Rattle.disk_model.specs.Runs.{AllSynced}
-use Rattle.disk_model.specs.View.{LAST, View}
+use Rattle.disk_model.specs.Disk.{LAST, DiskView}
 use Rattle.disk_model.specs.declared.disk.DiskFault.{DiskFault}
 use Rattle.file_disk.specs.Log.{log_view}
 use Rattle.file_disk.specs.Record.{Noted}
@@ -13,7 +13,7 @@ use Rattle.file_disk.specs.declared.error.FileError.{FileError}
 
 module _ {R M D : Type 0} where
   -- the view of the disk at this moment, by the record of its calls
-  abbrev pub view_of : FileDisk R M D → View
+  abbrev pub view_of : FileDisk R M D → DiskView
   view_of d = log_view d.log
 
   -- the record has one more call: this one, with the bytes that were read or written

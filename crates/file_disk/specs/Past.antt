@@ -3,7 +3,7 @@
 use Rattle.std.specs.Prelude.{◌≡◌, ◌⊎◌, ℕ, ◌+◌, ◌<◌, min, List, [], ◌∷◌, ◌++◌, length, take, drop}
 use Rattle.disk_model.specs.Image.{Image, Torn, bytes_of}
 use Rattle.disk_model.specs.Parts.{put}
-use Rattle.disk_model.specs.View.{LAST, View}
+use Rattle.disk_model.specs.Disk.{LAST, DiskView}
 use Rattle.file_disk.specs.declared.call.Call.{Call}
 use Rattle.file_disk.specs.declared.call.Call.TheVariants.{Measured, Read, Wrote, Tried, Synced, Failed, Refused}
 
@@ -68,7 +68,7 @@ since_of first [] t c = c ≡ first
 since_of first (e ∷ older) t c = now_of first (e ∷ older) c ⊎ ((t < clock_of (e ∷ older)) × since_of first older t c)
 
 -- the view of a disk on which this pair was found, and these calls were made
-abbrev pub past_view : Image → List Event → View
+abbrev pub past_view : Image → List Event → DiskView
 past_view first past = record {
   honest = honest_of first past;
   reads = reads_of first past;

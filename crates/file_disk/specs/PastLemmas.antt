@@ -4,7 +4,7 @@ use Rattle.std.specs.Prelude.{ℕ, ◌<◌, ◌≤◌, List, [], ◌∷◌, leng
 use Rattle.std.proofs.Common.{inl, inr, arith, refl}
 use Rattle.std.proofs.lemmas.Bool.{cases_lt}
 use Rattle.disk_model.specs.Image.{Image, bytes_of}
-use Rattle.disk_model.specs.View.{LAST, Elapses, Lawful, Passed}
+use Rattle.disk_model.specs.Disk.{LAST, Elapses, Lawful, Passed}
 use Rattle.disk_model.specs.PastLemmas.{torn_put}
 use Rattle.disk_model.specs.Lemmas.{torn_same}
 use Rattle.file_disk.specs.declared.call.Call.{Call}

@@ -2,13 +2,13 @@
 use Rattle.std.specs.Prelude.{◌≡◌, ◌⊎◌, ℕ, ◌<◌, ◌≤◌}
 use Rattle.disk_model.specs.Image.{Image}
 use Rattle.disk_model.specs.Runs.{AllSynced}
-use Rattle.disk_model.specs.View.{LAST, View}
+use Rattle.disk_model.specs.Disk.{LAST, DiskView}
 use Rattle.file_disk.specs.Log.{log_view}
 use Rattle.file_disk.specs.declared.ram.RamDisk.{RamDisk}
 
 module _ {M : Type 0} where
   -- the view of the disk at this moment, by the record of its calls
-  abbrev pub view_of : RamDisk M → View
+  abbrev pub view_of : RamDisk M → DiskView
   view_of d = log_view d.log
 
   -- no further call is made: one failed, or the count of calls is at its last value

@@ -1,6 +1,6 @@
 -- The view of a record of calls.
 use Rattle.std.specs.Prelude.{◌≡◌, ℕ, List, [], ◌∷◌}
-use Rattle.disk_model.specs.View.{View}
+use Rattle.disk_model.specs.Disk.{DiskView}
 use Rattle.file_disk.specs.Past.{past_view}
 use Rattle.file_disk.specs.declared.call.Call.{Call}
 use Rattle.file_disk.specs.declared.call.Call.TheVariants.{Tried, Failed, Refused}
@@ -15,7 +15,7 @@ abbrev pub Noted : Call → List ℕ → Record → Record → Type 0
 Noted call bytes old new = (new.first ≡ old.first) × (new.events ≡ record { call = call; bytes = bytes } ∷ old.events)
 
 -- the view of the disk that the record describes
-abbrev pub view_by : Record → View
+abbrev pub view_by : Record → DiskView
 view_by r = past_view r.first r.events
 
 -- the call failed, or was not made

@@ -4,7 +4,7 @@ use Rattle.std.proofs.Common.{arith, refl, sym, subst, ap, ◌∙◌}
 use Rattle.ocf_types.specs.declared.part.Part.{Part}
 use Rattle.ocf_types.specs.declared.part.Part.TheVariants.{A, B}
 use Rattle.disk_model.specs.Image.{Image, Written, bytes_of}
-use Rattle.disk_model.specs.View.{LAST, View, Called, Elapses, Unwritten, Spent, Synced, Tears}
+use Rattle.disk_model.specs.Disk.{LAST, DiskView, Called, Elapses, Unwritten, Spent, Synced, Tears}
 use Rattle.disk_model.specs.declared.disk.DiskFault.{DiskFault}
 use Rattle.disk_model.specs.Lemmas.{rested, torn_same}
 use Rattle.disk_model.specs.PastLemmas.{torn_put}
@@ -60,7 +60,7 @@ pub failures_fault : (w : Call) (bytes : List ℕ) (r r2 : Record) → Noted w b
 failures_fault w bytes r r2 noted fault = ap failures_of noted.1 ∙ fault_failures w (failures_of r.events) fault
 
 -- a disk whose counts are not at their last value
-unspent_spent : (v : View) {P : Type 0} → v.clock < LAST → v.failures ≡ 0 → Spent v → P
+unspent_spent : (v : DiskView) {P : Type 0} → v.clock < LAST → v.failures ≡ 0 → Spent v → P
 unspent_spent v clock failures spent =
     let at_end : LAST ≤ max v.clock v.failures = spent in
     absurd (omega (arith, clock, failures, at_end))

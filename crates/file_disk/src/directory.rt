@@ -14,7 +14,7 @@ fn directory_path<A: Allocator>(alloc: A, dir: &str) -> Result<String<A>, OpenFa
     ensures { dir.now ≡ [] → IsErr result }
 {
     if dir.is_empty() {
-        let error = io::Error::new(ErrorKind::InvalidInput, "the folder has no name");
+        let error = io::Error::new(ErrorKind::InvalidInput, "the directory has no name");
         return Err(OpenFault::Directory(error));
     }
     Ok(format!(in alloc; "{dir}/.")?)

@@ -1,7 +1,7 @@
 //! Two files as a disk.
 ghost use Rattle.std.specs.Prelude.{◌≡◌, ◌+◌, ◌≤◌, IfErr, IfOk, IsErr, OnErr, OnOk, Some, [], drop, is_some, length, take, true};
 ghost use Rattle.disk_model.specs.Image.{Written, bytes_of};
-ghost use Rattle.disk_model.specs.View.{Called, Unwritten, Synced, Tears};
+ghost use Rattle.disk_model.specs.Disk.{Called, Unwritten, Synced, Tears};
 
 use crate::call::Call;
 use crate::directory::open_directory;

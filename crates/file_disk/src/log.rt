@@ -18,7 +18,7 @@ pub struct Log {
 
 impl Log {
     ghost use Rattle.std.specs.Prelude.{◌<◌, ◌↔◌, IsTrue};
-    ghost use Rattle.disk_model.specs.View.{LAST};
+    ghost use Rattle.disk_model.specs.Disk.{LAST};
     ghost use Rattle.file_disk.specs.Log.{log_view};
     ghost use Rattle.file_disk.specs.Record.{Begins, IsDone, IsFault, Noted};
 

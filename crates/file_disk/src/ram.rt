@@ -2,7 +2,7 @@
 ghost use Rattle.std.specs.Prelude.{◌≡◌, ◌+◌, ◌≤◌, ◌↔◌, IfOk, IsErr, None, OnErr, OnOk, [], drop, length, take};
 ghost use Rattle.disk_model.specs.Image.{Written, bytes_of};
 ghost use Rattle.disk_model.specs.Parts.{image_of};
-ghost use Rattle.disk_model.specs.View.{Called, Unwritten, Synced, Tears};
+ghost use Rattle.disk_model.specs.Disk.{Called, Unwritten, Synced, Tears};
 ghost use Rattle.file_disk.specs.Past.{honest_of, reads_of};
 ghost use Rattle.file_disk.specs.PastLemmas.{honest_prop};
 

@@ -1,6 +1,6 @@
 //! A journal of which a part was emptied.
 ghost use Rattle.std.specs.Prelude.{◌≡◌, IfOk, IsErr};
-ghost use Rattle.disk_model.specs.View.{OnlyReads};
+ghost use Rattle.disk_model.specs.Disk.{OnlyReads};
 ghost use Rattle.journal_directory.specs.Emptied.{emptied_part};
 
 use disk_model::{Disk, DiskFault, other_part};

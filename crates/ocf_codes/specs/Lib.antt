@@ -1,2 +1,1 @@
 pub mod ExitCodes
-pub mod OutcomeCodes

@@ -3,7 +3,7 @@ ghost use Rattle.std.specs.Prelude.{◌≡◌};
 ghost use Rattle.ocf_types.specs.Expected.{has_failed, is_expected};
 ghost use Rattle.ocf_types.specs.Notices.{is_failure};
 
-use ocf_types::{Action, Expect, Notice, Outcome, RunEnd};
+use ocf_types::{Action, Expect, Notice, Outcome};
 
 /// Whether this exit code is expected of an action with this expectation. A monitor may also report the expected state as
 /// degraded; every other action is to succeed. OCF Resource Agent API 1.1 and Pacemaker Administration, exit codes.
@@ -23,10 +23,10 @@ pub fn expected(action: Action, expect: Expect, code: u8) -> bool
 pub fn failed(action: Action, expect: Expect, outcome: Outcome) -> bool
     ensures { result ≡ has_failed action expect outcome }
 {
-    match outcome {
-        Outcome::Run(RunEnd::Done(code)) => !expected(action, expect, code),
-        Outcome::Run(_) => true,
-        Outcome::Interrupted | Outcome::Dropped | Outcome::Cancelled => false,
+    let row = outcome.row();
+    match row.failed {
+        Some(failed) => failed,
+        None => !expected(action, expect, row.code),
     }
 }
 

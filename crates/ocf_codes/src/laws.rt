@@ -7,7 +7,7 @@ ghost use Rattle.ocf_types.specs.declared.expect.Expect.{Expect};
 ghost use Rattle.ocf_types.specs.declared.outcome.RunEnd.{RunEnd};
 ghost use Rattle.ocf_types.specs.declared.outcome.Outcome.TheVariants.{Run};
 ghost use Rattle.ocf_codes.specs.ExitCodes.{Row, exit_codes, code_read, name_read};
-ghost use Rattle.ocf_codes.specs.OutcomeCodes.{outcome_code};
+ghost use Rattle.ocf_types.specs.Outcomes.{outcome_code};
 
 /// Reading the number of a row gives this row: no number has two rows.
 pub fn lemma_rows_are_read()

@@ -1,17 +1,17 @@
 -- The list of the environment has exactly the variables of the set.
-use Rattle.std.proofs.Common.{◌≡◌, ◌⊎◌, inl, inr, ℕ, List, [], ◌∷◌, ◌++◌, refl, subst, ap, codes, decimal, ◌↔◌}
+use Rattle.std.proofs.Common.{◌≡◌, ◌⊎◌, inl, inr, ℕ, Bool, true, false, if◌then◌else◌, List, [], ◌∷◌, ◌++◌, refl, subst, ap, codes, decimal, ◌↔◌}
 use Rattle.std.specs.List.{Contains}
 use Rattle.ocf_types.specs.Params.{ParamList}
-use Rattle.ocf_types.specs.Actions.{level_number}
+use Rattle.ocf_types.specs.Actions.{is_monitor, level_number}
 use Rattle.ocf_types.specs.Kinds.{Registration}
-use Rattle.ocf_types.specs.declared.action.Check.{Check}
 use Rattle.ocf_types.specs.declared.action.Task.{Task}
-use Rattle.ocf_types.specs.declared.action.Task.TheVariants as task
+use Rattle.ocf_types.specs.declared.action.Action.TheVariants.{Monitor}
 use Rattle.ocf_env.specs.Locations.{SiteView, Pair}
 use Rattle.ocf_env.specs.Variables.{reskey, IsAgentVariable, IsVariable, major, minor, of_provider, of_type, below_root, with_path}
 use Rattle.ocf_env.specs.Variables.{of_agent, level, instance, parameter}
 use Rattle.ocf_env.specs.Lists.{level_pairs, version_pairs, param_pairs, instance_pair, last_pairs, instance_pairs, action_pairs}
 use Rattle.ocf_env.specs.Lists.{meta_pairs}
+use Rattle.ocf_types.specs.Lemmas.{monitor_is}
 use Rattle.ocf_env.proofs.Amongs.{Among, among, contained, among_left, among_right, among_cases}
 
 -- the variables of every invocation, in the two segments of a list that have them
@@ -104,15 +104,14 @@ from_parts : (site : SiteView) (r : Registration) (t : Task) (x : Pair) → Amon
 from_parts site r t x (inl a) = from_version site r t x a
 from_parts site r t x (inr a) = from_after site r t x (inr a)
 
-level_among : (t : Task) (check : Check) → t ≡ task.Monitor check
-    → Among (codes "OCF_CHECK_LEVEL", decimal (level_number check.level)) (level_pairs t)
-level_among t check e = rw e (inl refl)
+level_among : (t : Task) → t.action ≡ Monitor → Among (codes "OCF_CHECK_LEVEL", decimal (level_number t.check.level)) (level_pairs t)
+level_among t e = rw e (inl refl)
 
 listed : (site : SiteView) (r : Registration) (t : Task) (name value : List ℕ) → IsVariable site r t name value
     → Among (name, value) (action_pairs site r t)
 listed site r t name value (of_agent v) = from_parts site r t (name, value) (in_parts site r.provider r.agent name value v).here
-listed site r t name value (level {check} e) =
-    from_level site r t (codes "OCF_CHECK_LEVEL", decimal (level_number check.level)) (level_among t check e)
+listed site r t name value (level e) =
+    from_level site r t (codes "OCF_CHECK_LEVEL", decimal (level_number t.check.level)) (level_among t e)
 listed site r t name value instance = from_after site r t (codes "OCF_RESOURCE_INSTANCE", r.id) (inl refl)
 listed site r t name value (parameter {name = p} {value = v} h) =
     from_rest site r t (reskey p, v)
@@ -120,14 +119,13 @@ listed site r t name value (parameter {name = p} {value = v} h) =
 
 -- a pair in a segment of the list is a variable
 level_only : (site : SiteView) (r : Registration) (t : Task) (x : Pair) → Among x (level_pairs t) → IsVariable site r t x.0 x.1
-level_only site r (task.Monitor check) x (inl e) = subst (λ (p : Pair). IsVariable site r (task.Monitor check) p.0 p.1) e (level refl)
-level_only site r (task.Monitor check) x (inr a) = absurd a
-level_only site r task.Start x a = absurd a
-level_only site r task.Stop x a = absurd a
-level_only site r task.Promote x a = absurd a
-level_only site r task.Demote x a = absurd a
-level_only site r task.ReloadAgent x a = absurd a
-level_only site r task.ValidateAll x a = absurd a
+level_only site r t x a = by (is_monitor t.action) refl a
+  where
+    by : (b : Bool) → is_monitor t.action ≡ b
+        → Among x (if b then (codes "OCF_CHECK_LEVEL", decimal (level_number t.check.level)) ∷ [] else []) → IsVariable site r t x.0 x.1
+    by true e (inl f) = subst (λ (p : Pair). IsVariable site r t p.0 p.1) f (level (monitor_is t.action e))
+    by true e (inr a) = absurd a
+    by false e a = absurd a
 
 params_only : (site : SiteView) (r : Registration) (t : Task) (x : Pair) → Among x (param_pairs r.params) → IsVariable site r t x.0 x.1
 params_only site r t x a =

@@ -3,7 +3,7 @@ use Rattle.std.proofs.Common.{◌≡◌, ◌↔◌, inl, inr, ℕ, Bool, true, f
 use Rattle.std.specs.Prelude.{bytes_eq}
 use Rattle.std.specs.List.{Contains}
 use Rattle.std.proofs.lemmas.Slice.Eq.{bytes_eq-Decides}
-use Rattle.ocf_types.specs.Actions.{action_of, action_word}
+use Rattle.ocf_types.specs.Actions.{action_word}
 use Rattle.ocf_types.specs.Kinds.{Registration}
 use Rattle.ocf_types.specs.Params.{AreParams}
 use Rattle.ocf_types.specs.declared.operation.Running.{Running}
@@ -168,7 +168,7 @@ param_wins site r running n mine value lawful there given =
 
 -- the three insertions, one after another
 pub all_added : (running : Running) (xs one two three : List Pair) (i n t : List ℕ) → i ≡ decimal running.interval
-    → n ≡ action_word (action_of running.task) → t ≡ decimal running.timeout
+    → n ≡ action_word running.task.action → t ≡ decimal running.timeout
     → one ≡ with_new (codes "OCF_RESKEY_CRM_meta_interval", i) xs → two ≡ with_new (codes "OCF_RESKEY_CRM_meta_name", n) one
     → three ≡ with_new (codes "OCF_RESKEY_CRM_meta_timeout", t) two → three ≡ with_meta running xs
 unfolding with_meta

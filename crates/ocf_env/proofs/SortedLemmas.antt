@@ -1,14 +1,14 @@
 -- The environment is sorted.
-use Rattle.std.proofs.Common.{◌≡◌, ℕ, true, ◌&&◌, List, [], ◌∷◌, ◌++◌, Some, None, refl, codes}
+use Rattle.std.proofs.Common.{◌≡◌, ℕ, Bool, true, false, if◌then◌else◌, ◌&&◌, List, [], ◌∷◌, ◌++◌, Some, None, refl, codes, decimal}
 use Rattle.ocf_types.specs.Names.{is_param_name}
 use Rattle.ocf_types.specs.Values.{is_param_value}
 use Rattle.ocf_types.specs.Params.{ParamList, is_before, are_params_after, AreParams}
+use Rattle.ocf_types.specs.Actions.{is_monitor, level_number}
 use Rattle.ocf_types.specs.Kinds.{Registration}
 use Rattle.ocf_types.specs.declared.action.Task.{Task}
-use Rattle.ocf_types.specs.declared.action.Task.TheVariants as task
 use Rattle.ocf_env.specs.Locations.{SiteView, Pair}
 use Rattle.ocf_env.specs.Variables.{reskey, are_ascending_after, are_ascending}
-use Rattle.ocf_env.specs.Lists.{param_pairs, instance_pair, last_pairs, action_pairs, meta_pairs}
+use Rattle.ocf_env.specs.Lists.{version_pairs, param_pairs, instance_pair, last_pairs, instance_pairs, action_pairs, meta_pairs}
 use Rattle.ocf_types.specs.Lemmas.{and_true, both}
 
 -- names of parameters are ordered as their variables are
@@ -38,13 +38,13 @@ after_version site r (p ∷ ps) h =
 
 pub ascending : (site : SiteView) (r : Registration) (t : Task) → AreParams r.params → are_ascending (action_pairs site r t) ≡ true
 unfolding action_pairs
-ascending site r task.Start h = after_version site r r.params h.sorted
-ascending site r task.Stop h = after_version site r r.params h.sorted
-ascending site r (task.Monitor depth) h = after_version site r r.params h.sorted
-ascending site r task.Promote h = after_version site r r.params h.sorted
-ascending site r task.Demote h = after_version site r r.params h.sorted
-ascending site r task.ReloadAgent h = after_version site r r.params h.sorted
-ascending site r task.ValidateAll h = after_version site r r.params h.sorted
+ascending site r t h = by (is_monitor t.action)
+  where
+    by : (b : Bool)
+        → are_ascending ((if b then (codes "OCF_CHECK_LEVEL", decimal (level_number t.check.level)) ∷ [] else [])
+        ++ (version_pairs ++ instance_pairs site r)) ≡ true
+    by true = after_version site r r.params h.sorted
+    by false = after_version site r r.params h.sorted
 
 pub meta_ascending : (site : SiteView) (provider agent : List ℕ) → are_ascending (meta_pairs site provider agent) ≡ true
 unfolding meta_pairs

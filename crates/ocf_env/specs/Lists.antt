@@ -2,18 +2,17 @@
 use Rattle.std.specs.Prelude.{ℕ, List, [], ◌∷◌, ◌++◌, map, codes, decimal, count_by, insert, if◌then◌else◌, bytes_eq}
 use Rattle.std.specs.List.{list_any}
 use Rattle.ocf_types.specs.Params.{ParamList, is_before}
-use Rattle.ocf_types.specs.Actions.{action_of, action_word, level_number}
+use Rattle.ocf_types.specs.Actions.{action_word, is_monitor, level_number}
 use Rattle.ocf_types.specs.Kinds.{Registration}
 use Rattle.ocf_types.specs.declared.action.Task.{Task}
-use Rattle.ocf_types.specs.declared.action.Task.TheVariants.{Monitor}
 use Rattle.ocf_types.specs.declared.operation.Running.{Running}
 use Rattle.ocf_env.specs.Locations.{SiteView, Pair}
 use Rattle.ocf_env.specs.Variables.{reskey}
 
 -- OCF Resource Agent API 1.1, OCF_CHECK_LEVEL: for a monitor only
 abbrev pub level_pairs : Task → List Pair
-level_pairs (Monitor check) = (codes "OCF_CHECK_LEVEL", decimal (level_number check.level)) ∷ []
-level_pairs _ = []
+level_pairs task =
+    if is_monitor task.action then (codes "OCF_CHECK_LEVEL", decimal (level_number task.check.level)) ∷ [] else []
 
 -- OCF Resource Agent API 1.1, OCF_RA_VERSION_MAJOR and OCF_RA_VERSION_MINOR
 abbrev pub version_pairs : List Pair
@@ -61,7 +60,7 @@ abbrev pub interval_pair : Running → Pair
 interval_pair running = (codes "OCF_RESKEY_CRM_meta_interval", decimal running.interval)
 
 abbrev pub name_pair : Running → Pair
-name_pair running = (codes "OCF_RESKEY_CRM_meta_name", action_word (action_of running.task))
+name_pair running = (codes "OCF_RESKEY_CRM_meta_name", action_word running.task.action)
 
 abbrev pub timeout_pair : Running → Pair
 timeout_pair running = (codes "OCF_RESKEY_CRM_meta_timeout", decimal running.timeout)

@@ -3,9 +3,8 @@ use Rattle.std.specs.Prelude.{◌≡◌, ℕ, ◌&&◌, Bool, true, List, [], �
 use Rattle.ocf_types.specs.Params.{is_after}
 use Rattle.ocf_types.specs.Actions.{level_number}
 use Rattle.ocf_types.specs.Kinds.{Registration}
-use Rattle.ocf_types.specs.declared.action.Check.{Check}
 use Rattle.ocf_types.specs.declared.action.Task.{Task}
-use Rattle.ocf_types.specs.declared.action.Task.TheVariants.{Monitor}
+use Rattle.ocf_types.specs.declared.action.Action.TheVariants.{Monitor}
 use Rattle.ocf_env.specs.Locations.{SiteView, Pair}
 
 -- the variable of a parameter: OCF Resource Agent API 1.1, OCF_RESKEY_
@@ -24,7 +23,7 @@ pub data IsAgentVariable (site : SiteView) (provider agent : List ℕ) : List �
 -- a variable of an action: one of these, the level of a monitor, the instance, or a parameter
 pub data IsVariable (site : SiteView) (r : Registration) (task : Task) : List ℕ → List ℕ → Type 0 where
   of_agent : {name value : List ℕ} → IsAgentVariable site r.provider r.agent name value → IsVariable site r task name value
-  level : {check : Check} → task ≡ Monitor check → IsVariable site r task (codes "OCF_CHECK_LEVEL") (decimal (level_number check.level))
+  level : task.action ≡ Monitor → IsVariable site r task (codes "OCF_CHECK_LEVEL") (decimal (level_number task.check.level))
   instance : IsVariable site r task (codes "OCF_RESOURCE_INSTANCE") r.id
   parameter : {name value : List ℕ} → Contains r.params (name, value) → IsVariable site r task (reskey name) value
 

@@ -8,7 +8,7 @@ ghost use Rattle.ocf_env.specs.Lists.{level_pairs, version_pairs, param_pairs, i
 use crate::site::Site;
 use crate::text::{Text, ascii, copied, joined};
 use growth::{Grows, push};
-use ocf_types::{AgentType, Level, ParamName, ParamValue, Params, Provider, RscId, Task};
+use ocf_types::{Action, AgentType, Level, ParamName, ParamValue, Params, Provider, RscId, Task};
 use std::alloc::{AllocError, Allocator};
 
 /// A list of variables that is being filled.
@@ -44,11 +44,16 @@ pub fn push_level<A: Grows>(alloc: A, pairs: &mut Pairs<A>, task: Task) -> Resul
     ensures pairs { OnOk result (pairs.new.items ≡ pairs.old.items ++ level_pairs task) }
     ensures memory { OnErr result (IsTrue A.refuses) }
 {
-    match task {
-        Task::Monitor(check) => {
-            push_pair(alloc, pairs, "OCF_CHECK_LEVEL", level_text(check.level))?;
+    match task.action() {
+        Action::Monitor => {
+            push_pair(
+                alloc,
+                pairs,
+                "OCF_CHECK_LEVEL",
+                level_text(task.check().level),
+            )?;
             Ok(())
-        },
+        }
         _ => Ok(()),
     }
 }

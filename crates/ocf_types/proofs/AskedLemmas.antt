@@ -89,7 +89,7 @@ asked_applies s now (command.Exec id t timeout) h l p =
     let has_room = λ (r : Resource). leb 32 (length r.history.queue) ≡ false in
     let there = weaker_of (resource_at s id) has_room (StepApplies s.next_call s.next_run (step.Exec o))
     (λ r q. (leb-false _ _ q, next)) room in
-    applies_small s now (change.Step id (step.Exec o)) h (l.0, (h.next_call, l.1, tt)) tt there
+    applies_small s now (change.Step id (step.Exec o)) h (l.0, (h.next_call, l.1, tt, l.2)) tt there
 asked_applies s now (command.Recur id interval timeout check) h l p =
     let m : Recur = record { call = s.next_call; interval = interval; timeout = timeout; check = check } in
     let next : IsNext s.next_call s.next_call = next_is s h (eqb-false _ _ p.1.1.1.0) in

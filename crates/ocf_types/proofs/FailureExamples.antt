@@ -5,7 +5,7 @@ use Rattle.ocf_types.specs.declared.action.Level.TheVariants.{Zero}
 use Rattle.ocf_types.specs.declared.action.Action.{Action}
 use Rattle.ocf_types.specs.declared.action.Action.TheVariants as action
 use Rattle.ocf_types.specs.declared.action.Task.{Task}
-use Rattle.ocf_types.specs.declared.action.Task.TheVariants as task
+use Rattle.ocf_types.specs.Actions.{plain, task}
 use Rattle.ocf_types.specs.declared.expect.Expect.{Expect}
 use Rattle.ocf_types.specs.declared.expect.Expect.TheVariants.{Success, NotRunning, RunningPromoted}
 use Rattle.ocf_types.specs.declared.layout.Layout.TheVariants.{First}
@@ -27,7 +27,7 @@ result a outcome = record { call = 2; run = 4; action = a; interval = 0; since =
 
 -- a monitor that is expected to find this
 abbrev check : Expect → Task
-check x = task.Monitor (record { level = Zero; expect = x })
+check x = task action.Monitor (record { level = Zero; expect = x })
 
 abbrev code : ℕ → Outcome
 code n = Run (Done n)
@@ -44,15 +44,15 @@ other_ends : (failed_by Success 191 ≡ Some (result action.Monitor (code 191)))
 other_ends = (refl, refl, refl, refl)
 
 -- a start that ends degraded has failed, and so has one that ran out of time
-degraded_start : (ends task.Start (code 190) no_history).failed ≡ Some (result action.Start (code 190))
+degraded_start : (ends (task action.Start plain) (code 190) no_history).failed ≡ Some (result action.Start (code 190))
 degraded_start = refl
 
-late_start : (ends task.Start (Run TimedOut) no_history).failed ≡ Some (result action.Start (Run TimedOut))
+late_start : (ends (task action.Start plain) (Run TimedOut) no_history).failed ≡ Some (result action.Start (Run TimedOut))
 late_start = refl
 
 -- a failure is kept after a success and a boot, until it is forgotten; the first layout does not keep it
 failure : History
-failure = ends task.Start (code 1) no_history
+failure = ends (task action.Start plain) (code 1) no_history
 
 succeeded : (ends (check Success) (code 0) failure).failed ≡ Some (result action.Start (code 1))
 unfolding failure

@@ -4,7 +4,6 @@ use Rattle.std.specs.Prelude.{None, option_and_then}
 use Rattle.std.specs.Option.{option_or}
 use Rattle.std.specs.Str.{bytes_eq}
 use Rattle.std.proofs.lemmas.Map.Made.{lookup-map_values}
-use Rattle.ocf_types.specs.Actions.{action_of, expect_of}
 use Rattle.ocf_types.specs.Boot.{boot_at}
 use Rattle.ocf_types.specs.Expected.{has_failed}
 use Rattle.ocf_types.specs.Kinds.{Step}
@@ -30,7 +29,7 @@ failure_after : (id : List ℕ) (outcome : Outcome) (at : ℕ) (h : History) (x 
     → failed_after outcome at h ≡ last_failure (run_notice id outcome at x) h.failed
 failure_after id outcome at h x runs =
     ap (λ (o : Option Running). option_or (option_and_then (failed_of outcome at) o) h.failed) runs
-    ∙ kept_or (has_failed (action_of x.task) (expect_of x.task) outcome) (ended_of outcome at x) h.failed
+    ∙ kept_or (has_failed x.task.action x.task.check.expect outcome) (ended_of outcome at x) h.failed
 
 -- the same of its resource
 pub failure_kept : (s : State) (at : ℕ) (id : List ℕ) (end : RunEnd) (r : Resource) (x : Running) → resource_at s id ≡ Some r

@@ -22,7 +22,6 @@ use Rattle.ocf_types.specs.Encoding.{encoded_params}
 use Rattle.ocf_types.specs.State.{Registry, registered}
 use Rattle.ocf_types.specs.Layouts.{kept_in, failed_in, CanEnd, KnowsWithdrawal, current}
 use Rattle.ocf_types.specs.Expected.{has_failed}
-use Rattle.ocf_types.specs.Actions.{action_of, expect_of}
 use Rattle.ocf_types.specs.declared.layout.Layout.TheVariants.{First, Second}
 use Rattle.ocf_types.specs.Resource.{History, Resource, last_in, ended_of, dropped_of, failed_of, failed_after, run_of_op, run_of_monitor, of_interval}
 use Rattle.ocf_types.specs.Resource.{cancelled_of, queued_of}
@@ -52,7 +51,7 @@ module _ (n k clock n' k' clock' : ℕ) (calls : n ≤ n') (runs : k ≤ k') (mo
         since = omega (arith, p.since);
         at = omega (arith, p.at);
         outcome = p.outcome;
-        lemma_known = p.lemma_known;
+        known = p.known;
       })
       xs h
 
@@ -64,7 +63,7 @@ module _ (n k clock n' k' clock' : ℕ) (calls : n ≤ n') (runs : k ≤ k') (mo
   -- a running action stays lawful later
   pub running_weaken : (layout : Layout) (o : Option Running) → IsLawfulRunningIn layout n k clock o → IsLawfulRunningIn layout n' k' clock' o
   running_weaken layout None h = tt
-  running_weaken layout (Some x) h = (h.0, omega (arith, h.1), h.2, omega (arith, h.3), h.4, h.5, omega (arith, h.6), h.7)
+  running_weaken layout (Some x) h = (h.0, omega (arith, h.1), h.2, omega (arith, h.3), h.4, h.5, omega (arith, h.6), h.7, h.8)
 
 module _ (layout : Layout) (n k clock n' k' clock' : ℕ) (calls : n ≤ n') (runs : k ≤ k') (moments : clock ≤ clock') where
   -- a resource stays lawful later
@@ -85,7 +84,7 @@ module _ (layout : Layout) (n k clock n' k' clock' : ℕ) (calls : n ≤ n') (ru
     ended_len = h.ended_len;
     ended = ended_weaken n k clock n' k' clock' calls runs moments layout r.history.ended h.ended;
     failed = failed_weaken n k clock n' k' clock' calls runs moments r.history.failed h.failed;
-    lemma_known = h.lemma_known;
+    known = h.known;
   }
 
   -- resources stay lawful later
@@ -124,7 +123,7 @@ lawful_registered layout n k at r w short = record {
   ended_len = omega arith;
   ended = tt;
   failed = tt;
-  lemma_known = none_known layout;
+  known = none_known layout;
 }
 
 -- the kept results are no more than a layout keeps
@@ -143,8 +142,8 @@ ended_push layout n k clock xs ys h g =
 pub ended_running : (layout : Layout) (n k at : ℕ) (outcome : Outcome) (o : Option Running) → IsOutcome outcome → (NeverBegan outcome → ⊥)
     → CanEnd layout outcome → IsLawfulRunningIn layout n k at o
     → AllByRecursion (IsLawfulEndedIn layout n k at) (map (ended_of outcome at) (option_to_list o))
-ended_running layout n k at outcome None is other lemma_known h = tt
-ended_running layout n k at outcome (Some x) is other lemma_known h = (
+ended_running layout n k at outcome None is other known h = tt
+ended_running layout n k at outcome (Some x) is other known h = (
   record {
     drawn = h.0;
     call = h.1;
@@ -154,7 +153,7 @@ ended_running layout n k at outcome (Some x) is other lemma_known h = (
     since = h.6;
     at = omega arith;
     outcome = is;
-    lemma_known = lemma_known;
+    known = known;
   },
   tt,
 )
@@ -168,7 +167,7 @@ failed_push Second n k at end h is l f = by h.running l
     by : (o : Option Running) → IsLawfulRunningIn Second n k at o
         → IsLawfulFailed n k at (option_or (option_and_then (failed_of (Run end) at) o) h.failed)
     by None r = f
-    by (Some x) r = last (has_failed (action_of x.task) (expect_of x.task) (Run end))
+    by (Some x) r = last (has_failed x.task.action x.task.check.expect (Run end))
       where
         last : (b : Bool) → IsLawfulFailed n k at (option_or (cond b (Some (ended_of (Run end) at x)) None) h.failed)
         last true = ((ended_running Second n k at (Run end) (Some x) is (λ e. e) tt r).0, tt)
@@ -188,7 +187,7 @@ ended_dropped layout n k at (o ∷ os) one h = (
     since = omega arith;
     at = omega arith;
     outcome = tt;
-    lemma_known = tt;
+    known = tt;
   },
   ended_dropped layout n k at os one h.1,
 )
@@ -215,7 +214,7 @@ ended_cancelled layout n k at call (o ∷ os) one knows h = by (o.call == call) 
         since = omega arith;
         at = omega arith;
         outcome = tt;
-        lemma_known = knows;
+        known = knows;
       },
       tt,
     )
@@ -224,7 +223,7 @@ ended_cancelled layout n k at call (o ∷ os) one knows h = by (o.call == call) 
 -- the run of a queued action is lawful
 pub running_op : (layout : Layout) (n k at run : ℕ) (o : Op) → IsDrawn run → run < k → IsQueued layout n o
     → IsLawfulRunningIn layout n k at (Some (run_of_op run at o))
-running_op layout n k at run o drawn lt h = (h.0.0, h.1, drawn, lt, h.0.1, (omega arith, λ p. absurd (omega arith)), omega arith, h.0.2)
+running_op layout n k at run o drawn lt h = (h.0.0, h.1, drawn, lt, h.0.1, (omega arith, λ p. absurd (omega arith)), omega arith, h.0.2, h.0.3)
 
 -- the run of a recurring monitor is lawful
 pub running_monitor : (layout : Layout) (n k at run : ℕ) (test : Recur → Bool) (ms : List Recur) → IsDrawn run → run < k
@@ -234,7 +233,7 @@ running_monitor layout n k at run test (m ∷ ms) drawn lt h = by (test m) (runn
   where
     by : (b : Bool) → IsLawfulRunningIn layout n k at (option_map (run_of_monitor run at) (find test ms))
         → IsLawfulRunningIn layout n k at (option_map (run_of_monitor run at) (cond b (Some m) (find test ms)))
-    by true rest = (h.0.0.0, h.0.1, drawn, lt, h.0.0.2, (h.0.0.1.1, λ p. refl), omega arith, h.0.0.3)
+    by true rest = (h.0.0.0, h.0.1, drawn, lt, h.0.0.2, (h.0.0.1.1, λ p. refl), omega arith, h.0.0.3, refl)
     by false rest = rest
 
 -- an interval that is not found is not among the monitors' intervals

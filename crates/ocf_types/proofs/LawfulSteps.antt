@@ -35,7 +35,7 @@ with_history : (layout : Layout) (n k clock : ℕ) (r : Resource) (h : History) 
     → length h.ended ≤ kept_in layout → AllByRecursion (IsLawfulEndedIn layout n k clock) h.ended
     → IsLawfulFailed n k clock h.failed → failed_in layout h.failed ≡ h.failed
     → IsLawfulResourceIn layout n k clock (record r { history = h })
-with_history layout n k clock r h l queue_len queue ascends running ended_len ended failed lemma_known = record {
+with_history layout n k clock r h l queue_len queue ascends running ended_len ended failed known = record {
   provider = l.provider;
   agent = l.agent;
   are_params = l.are_params;
@@ -51,7 +51,7 @@ with_history layout n k clock r h l queue_len queue ascends running ended_len en
   ended_len = ended_len;
   ended = ended;
   failed = failed;
-  lemma_known = lemma_known;
+  known = known;
 }
 
 -- a lawful resource with other monitors
@@ -75,7 +75,7 @@ with_recurring layout n k clock r ms l recurring_len recurring ascends intervals
   ended_len = l.ended_len;
   ended = l.ended;
   failed = l.failed;
-  lemma_known = l.lemma_known;
+  known = l.known;
 }
 
 -- a lawful resource with other parameters
@@ -98,7 +98,7 @@ with_params layout n k clock r ps l are short = record {
   ended_len = l.ended_len;
   ended = l.ended;
   failed = l.failed;
-  lemma_known = l.lemma_known;
+  known = l.known;
 }
 
 -- a begin keeps a resource lawful
@@ -111,14 +111,14 @@ lawful_begin layout n k at call run r l drawn lt = by r.history.queue refl
         let monitor = option_map (run_of_monitor run at) (of_call call r.recurring) in
         let runs : IsLawfulRunningIn layout n k at monitor = running_monitor layout n k at run (λ m. m.call == call) r.recurring drawn lt l.recurring in
         rw e (with_history layout n k at r (record r.history { queue = []; running = monitor }) l
-        (omega arith) tt tt runs l.ended_len l.ended l.failed l.lemma_known)
+        (omega arith) tt tt runs l.ended_len l.ended l.failed l.known)
     by (o ∷ os) e =
         let queued = rw e at l.queue in
         let shorter = rw e at l.queue_len in
         let ascends = rw e at l.queue_ascends in
         let runs = running_op layout n k at run o drawn lt queued.0 in
         rw e (with_history layout n k at r (record r.history { queue = os; running = Some (run_of_op run at o) }) l
-        (omega (arith, shorter)) queued.1 ascends.1 runs l.ended_len l.ended l.failed l.lemma_known)
+        (omega (arith, shorter)) queued.1 ascends.1 runs l.ended_len l.ended l.failed l.known)
 
 -- a step that applies keeps a resource lawful
 pub lawful_step : (layout : Layout) (n k clock at : ℕ) (id : List ℕ) (s : Step) (r : Resource) → IsLawfulResourceIn layout n k clock r
@@ -134,7 +134,7 @@ lawful_step layout n k clock at id (step.Exec o) r h w short a le one =
     (omega (arith, a.0, length-append r.history.queue (o ∷ [])))
     (each_append (IsQueued layout (n + 1)) r.history.queue (o ∷ []) l.queue ((w, omega (arith, a.1.0)), tt))
     (ascends_push (λ x. x.call) n r.history.queue o below (omega (arith, a.1.0)) h.queue_ascends)
-    l.running l.ended_len l.ended l.failed l.lemma_known
+    l.running l.ended_len l.ended l.failed l.known
 lawful_step layout n k clock at id (step.Recur m) r h w short a le one =
     let l = lawful_weaken layout n k clock (n + 1) (k + 0) at (omega arith) (omega arith) le r h in
     let below = each_weaken (IsRecurring layout n) (λ x. x.call < n) (λ x p. p.1) r.recurring h.recurring in
@@ -174,7 +174,7 @@ lawful_step layout n k clock at id (step.Withdraw call) r h w short a le one =
     (each_filter (IsQueued layout (n + 0)) stays r.history.queue l.queue)
     (ascends_filter (λ o. o.call) stays r.history.queue h.queue_ascends)
     l.running (length-last layout (r.history.ended ++ results))
-    (ended_push layout (n + 0) (k + 0) at r.history.ended results l.ended lawful) l.failed l.lemma_known
+    (ended_push layout (n + 0) (k + 0) at r.history.ended results l.ended lawful) l.failed l.known
 
 -- a boot keeps a resource lawful
 pub lawful_boot : (layout : Layout) (n k clock at : ℕ) (r : Resource) → 1 ≤ k → IsLawfulResourceIn layout n k clock r → clock ≤ at
@@ -187,4 +187,4 @@ lawful_boot layout n k clock at r one h le =
     let last = ended_running layout n k at Interrupted r.history.running tt (λ e. e) tt l.running in
     with_history layout n k at r (booted_in layout at r.history) l (omega arith) tt tt tt
     (length-last layout (r.history.ended ++ dropped ++ interrupted))
-    (ended_push layout n k at (r.history.ended ++ dropped) interrupted first last) l.failed l.lemma_known
+    (ended_push layout n k at (r.history.ended ++ dropped) interrupted first last) l.failed l.known

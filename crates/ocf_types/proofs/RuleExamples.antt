@@ -2,10 +2,9 @@
 use Rattle.std.proofs.Common.{◌≡◌, ℕ, ◌-◌, ◌*◌, min, ◌≤◌, ◌<◌, List, [], ◌∷◌, Option, Some, None, Ok, Err, refl, arith, inl, inr}
 use Rattle.std.specs.Prelude.{codes, replicate, option_map, IsSomeAnd, All}
 use Rattle.std.proofs.lemmas.List.Elements.{All-from_recursion}
-use Rattle.ocf_types.specs.Actions.{plain}
+use Rattle.ocf_types.specs.Actions.{plain, task}
 use Rattle.ocf_types.specs.declared.action.Action.TheVariants as action
 use Rattle.ocf_types.specs.declared.action.Task.{Task}
-use Rattle.ocf_types.specs.declared.action.Task.TheVariants as task
 use Rattle.ocf_types.specs.declared.operation.Op.{Op}
 use Rattle.ocf_types.specs.declared.operation.Recur.{Recur}
 use Rattle.ocf_types.specs.declared.outcome.RunEnd.TheVariants.{Done}
@@ -67,8 +66,8 @@ registered_twice = refl
 -- r1 runs its start, and its stop is queued
 abbrev stopped : State
 stopped =
-    after_all registered (at 5 (change.Step r1 (step.Exec (op 1 task.Start))) ∷ at 10 (change.Step r1 (step.Begin 1 1))
-    ∷ at 20 (change.Step r1 (step.Exec (op 2 task.Stop))) ∷ [])
+    after_all registered (at 5 (change.Step r1 (step.Exec (op 1 (task action.Start plain)))) ∷ at 10 (change.Step r1 (step.Begin 1 1))
+    ∷ at 20 (change.Step r1 (step.Exec (op 2 (task action.Stop plain)))) ∷ [])
 
 -- a boot drops the queued actions, and then interrupts the running one
 booted_history : option_map (λ r. r.history.ended) (resource_at (boot stopped 500) r1) ≡ Some (
@@ -99,7 +98,7 @@ unfolding two_bytes four_bytes eight_bytes encoded_event_in
 busy = refl
 
 -- the thirty-third queued action
-queue_full : event_of (with_resource 40 (replicate 32 (op 1 task.Start)) []) 0 (command.Exec r1 task.Stop 20000) ≡ Err QueueFull
+queue_full : event_of (with_resource 40 (replicate 32 (op 1 (task action.Start plain))) []) 0 (command.Exec r1 (task action.Stop plain) 20000) ≡ Err QueueFull
 unfolding two_bytes four_bytes eight_bytes encoded_event_in
 queue_full = refl
 
@@ -121,7 +120,7 @@ unfolding two_bytes four_bytes eight_bytes encoded_event_in
 not_recurring = refl
 
 -- the greatest call id is never given
-calls_spent : event_of (with_resource 9007199254740991 [] []) 0 (command.Exec r1 task.Start 20000) ≡ Err CallsSpent
+calls_spent : event_of (with_resource 9007199254740991 [] []) 0 (command.Exec r1 (task action.Start plain) 20000) ≡ Err CallsSpent
 unfolding two_bytes four_bytes eight_bytes encoded_event_in
 calls_spent = refl
 
@@ -193,5 +192,5 @@ not_due_yet : IsPick (three []) three_due 20 None
 not_due_yet = All-from_recursion (λ p. 20 < p.0) ((35, 1) ∷ (30, 2) ∷ (30, 3) ∷ []) (omega arith, (omega arith, (omega arith, tt)))
 
 -- a queued stop comes before a monitor that is due
-stop_first : IsPick (three (op 4 task.Stop ∷ [])) three_due 50 (Some 4)
+stop_first : IsPick (three (op 4 (task action.Stop plain) ∷ [])) three_due 50 (Some 4)
 stop_first = refl

@@ -3,7 +3,7 @@ use Rattle.std.proofs.Common.{◌≡◌, ℕ, suc, zero, List, [], ◌∷◌, ma
 use Rattle.std.specs.Prelude.{codes, option_map, take}
 use Rattle.ocf_types.specs.declared.action.Action.TheVariants as action
 use Rattle.ocf_types.specs.declared.action.Task.{Task}
-use Rattle.ocf_types.specs.declared.action.Task.TheVariants as task
+use Rattle.ocf_types.specs.Actions.{plain, task}
 use Rattle.ocf_types.specs.declared.layout.Layout.TheVariants.{First}
 use Rattle.ocf_types.specs.declared.operation.Op.{Op}
 use Rattle.ocf_types.specs.declared.outcome.RunEnd.TheVariants.{Done}
@@ -32,8 +32,8 @@ op call what = record { call = call; task = what; timeout = 20000 }
 abbrev queued : State
 queued = after_all empty (
     at 0 (change.Register (record { id = r1; provider = codes "pacemaker"; agent = codes "Dummy"; params = [] }))
-    ∷ at 0 (change.Step r1 (step.Exec (op 1 task.Start))) ∷ at 10 (change.Step r1 (step.Begin 1 1))
-    ∷ at 20 (change.Step r1 (step.Exec (op 2 task.Stop))) ∷ at 20 (change.Step r1 (step.Exec (op 3 task.Stop))) ∷ [])
+    ∷ at 0 (change.Step r1 (step.Exec (op 1 (task action.Start plain)))) ∷ at 10 (change.Step r1 (step.Begin 1 1))
+    ∷ at 20 (change.Step r1 (step.Exec (op 2 (task action.Stop plain)))) ∷ at 20 (change.Step r1 (step.Exec (op 3 (task action.Stop plain)))) ∷ [])
 
 -- the second of them is withdrawn at 40
 abbrev withdrawn : State
@@ -67,7 +67,7 @@ unknown_in_first h = h.1
 -- the history after n actions, of the calls from this one on, each accepted, begun and ended
 abbrev results : ℕ → ℕ → History → History
 results zero call h = h
-results (suc n) call h = results n (suc call) (ended (Run (Done 0)) 10 (begun None call 0 (accepted (op call task.Stop) h)))
+results (suc n) call h = results n (suc call) (ended (Run (Done 0)) 10 (begun None call 0 (accepted (op call (task action.Stop plain)) h)))
 
 -- of 65 results the last 64 are kept
 abbrev of_65 : List ℕ

@@ -1,5 +1,5 @@
 -- Actions, their words, and the checks of monitors.
-use Rattle.std.specs.Prelude.{ℕ, ◌==◌, List, [], ◌∷◌, Option, Some, None, codes}
+use Rattle.std.specs.Prelude.{ℕ, ◌==◌, Bool, true, false, if◌then◌else◌, IsTrue, List, [], ◌∷◌, Option, Some, None, codes}
 use Rattle.std.specs.List.{find}
 use Rattle.std.specs.Str.{bytes_eq}
 use Rattle.ocf_types.specs.declared.action.Action.{Action}
@@ -7,8 +7,6 @@ use Rattle.ocf_types.specs.declared.action.Action.TheVariants as action
 use Rattle.ocf_types.specs.declared.action.Level.{Level}
 use Rattle.ocf_types.specs.declared.action.Level.TheVariants.{Zero, Ten, Twenty}
 use Rattle.ocf_types.specs.declared.action.Check.{Check}
-use Rattle.ocf_types.specs.declared.action.Task.{Task}
-use Rattle.ocf_types.specs.declared.action.Task.TheVariants as task
 use Rattle.ocf_types.specs.declared.expect.Expect.{Expect}
 use Rattle.ocf_types.specs.declared.expect.Expect.TheVariants.{Success}
 
@@ -21,6 +19,11 @@ action_word action.Promote = codes "promote"
 action_word action.Demote = codes "demote"
 action_word action.ReloadAgent = codes "reload-agent"
 action_word action.ValidateAll = codes "validate-all"
+
+-- whether an action is a monitor
+abbrev pub is_monitor : Action → Bool
+is_monitor action.Monitor = true
+is_monitor _ = false
 
 -- all actions
 abbrev pub actions : List Action
@@ -40,40 +43,29 @@ level_number Twenty = 20
 abbrev pub level_numbered : ℕ → Option Level
 level_numbered n = find (λ l. n == level_number l) (Zero ∷ Ten ∷ Twenty ∷ [])
 
--- the action of a task
-abbrev pub action_of : Task → Action
-action_of task.Start = action.Start
-action_of task.Stop = action.Stop
-action_of (task.Monitor check) = action.Monitor
-action_of task.Promote = action.Promote
-action_of task.Demote = action.Demote
-action_of task.ReloadAgent = action.ReloadAgent
-action_of task.ValidateAll = action.ValidateAll
-
 -- the check of every action except a monitor: level 0, and success is expected
 abbrev pub plain : Check
 plain = record { level = Zero; expect = Success }
 
--- the check of a task
-abbrev pub check_of : Task → Check
-check_of (task.Monitor check) = check
-check_of _ = plain
+-- an action and its check
+pub record TaskView : Type 0 where
+  pub action : Action
+  pub check : Check
 
--- the expectation of a task
-abbrev pub expect_of : Task → Expect
-expect_of t = (check_of t).expect
+-- a task by its parts
+abbrev pub task : Action → Check → TaskView
+task action check = record { action = action; check = check }
 
--- the task of an action other than a monitor, which has the plain check only
-abbrev pub plain_task : Task → Level → Expect → Option Task
-plain_task t Zero Success = Some t
-plain_task t _ _ = None
+-- whether an action can have this level and this expectation: a monitor any, each other action level 0 and success
+abbrev pub can_check : Action → Level → Expect → Bool
+can_check action.Monitor _ _ = true
+can_check _ Zero Success = true
+can_check _ _ _ = false
 
--- the task of an action and a check
-abbrev pub task_of : Action → Check → Option Task
-task_of action.Start check = plain_task task.Start check.level check.expect
-task_of action.Stop check = plain_task task.Stop check.level check.expect
-task_of action.Monitor check = Some (task.Monitor check)
-task_of action.Promote check = plain_task task.Promote check.level check.expect
-task_of action.Demote check = plain_task task.Demote check.level check.expect
-task_of action.ReloadAgent check = plain_task task.ReloadAgent check.level check.expect
-task_of action.ValidateAll check = plain_task task.ValidateAll check.level check.expect
+-- the action can have the check: only a monitor has one that is not plain
+abbrev pub IsTask : TaskView → Type 0
+IsTask t = IsTrue (can_check t.action t.check.level t.check.expect)
+
+-- the task of an action and a check that it can have
+abbrev pub task_of : Action → Check → Option TaskView
+task_of action check = if can_check action check.level check.expect then Some (task action check) else None

@@ -1,13 +1,12 @@
 -- The exit codes that are expected of an action, and the outcomes that are failures.
-use Rattle.std.specs.Prelude.{ℕ, ◌==◌, ◌||◌, not, Bool, true, false, [], ◌∷◌, Option}
+use Rattle.std.specs.Prelude.{ℕ, ◌==◌, ◌||◌, not, Bool, false, [], ◌∷◌, Option, unwrap_or}
 use Rattle.std.specs.List.{find}
 use Rattle.ocf_types.specs.declared.action.Action.{Action}
 use Rattle.ocf_types.specs.declared.action.Action.TheVariants.{Monitor}
 use Rattle.ocf_types.specs.declared.expect.Expect.{Expect}
 use Rattle.ocf_types.specs.declared.expect.Expect.TheVariants.{Success, NotRunning, RunningPromoted}
-use Rattle.ocf_types.specs.declared.outcome.RunEnd.TheVariants.{Done, TimedOut, Signaled, Lost, NotStarted}
+use Rattle.ocf_types.specs.Outcomes.{outcome_row}
 use Rattle.ocf_types.specs.declared.outcome.Outcome.{Outcome}
-use Rattle.ocf_types.specs.declared.outcome.Outcome.TheVariants.{Run, Interrupted, Dropped, Cancelled}
 
 -- OCF Resource Agent API 1.1, exit codes: OCF_SUCCESS, OCF_NOT_RUNNING, OCF_RUNNING_PROMOTED
 abbrev pub expect_code : Expect → ℕ
@@ -30,14 +29,6 @@ abbrev pub is_expected : Action → Expect → ℕ → Bool
 is_expected Monitor x code = (code == expect_code x) || is_degraded x code
 is_expected _ x code = code == 0
 
--- the outcome is a failure: an exit code that is not expected, or none. An interrupted action is no failure, since its result is
--- not known; a dropped or cancelled one is none, since it never began
+-- the outcome is a failure: as its row says, or by an exit code that is not expected
 abbrev pub has_failed : Action → Expect → Outcome → Bool
-has_failed action x (Run (Done code)) = not (is_expected action x code)
-has_failed action x (Run TimedOut) = true
-has_failed action x (Run Signaled) = true
-has_failed action x (Run Lost) = true
-has_failed action x (Run (NotStarted fault)) = true
-has_failed action x Interrupted = false
-has_failed action x Dropped = false
-has_failed action x Cancelled = false
+has_failed action x o = unwrap_or (outcome_row o).failed (not (is_expected action x (outcome_row o).code))

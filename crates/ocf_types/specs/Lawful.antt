@@ -6,7 +6,7 @@ use Rattle.ocf_types.specs.Names.{is_rsc_id, is_provider, is_agent_type}
 use Rattle.ocf_types.specs.Numbers.{IsMoment, IsDrawn, IsMillis}
 use Rattle.ocf_types.specs.Params.{AreParams}
 use Rattle.ocf_types.specs.Kinds.{Registration, Step, Change, Event, Command}
-use Rattle.ocf_types.specs.Actions.{expect_of}
+use Rattle.ocf_types.specs.Actions.{IsTask}
 use Rattle.ocf_types.specs.Layouts.{CanExpect, KnowsWithdrawal, current}
 use Rattle.ocf_types.specs.Encoding.{encoded_event_in}
 use Rattle.ocf_types.specs.declared.layout.Layout.{Layout}
@@ -29,9 +29,9 @@ pub record IsLawfulRegistration (r : Registration) : Type 0 where
   pub agent : IsTrue (is_agent_type r.agent)
   pub params : AreParams r.params
 
--- an accepted action has a call id, a timeout, and an expectation that the layout can encode
+-- an accepted action has a call id, a timeout, and a task whose expectation the layout can encode
 abbrev pub IsLawfulOpIn : Layout → Op → Type 0
-IsLawfulOpIn layout o = IsDrawn o.call × IsMillis o.timeout × CanExpect layout (expect_of o.task)
+IsLawfulOpIn layout o = IsDrawn o.call × IsMillis o.timeout × CanExpect layout o.task.check.expect × IsTask o.task
 
 abbrev pub IsLawfulOp : Op → Type 0
 IsLawfulOp o = IsLawfulOpIn current o
@@ -97,12 +97,12 @@ pub record BeginsIn (layout : Layout) (bytes : List ℕ) (e : Event) : Type 0 wh
 abbrev pub Begins : List ℕ → Event → Type 0
 Begins bytes e = BeginsIn current bytes e
 
--- a command has lawful names, numbers and parameters
+-- a command has lawful names, tasks, numbers and parameters
 abbrev pub IsLawfulCommand : Command → Type 0
 IsLawfulCommand (command.Register r) = IsLawfulRegistration r
 IsLawfulCommand (command.Unregister id) = IsId id
 IsLawfulCommand (command.SetParams id ps) = IsId id × AreParams ps
-IsLawfulCommand (command.Exec id t timeout) = IsId id × IsMillis timeout
+IsLawfulCommand (command.Exec id t timeout) = IsId id × IsMillis timeout × IsTask t
 IsLawfulCommand (command.Recur id interval timeout check) = IsId id × IsMillis interval × IsMillis timeout
 IsLawfulCommand (command.Cancel id interval) = IsId id × IsMillis interval
 IsLawfulCommand (command.Forget id) = IsId id

@@ -7,7 +7,7 @@ use Rattle.ocf_types.specs.Limits.{event_limit, resources_limit, queue_limit, re
 use Rattle.ocf_types.specs.Names.{is_rsc_id, is_provider, is_agent_type}
 use Rattle.ocf_types.specs.Numbers.{IsMoment, IsDrawn, IsMillis}
 use Rattle.ocf_types.specs.Params.{AreParams}
-use Rattle.ocf_types.specs.Actions.{action_of, expect_of}
+use Rattle.ocf_types.specs.Actions.{IsTask}
 use Rattle.ocf_types.specs.Encoding.{encoded_params}
 use Rattle.ocf_types.specs.StateEncoding.{encoded_state_in}
 use Rattle.ocf_types.specs.Lawful.{IsLawfulOpIn, IsLawfulRecurIn, IsRunEnd}
@@ -31,12 +31,12 @@ IsAscending (n ∷ ns) = AllByRecursion (λ m. n < m) ns × IsAscending ns
 abbrev pub IsIntervalOf : ℕ → Action → Type 0
 IsIntervalOf interval action = (interval < 2 ^ 32) × (0 < interval → action ≡ Monitor)
 
--- a running action: its numbers are below the next ones, and it began no later than the clock
+-- a running action: its numbers are below the next ones, it began no later than the clock, and the layout can encode its task
 abbrev pub IsLawfulRunningIn : Layout → ℕ → ℕ → ℕ → Option Running → Type 0
 IsLawfulRunningIn layout next_call next_run clock None = ⊤
 IsLawfulRunningIn layout next_call next_run clock (Some x) =
     IsDrawn x.call × (x.call < next_call) × IsDrawn x.run × (x.run < next_run) × IsMillis x.timeout
-    × IsIntervalOf x.interval (action_of x.task) × (x.since ≤ clock) × CanExpect layout (expect_of x.task)
+    × IsIntervalOf x.interval x.task.action × (x.since ≤ clock) × CanExpect layout x.task.check.expect × IsTask x.task
 
 abbrev pub IsLawfulRunning : ℕ → ℕ → ℕ → Option Running → Type 0
 IsLawfulRunning next_call next_run clock x = IsLawfulRunningIn current next_call next_run clock x
@@ -63,7 +63,7 @@ pub record IsLawfulEndedIn (layout : Layout) (next_call next_run clock : ℕ) (e
   pub since : e.since ≤ clock
   pub at : e.at ≤ clock
   pub outcome : IsOutcome e.outcome
-  pub lemma_known : CanEnd layout e.outcome
+  pub known : CanEnd layout e.outcome
 
 abbrev pub IsLawfulEnded : ℕ → ℕ → ℕ → Ended → Type 0
 IsLawfulEnded next_call next_run clock e = IsLawfulEndedIn current next_call next_run clock e
@@ -95,7 +95,7 @@ pub record IsLawfulResourceIn (layout : Layout) (next_call next_run clock : ℕ)
   pub ended_len : length r.history.ended ≤ kept_in layout
   pub ended : AllByRecursion (IsLawfulEndedIn layout next_call next_run clock) r.history.ended
   pub failed : IsLawfulFailed next_call next_run clock r.history.failed
-  pub lemma_known : failed_in layout r.history.failed ≡ r.history.failed
+  pub known : failed_in layout r.history.failed ≡ r.history.failed
 
 abbrev pub IsLawfulResource : ℕ → ℕ → ℕ → Resource → Type 0
 IsLawfulResource next_call next_run clock r = IsLawfulResourceIn current next_call next_run clock r

@@ -12,7 +12,10 @@ use Rattle.std.proofs.lemmas.List.{append-nil, take_more}
 use Rattle.std.proofs.lemmas.List.Concat.{flat_map-append, flat_map-cons}
 use Rattle.std.proofs.lemmas.List.Sums.{fold-append}
 use Rattle.std.proofs.lemmas.Slice.Eq.{bytes_eq-Decides}
+use Rattle.ocf_types.specs.declared.action.Action.{Action}
+use Rattle.ocf_types.specs.declared.action.Action.TheVariants.{Monitor}
 use Rattle.ocf_types.specs.declared.event.Change.TheVariants as change
+use Rattle.ocf_types.specs.Actions.{is_monitor}
 use Rattle.ocf_types.specs.Due.{IsBefore}
 use Rattle.ocf_types.specs.Params.{is_before}
 use Rattle.ocf_types.specs.Resource.{is_busy}
@@ -42,6 +45,11 @@ zero_from_test n is = grind (arith, nat_tests)
 
 pub some_from_test : (n : ℕ) → false ≡ (n == 0) → 0 < n
 some_from_test n is = grind (arith, nat_tests)
+
+-- only a monitor passes the test for one
+pub monitor_is : (a : Action) → is_monitor a ≡ true → a ≡ Monitor
+monitor_is Monitor e = refl
+monitor_is _ e = absurd cc
 
 -- `Some` is injective
 pub some_is : {A : Type 0} (x y : A) → Some x ≡ Some y → x ≡ y

@@ -1,6 +1,5 @@
 -- Notices: results as they are reported, each with what was expected of its action.
 use Rattle.std.specs.Prelude.{ℕ, Bool, List, Option, Some, if◌then◌else◌}
-use Rattle.ocf_types.specs.Actions.{expect_of}
 use Rattle.ocf_types.specs.Expected.{has_failed}
 use Rattle.ocf_types.specs.Resource.{dropped_of, ended_of}
 use Rattle.ocf_types.specs.declared.operation.Ended.{Ended}
@@ -11,11 +10,11 @@ use Rattle.ocf_types.specs.declared.reply.Notice.{Notice}
 
 -- the notice of a run that ended at a moment
 abbrev pub run_notice : List ℕ → Outcome → ℕ → Running → Notice
-run_notice id outcome at x = record { id = id; result = ended_of outcome at x; expect = expect_of x.task }
+run_notice id outcome at x = record { id = id; result = ended_of outcome at x; expect = x.task.check.expect }
 
 -- the notice of a queued action that was dropped
 abbrev pub drop_notice : List ℕ → ℕ → Op → Notice
-drop_notice id at o = record { id = id; result = dropped_of at o; expect = expect_of o.task }
+drop_notice id at o = record { id = id; result = dropped_of at o; expect = o.task.check.expect }
 
 -- the result is a failure, by what was expected of its action
 abbrev pub is_failure : Notice → Bool

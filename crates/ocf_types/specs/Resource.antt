@@ -6,8 +6,8 @@ use Rattle.std.specs.Option.{option_or}
 use Rattle.ocf_types.specs.Layouts.{kept_in, failed_in, current}
 use Rattle.ocf_types.specs.Expected.{has_failed}
 use Rattle.ocf_types.specs.Params.{ParamList}
-use Rattle.ocf_types.specs.Actions.{action_of, expect_of}
-use Rattle.ocf_types.specs.declared.action.Task.TheVariants.{Monitor}
+use Rattle.ocf_types.specs.Actions.{task}
+use Rattle.ocf_types.specs.declared.action.Action.TheVariants.{Monitor}
 use Rattle.ocf_types.specs.declared.layout.Layout.{Layout}
 use Rattle.ocf_types.specs.declared.operation.Op.{Op}
 use Rattle.ocf_types.specs.declared.operation.Recur.{Recur}
@@ -49,20 +49,20 @@ run_of_op run at o = record { call = o.call; run = run; task = o.task; timeout =
 -- the run of a recurring monitor, begun at a moment
 abbrev pub run_of_monitor : ℕ → ℕ → Recur → Running
 run_of_monitor run at m =
-    record { call = m.call; run = run; task = Monitor m.check; timeout = m.timeout; interval = m.interval; since = at }
+    record { call = m.call; run = run; task = task Monitor m.check; timeout = m.timeout; interval = m.interval; since = at }
 
 -- the result of a run that ended at a moment
 abbrev pub ended_of : Outcome → ℕ → Running → Ended
 ended_of outcome at x =
-    record { call = x.call; run = x.run; action = action_of x.task; interval = x.interval; since = x.since; at = at; outcome = outcome }
+    record { call = x.call; run = x.run; action = x.task.action; interval = x.interval; since = x.since; at = at; outcome = outcome }
 
 -- the result of a queued action that was dropped
 abbrev pub dropped_of : ℕ → Op → Ended
-dropped_of at o = record { call = o.call; run = 0; action = action_of o.task; interval = 0; since = at; at = at; outcome = Dropped }
+dropped_of at o = record { call = o.call; run = 0; action = o.task.action; interval = 0; since = at; at = at; outcome = Dropped }
 
 -- the result of a queued action that was withdrawn
 abbrev pub cancelled_of : ℕ → Op → Ended
-cancelled_of at o = record { call = o.call; run = 0; action = action_of o.task; interval = 0; since = at; at = at; outcome = Cancelled }
+cancelled_of at o = record { call = o.call; run = 0; action = o.task.action; interval = 0; since = at; at = at; outcome = Cancelled }
 
 -- the history of a new resource
 abbrev pub no_history : History
@@ -87,7 +87,7 @@ begun monitor run at h = begun_from h.queue monitor run at h
 
 -- the result of a run, if it is a failure
 abbrev pub failed_of : Outcome → ℕ → Running → Option Ended
-failed_of outcome at x = if has_failed (action_of x.task) (expect_of x.task) outcome then Some (ended_of outcome at x) else None
+failed_of outcome at x = if has_failed x.task.action x.task.check.expect outcome then Some (ended_of outcome at x) else None
 
 -- the last failure after the running action has ended: its result if it is a failure, else the one before
 abbrev pub failed_after : Outcome → ℕ → History → Option Ended

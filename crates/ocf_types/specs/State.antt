@@ -46,7 +46,7 @@ others id rs = filter (λ e. not (bytes_eq id e.0)) rs
 abbrev pub at_id : {A : Type 0} → List ℕ → (A → A) → List (List ℕ × A) → List (List ℕ × A)
 at_id id f entries = map (λ e. (e.0, if bytes_eq id e.0 then f e.1 else e.1)) entries
 
--- a resource with f applied to its history, and to its recurring monitors
+-- a resource with f applied to its history; and, the second one, with f applied to its recurring monitors
 abbrev pub on_history : (History → History) → Resource → Resource
 on_history f r = record r { history = f r.history }
 
@@ -72,7 +72,7 @@ abbrev pub resource_of : Registration → History → List Recur → List ℕ ×
 resource_of r history recurring =
     (r.id, record { provider = r.provider; agent = r.agent; params = r.params; history = history; recurring = recurring })
 
--- a newly registered resource: all its lists are empty
+-- a newly registered resource: it has its parameters, and no operations and no results yet
 abbrev pub registered : Registration → List ℕ × Resource
 registered r = resource_of r no_history []
 

@@ -1,10 +1,12 @@
 //! Actions of agents.
 ghost use Rattle.std.specs.Prelude.{◌≡◌, ◌≢◌, IfSome, IfNone};
 ghost use Rattle.ocf_types.specs.Actions.{action_word, action_named, level_number, level_numbered};
-ghost use Rattle.ocf_types.specs.Actions.{action_of, check_of, plain, task_of};
+ghost use Rattle.ocf_types.specs.Actions.{plain, task, task_of};
 ghost use Rattle.ocf_types.specs.declared.action.Action.{Action};
+ghost use Rattle.ocf_types.specs.declared.action.Action.TheVariants.{Monitor};
 
 use crate::expect::Expect;
+use std::marker::Model;
 
 /// An action that an agent is asked to run. OCF Resource Agent API 1.1, actions; `promote` and `demote` apply to promotable
 /// agents.
@@ -113,16 +115,23 @@ impl Check {
     }
 }
 
-/// An action. Only a monitor has a check.
+/// An action and its check, which is the plain one unless the action is a monitor.
 #[derive(Clone, Copy, PartialEq, Eq)]
-pub enum Task {
-    Start,
-    Stop,
-    Monitor(Check),
-    Promote,
-    Demote,
-    ReloadAgent,
-    ValidateAll,
+pub struct Task {
+    action: Action,
+    check: Check,
+}
+
+impl Model for Task {
+    ghost use Rattle.ocf_types.specs.Actions.{TaskView, task, IsTask};
+
+    ghost Value = { TaskView };
+
+    ghost view = { λ t. task t.action t.check };
+
+    ghost invariant = { λ t. IsTask (task t.action t.check) };
+
+    ghost inverse = { λ t. record { action = t.action; check = t.check } };
 }
 
 impl Task {
@@ -131,40 +140,44 @@ impl Task {
     pub fn new(action: Action, check: Check) -> Option<Task>
         ensures { result ≡ task_of action check }
     {
-        match (action, check.level, check.expect) {
-            (Action::Monitor, _, _) => Some(Task::Monitor(check)),
-            (Action::Start, Level::Zero, Expect::Success) => Some(Task::Start),
-            (Action::Stop, Level::Zero, Expect::Success) => Some(Task::Stop),
-            (Action::Promote, Level::Zero, Expect::Success) => Some(Task::Promote),
-            (Action::Demote, Level::Zero, Expect::Success) => Some(Task::Demote),
-            (Action::ReloadAgent, Level::Zero, Expect::Success) => Some(Task::ReloadAgent),
-            (Action::ValidateAll, Level::Zero, Expect::Success) => Some(Task::ValidateAll),
-            _ => None,
+        if action == Action::Monitor || check == Check::plain() {
+            Some(Task { action, check })
+        } else {
+            None
+        }
+    }
+
+    /// An action with the plain check.
+    pub fn plain(action: Action) -> Task
+        ensures { result ≡ task action plain }
+    {
+        Task {
+            action,
+            check: Check::plain(),
+        }
+    }
+
+    /// A monitor with a check.
+    pub fn monitor(check: Check) -> Task
+        ensures { result ≡ task Monitor check }
+    {
+        Task {
+            action: Action::Monitor,
+            check,
         }
     }
 
     /// The action.
     pub fn action(self) -> Action
-        ensures { result ≡ action_of self }
+        ensures { result ≡ self.action }
     {
-        match self {
-            Task::Start => Action::Start,
-            Task::Stop => Action::Stop,
-            Task::Monitor(_) => Action::Monitor,
-            Task::Promote => Action::Promote,
-            Task::Demote => Action::Demote,
-            Task::ReloadAgent => Action::ReloadAgent,
-            Task::ValidateAll => Action::ValidateAll,
-        }
+        self.action
     }
 
     /// The check; the plain one unless the action is a monitor.
     pub fn check(self) -> Check
-        ensures { result ≡ check_of self }
+        ensures { result ≡ self.check }
     {
-        match self {
-            Task::Monitor(check) => check,
-            _ => Check::plain(),
-        }
+        self.check
     }
 }

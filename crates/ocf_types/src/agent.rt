@@ -30,8 +30,8 @@ impl Model for Provider {
 impl Provider {
     /// The name with these bytes. It takes no memory.
     pub fn new(bytes: &[u8]) -> Result<Self, BadName>
-        ensures lawful { is_ok result ≡ is_provider bytes.now }
         ensures bytes { IfOk result (λ name. name ≡ bytes.now) }
+        ensures lawful { is_ok result ≡ is_provider bytes.now }
     {
         if !is_provider(bytes) {
             return Err(BadName);
@@ -85,8 +85,8 @@ impl Model for AgentType {
 impl AgentType {
     /// The name with these bytes. It takes no memory.
     pub fn new(bytes: &[u8]) -> Result<Self, BadName>
-        ensures lawful { is_ok result ≡ is_agent_type bytes.now }
         ensures bytes { IfOk result (λ name. name ≡ bytes.now) }
+        ensures lawful { is_ok result ≡ is_agent_type bytes.now }
     {
         if !is_agent_type(bytes) {
             return Err(BadName);

@@ -1,7 +1,9 @@
 //! Lemmas: every value of these types is lawful. The bodies only read fields, which brings their invariants into scope.
+ghost use Rattle.ocf_types.specs.Actions.{IsTask};
 ghost use Rattle.ocf_types.specs.Lawful.{IsLawfulRegistration, IsLawfulOp, IsLawfulRecur, IsRunEnd, IsLawfulStep, IsLawfulChange};
 ghost use Rattle.ocf_types.specs.Lawful.{IsLawfulEvent, IsLawfulCommand};
 
+use crate::action::Task;
 use crate::command::CommandOf;
 use crate::event::{Change, EventOf, Registration, Step};
 use crate::operation::{Op, Recur};
@@ -16,8 +18,15 @@ impl RunEnd {
     {}
 }
 
+impl Task {
+    /// Only a monitor has a check that is not plain.
+    pub fn lemma_known(self)
+        ensures { IsTask self }
+    {}
+}
+
 impl Op {
-    /// An accepted action has a call id and a timeout.
+    /// An accepted action has a call id, a timeout and a task.
     pub fn lemma_known(self)
         ensures { IsLawfulOp self }
     {}
@@ -115,8 +124,9 @@ impl<A: Allocator> CommandOf<Params<A>> {
                 let _ = id.as_bytes();
                 let _ = params.as_slice();
             }
-            CommandOf::Exec { id, timeout, .. } => {
+            CommandOf::Exec { id, task, timeout } => {
                 let _ = id.as_bytes();
+                task.lemma_known();
                 let _ = timeout.get();
             }
             CommandOf::Recur {

@@ -45,7 +45,7 @@ pub use limits::{
 pub use names::BadName;
 pub use numbers::{CallId, Millis, Moment, RunId};
 pub use operation::{Ended, Op, Recur, Running};
-pub use outcome::{MetaFault, Outcome, RunEnd, StartFault};
+pub use outcome::{MetaFault, Outcome, OutcomeRow, RunEnd, StartFault};
 pub use param_name::ParamName;
 pub use params::Params;
 pub use part::Part;

@@ -28,8 +28,8 @@ impl Model for Moment {
 impl Moment {
     /// The moment of this number of milliseconds: `None` exactly when it is above [`NUM_MAX`].
     pub fn new(number: u64) -> Option<Moment>
-        ensures lawful { IsSome result ↔ IsMoment number }
         ensures value { IfSome result (λ n. n ≡ number) }
+        ensures lawful { IsSome result ↔ IsMoment number }
     {
         if number > NUM_MAX {
             return None;
@@ -78,8 +78,8 @@ impl Model for CallId {
 impl CallId {
     /// The call id of this number: `None` exactly when the number is 0 or above [`NUM_MAX`].
     pub fn new(number: u64) -> Option<CallId>
-        ensures lawful { IsSome result ↔ IsDrawn number }
         ensures value { IfSome result (λ n. n ≡ number) }
+        ensures lawful { IsSome result ↔ IsDrawn number }
     {
         if number == 0 || number > NUM_MAX {
             return None;
@@ -125,8 +125,8 @@ impl Model for RunId {
 impl RunId {
     /// The run number of this number: `None` exactly when the number is 0 or above [`NUM_MAX`].
     pub fn new(number: u64) -> Option<RunId>
-        ensures lawful { IsSome result ↔ IsDrawn number }
         ensures value { IfSome result (λ n. n ≡ number) }
+        ensures lawful { IsSome result ↔ IsDrawn number }
     {
         if number == 0 || number > NUM_MAX {
             return None;
@@ -164,8 +164,8 @@ impl Model for Millis {
 impl Millis {
     /// The length of this many milliseconds: `None` exactly when it is 0.
     pub fn new(number: u32) -> Option<Millis>
-        ensures lawful { IsSome result ↔ (1 ≤ number) }
         ensures value { IfSome result (λ n. n ≡ number) }
+        ensures lawful { IsSome result ↔ (1 ≤ number) }
     {
         if number == 0 {
             return None;

@@ -30,8 +30,8 @@ impl Model for ParamName {
 impl ParamName {
     /// The name with these bytes. It takes no memory.
     pub fn new(bytes: &[u8]) -> Result<Self, BadName>
-        ensures lawful { is_ok result ≡ is_param_name bytes.now }
         ensures bytes { IfOk result (λ name. name ≡ bytes.now) }
+        ensures lawful { is_ok result ≡ is_param_name bytes.now }
     {
         if !is_param_name(bytes) {
             return Err(BadName);

@@ -106,7 +106,7 @@ impl<A: Grows> Params<A> {
         ensures ok { OnOk result (self.new ≡ with_param name value self.old) }
         ensures full { result ≡ Err ValueError.BadValue
             ↔ ((length self.old ≡ PARAMS_LIMIT) × (has_param name self.old ≡ false)) }
-        ensures lemma_known { has_param name self.old ≡ true → IsOk result }
+        ensures replaces { has_param name self.old ≡ true → IsOk result }
         ensures err { OnErr result (self.new ≡ self.old) }
         ensures memory { result ≡ Err ValueError.Memory → IsTrue A.refuses }
     {

@@ -30,8 +30,8 @@ impl Model for RscId {
 impl RscId {
     /// The id with these bytes. It takes no memory.
     pub fn new(bytes: &[u8]) -> Result<Self, BadName>
-        ensures lawful { is_ok result ≡ is_rsc_id bytes.now }
         ensures bytes { IfOk result (λ name. name ≡ bytes.now) }
+        ensures lawful { is_ok result ≡ is_rsc_id bytes.now }
     {
         if !is_rsc_id(bytes) {
             return Err(BadName);

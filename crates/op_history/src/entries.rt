@@ -27,7 +27,7 @@ pub(crate) fn run_of_monitor(monitor: Recur, run: RunId, at: Moment) -> Running
     Running {
         call: monitor.call,
         run,
-        task: Task::Monitor(monitor.check),
+        task: Task::monitor(monitor.check),
         timeout: monitor.timeout,
         interval: monitor.interval.get(),
         since: at,

@@ -19,12 +19,12 @@ use thiserror::Error;
 
 /// No action of that call is queued.
 #[derive(Clone, Copy, Debug, PartialEq, Eq, Error)]
-#[error("no action of this call is queued")]
+#[error("no action with this call id is queued")]
 pub struct NotQueued;
 
 /// [`QUEUE_LIMIT`] actions are queued already.
 #[derive(Clone, Copy, Debug, PartialEq, Eq, Error)]
-#[error("as many actions of this resource are queued as may be")]
+#[error("the queue of this resource is full")]
 pub struct QueueFull;
 
 /// The operations of one resource: at most [`QUEUE_LIMIT`] queued actions, the running one, the last

@@ -2,7 +2,7 @@
 ghost use Rattle.std.specs.Prelude.{◌≡◌, ◌≤◌, length};
 
 use arrayvec::ArrayVec;
-use ocf_types::{CallId, Millis, Op, QUEUE_LIMIT, Task};
+use ocf_types::{CallId, Check, Millis, Op, QUEUE_LIMIT, Task};
 use std::marker::Model;
 
 /// A queued action, which contracts see as the action.
@@ -40,11 +40,10 @@ impl Default for Queued {
         let (Some(call), Some(timeout)) = (CallId::new(1), Millis::new(1)) else {
             unreachable!()
         };
-        let task = Task::Start;
         Queued {
             op: Op {
                 call,
-                task,
+                task: Task::monitor(Check::plain()),
                 timeout,
             },
         }

@@ -63,8 +63,8 @@ impl<A: Grows> DueIndex<A> {
     /// Reserves memory for that many more resources. Up to [`INDEX_LIMIT`] resources in all, the only error is a refused
     /// allocation.
     pub fn reserve(&mut self, more: usize) -> Result<(), AllocError>
-        ensures room { OnOk result (more ≤ self.new.room) }
         ensures dues { self.new.dues ≡ self.old.dues }
+        ensures room { OnOk result (more ≤ self.new.room) }
         ensures memory { OnErr result (length self.old.dues + more ≤ INDEX_LIMIT → IsTrue A.refuses) }
     {
         let len = self.resources.len();

@@ -41,10 +41,10 @@ impl<A: Grows> FirstMoments<A> {
     /// Grows to at least that many indices. The moments stay, and the new ones are `None`. The only error is a refused allocation.
     pub(crate) fn grow(&mut self, indexes: usize) -> Result<(), AllocError>
         requires limit { indexes ≤ INDEX_LIMIT }
-        ensures room { OnOk result (indexes ≤ length self.new) }
-        ensures kept { length self.old ≤ length self.new }
         ensures moments { (k : ℕ) → slice_index_or self.new k None
             ≡ slice_index_or self.old k None }
+        ensures kept { length self.old ≤ length self.new }
+        ensures room { OnOk result (indexes ≤ length self.new) }
         ensures memory { OnErr result (IsTrue A.refuses) }
     {
         if indexes <= self.indexes {

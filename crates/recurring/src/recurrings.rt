@@ -19,7 +19,7 @@ pub enum NotAdded {
     #[error("a recurring monitor of this resource has this interval")]
     Duplicate,
     /// There are [`RECURRING_LIMIT`] monitors already.
-    #[error("this resource has as many recurring monitors as may be")]
+    #[error("this resource has the greatest allowed number of recurring monitors")]
     RecurringFull,
 }
 

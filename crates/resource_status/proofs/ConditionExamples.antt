@@ -11,7 +11,7 @@ use Rattle.ocf_types.specs.declared.outcome.RunEnd.TheVariants.{Done, TimedOut, 
 use Rattle.ocf_types.specs.declared.outcome.StartFault.TheVariants.{Missing}
 use Rattle.resource_status.specs.Conditions.{condition_of, known_of}
 use Rattle.ocf_codes.specs.ExitCodes.{name_read}
-use Rattle.ocf_codes.specs.OutcomeCodes.{outcome_code}
+use Rattle.ocf_types.specs.Outcomes.{outcome_code}
 use Rattle.resource_status.specs.Meanings.{failure_meaning}
 use Rattle.resource_status.specs.declared.condition.Condition.{Condition}
 use Rattle.resource_status.specs.declared.condition.Condition.TheVariants.{NeverRun, Started, Promoted, Stopped, Failed, Unknown}
@@ -83,5 +83,5 @@ unfolding started
 since_change = refl
 
 -- a failure in words, with the name of its code
-configured : (failure_meaning action.Monitor (code 6) ≡ codes "not configured") × (name_read (outcome_code (code 6)) ≡ codes "OCF_ERR_CONFIGURED")
+configured : (failure_meaning (code 6) ≡ codes "not configured") × (name_read (outcome_code (code 6)) ≡ codes "OCF_ERR_CONFIGURED")
 configured = (refl, refl)

@@ -1,11 +1,11 @@
 -- What a result means, in words, and whether it is good, notable or bad.
-use Rattle.std.specs.Prelude.{ℕ, List, codes}
+use Rattle.std.specs.Prelude.{ℕ, List, codes, unwrap_or}
 use Rattle.ocf_types.specs.declared.action.Action.{Action}
 use Rattle.ocf_types.specs.declared.action.Action.TheVariants.{Monitor}
 use Rattle.ocf_types.specs.declared.outcome.Outcome.{Outcome}
-use Rattle.ocf_types.specs.declared.outcome.Outcome.TheVariants.{Run, Interrupted, Dropped, Cancelled}
-use Rattle.ocf_types.specs.declared.outcome.RunEnd.TheVariants.{Done, TimedOut, Signaled, Lost, NotStarted}
-use Rattle.ocf_types.specs.declared.outcome.StartFault.TheVariants as start
+use Rattle.ocf_types.specs.declared.outcome.Outcome.TheVariants.{Run, Cancelled}
+use Rattle.ocf_types.specs.declared.outcome.RunEnd.TheVariants.{Done}
+use Rattle.ocf_types.specs.Outcomes.{outcome_row}
 use Rattle.ocf_codes.specs.ExitCodes.{code_read}
 use Rattle.ocf_codes.specs.declared.exit_code.Code.{Code}
 use Rattle.ocf_codes.specs.declared.exit_code.Code.TheVariants as code
@@ -31,16 +31,7 @@ code_meaning action (code.Other n) = codes "failed with a code of the agent's ow
 
 -- what the result of an action means
 abbrev pub meaning : Action → Outcome → List ℕ
-meaning action (Run (Done n)) = code_meaning action (code_read n)
-meaning action (Run TimedOut) = codes "failed: it ran past its timeout and was killed"
-meaning action (Run Signaled) = codes "failed: a signal ended the agent"
-meaning action (Run Lost) = codes "failed: how the agent ended is not known"
-meaning action (Run (NotStarted start.Missing)) = codes "failed: the agent's file is missing"
-meaning action (Run (NotStarted start.Denied)) = codes "failed: the agent's file may not be run"
-meaning action (Run (NotStarted start.Other)) = codes "failed: the agent could not be started"
-meaning action Interrupted = codes "interrupted: the executor ended while it ran; it may be done or not"
-meaning action Dropped = codes "dropped: the executor ended before it began"
-meaning action Cancelled = codes "cancelled: it was withdrawn before it began"
+meaning action o = unwrap_or (outcome_row o).meaning (code_meaning action (code_read (outcome_row o).code))
 
 -- what an unexpected exit code means, in the words of crm_mon(8) where it has some
 abbrev pub unexpected_meaning : Code → List ℕ
@@ -58,10 +49,9 @@ unexpected_meaning code.Degraded = codes "degraded"
 unexpected_meaning code.DegradedPromoted = codes "promoted (degraded)"
 unexpected_meaning (code.Other n) = codes "a code of the agent's own"
 
--- what the failure of an action means
-abbrev pub failure_meaning : Action → Outcome → List ℕ
-failure_meaning action (Run (Done n)) = unexpected_meaning (code_read n)
-failure_meaning action outcome = meaning action outcome
+-- what a failure means
+abbrev pub failure_meaning : Outcome → List ℕ
+failure_meaning o = unwrap_or (outcome_row o).meaning (unexpected_meaning (code_read (outcome_row o).code))
 
 -- whether an exit code is good, notable or bad
 abbrev pub code_tone : Code → Tone

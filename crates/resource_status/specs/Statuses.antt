@@ -1,14 +1,13 @@
 -- The status of a resource as a JSON object.
 use Rattle.std.specs.Prelude.{ℕ, List, [], ◌∷◌, length, map, Option, Some, None, codes}
 use Rattle.serde_json.specs.Data.{Data, null, string}
-use Rattle.ocf_types.specs.Actions.{action_of, action_word}
-use Rattle.ocf_types.specs.Outcomes.{outcome_word}
+use Rattle.ocf_types.specs.Actions.{action_word}
+use Rattle.ocf_types.specs.Outcomes.{outcome_code, outcome_word}
 use Rattle.ocf_types.specs.Resource.{Resource}
 use Rattle.ocf_types.specs.State.{State}
 use Rattle.ocf_types.specs.declared.operation.Ended.{Ended}
 use Rattle.ocf_types.specs.declared.operation.Running.{Running}
 use Rattle.ocf_codes.specs.ExitCodes.{name_read}
-use Rattle.ocf_codes.specs.OutcomeCodes.{outcome_code}
 use Rattle.exec_commands.specs.Objects.{natural_data, object_from}
 use Rattle.resource_status.specs.Conditions.{condition_of, condition_word, known_of}
 use Rattle.resource_status.specs.declared.condition.Known.{Known}
@@ -33,7 +32,7 @@ failure_data reason (Some e) = failed_object (reason_data reason) e
 -- the action that runs
 abbrev pub doing_data : Option Running → Data
 doing_data None = null
-doing_data (Some x) = object_from ((codes "action", string (action_word (action_of x.task))) ∷ (codes "since", natural_data x.since) ∷ [])
+doing_data (Some x) = object_from ((codes "action", string (action_word x.task.action)) ∷ (codes "since", natural_data x.since) ∷ [])
 
 -- since when the condition holds
 abbrev pub since_data : Option Known → Data

@@ -6,7 +6,8 @@ use Rattle.ocf_types.specs.Resource.{Resource, no_history}
 use Rattle.ocf_types.specs.State.{State, state_of}
 use Rattle.ocf_types.specs.declared.action.Level.TheVariants.{Zero}
 use Rattle.ocf_types.specs.declared.action.Task.{Task}
-use Rattle.ocf_types.specs.declared.action.Task.TheVariants as task
+use Rattle.ocf_types.specs.Actions.{plain, task}
+use Rattle.ocf_types.specs.declared.action.Action.TheVariants.{Start, Monitor}
 use Rattle.ocf_types.specs.declared.event.Change.TheVariants as change
 use Rattle.ocf_types.specs.declared.event.Step.TheVariants as step
 use Rattle.ocf_types.specs.declared.expect.Expect.TheVariants.{NotRunning}
@@ -24,7 +25,7 @@ db = codes "db"
 
 -- the running actions: a probe, which expects that its resource does not run, and a start
 abbrev probe : Task
-probe = task.Monitor (record { level = Zero; expect = NotRunning })
+probe = task Monitor (record { level = Zero; expect = NotRunning })
 
 abbrev runs : ℕ → Task → Running
 runs run what = record { call = run; run = run; task = what; timeout = 20000; interval = 0; since = 1000 }
@@ -39,7 +40,7 @@ resource x = record {
 }
 
 abbrev first : State
-first = state_of 3 3 1000 ((web, resource (runs 1 probe)) ∷ (db, resource (runs 2 task.Start)) ∷ [])
+first = state_of 3 3 1000 ((web, resource (runs 1 probe)) ∷ (db, resource (runs 2 (task Start plain))) ∷ [])
 
 abbrev at : ℕ → Change → Event
 at moment what = record { at = moment; change = what }

@@ -4,7 +4,6 @@ use Rattle.std.specs.Prelude.{option_and_then, option_map, option_to_list}
 use Rattle.std.specs.List.{flat_map}
 use Rattle.std.proofs.lemmas.List.{append-nil, append_assoc, take_more}
 use Rattle.std.proofs.lemmas.List.Concat.{flat_map-append, flat_map-cons}
-use Rattle.ocf_types.specs.Actions.{action_of, expect_of}
 use Rattle.ocf_types.specs.Expected.{has_failed}
 use Rattle.ocf_types.specs.Kinds.{Change, Event}
 use Rattle.ocf_types.specs.Indexes.{entry_at, no_entry}
@@ -30,7 +29,7 @@ index_more f s i prefix lt =
 
 -- the run of a resource that a change ends with this outcome
 pub ended_one : (c : Change) (e : List ℕ × Resource) (id : List ℕ) (outcome : Outcome) (x : Running) (failed : Bool) → id ≡ e.0
-    → end_of c id ≡ Some outcome → e.1.history.running ≡ Some x → failed ≡ has_failed (action_of x.task) (expect_of x.task) outcome
+    → end_of c id ≡ Some outcome → e.1.history.running ≡ Some x → failed ≡ has_failed x.task.action x.task.check.expect outcome
     → ended_by c e ≡ ran_as id failed ∷ []
 ended_one c e id outcome x failed same ends runs fails =
     ap (λ o. option_to_list (option_and_then (λ (y : Outcome). option_map (ran e.0 y) e.1.history.running) o)) (ap (end_of c) (sym same) ∙ ends)

@@ -3,7 +3,6 @@ use Rattle.std.specs.Prelude.{ℕ, Bool, List, [], ◌∷◌, ◌++◌, filter, 
 use Rattle.std.specs.Prelude.{Option, Some, None, option_and_then, option_map, option_to_list}
 use Rattle.std.specs.List.{flat_map}
 use Rattle.std.specs.Str.{bytes_eq}
-use Rattle.ocf_types.specs.Actions.{action_of, expect_of}
 use Rattle.ocf_types.specs.Expected.{has_failed}
 use Rattle.ocf_types.specs.Kinds.{Change, Event}
 use Rattle.ocf_types.specs.Resource.{Resource}
@@ -31,7 +30,7 @@ end_of _ id = None
 
 -- the running action as a run that ended with this outcome: it has failed or not by the expectation of its task
 abbrev pub ran : List ℕ → Outcome → Running → Ran
-ran id outcome x = ran_as id (has_failed (action_of x.task) (expect_of x.task) outcome)
+ran id outcome x = ran_as id (has_failed x.task.action x.task.check.expect outcome)
 
 -- the run of a resource that a change ends, if any, from the running action before it
 abbrev pub ended_by : Change → List ℕ × Resource → List Ran

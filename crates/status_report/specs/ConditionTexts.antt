@@ -4,7 +4,7 @@ use Rattle.ocf_types.specs.Resource.{History}
 use Rattle.ocf_types.specs.declared.operation.Ended.{Ended}
 use Rattle.ocf_types.specs.declared.outcome.Outcome.{Outcome}
 use Rattle.ocf_codes.specs.ExitCodes.{name_read}
-use Rattle.ocf_codes.specs.OutcomeCodes.{outcome_code}
+use Rattle.ocf_types.specs.Outcomes.{outcome_code}
 use Rattle.resource_status.specs.Conditions.{condition_of, condition_tone, condition_word, known_of}
 use Rattle.resource_status.specs.Meanings.{failure_meaning}
 use Rattle.resource_status.specs.Texts.{ago_text, since_text}
@@ -29,4 +29,4 @@ code_text outcome = codes " (" ++ name_read (outcome_code outcome) ++ codes ", "
 
 -- what a failure means, its code, and how long ago it was
 abbrev pub failed_text : StatusOptions → Ended → List ℕ
-failed_text options e = painted options.colours Bad (failure_meaning e.action e.outcome) ++ code_text e.outcome ++ ago_text options.moment e.at
+failed_text options e = painted options.colours Bad (failure_meaning e.outcome) ++ code_text e.outcome ++ ago_text options.moment e.at

@@ -4,7 +4,7 @@ use Rattle.std.specs.Prelude.{replicate, Option, Some, None, codes, decimal}
 use Rattle.std.specs.List.{flat_map}
 use Rattle.std.specs.Option.{option_map_or}
 use Rattle.std.specs.Str.{bytes_eq}
-use Rattle.ocf_types.specs.Actions.{action_of, action_word}
+use Rattle.ocf_types.specs.Actions.{action_word}
 use Rattle.ocf_types.specs.Resource.{History, Resource}
 use Rattle.ocf_types.specs.declared.action.Action.{Action}
 use Rattle.ocf_types.specs.declared.action.Action.TheVariants as action
@@ -21,7 +21,7 @@ use Rattle.status_report.specs.declared.options.StatusOptions.{StatusOptions}
 -- what runs, and since when
 abbrev pub running_text : ℕ → Option Running → List ℕ
 running_text now None = codes "idle"
-running_text now (Some x) = action_word (action_of x.task) ++ since_text now x.since
+running_text now (Some x) = action_word x.task.action ++ since_text now x.since
 
 -- how many actions are queued
 abbrev pub queued_text : ℕ → List ℕ

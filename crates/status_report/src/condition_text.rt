@@ -67,7 +67,7 @@ pub fn add_failed(
     ensures text { OnOk result (text.new.items ≡ text.old.items ++ failed_text options.now ended.now) }
     ensures memory { OnErr result (IsTrue ⟦<Global as Grows>⟧.refuses) }
 {
-    let meant = failure_meaning(ended.action, ended.outcome);
+    let meant = failure_meaning(ended.outcome);
     add_painted(text, options.colours, Tone::Bad, meant)?;
     add_code(text, ended.outcome)?;
     add_ago(text, options.moment.get(), ended.at.get())

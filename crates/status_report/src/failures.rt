@@ -7,7 +7,7 @@ ghost use Rattle.status_report.specs.Failed.{AreFailed, failed_id, failed_ids};
 
 use crate::options::StatusOptions;
 use disk_model::Disk;
-use exec_faults::{Fault, opening_fault};
+use exec_faults::Fault;
 use exec_journal::Journal;
 use exec_state::State;
 use growth::{Grows, push};
@@ -69,6 +69,6 @@ pub fn failed<D: Disk + Drop>(
             Ok(ids) => (journal.into_disk(), Ok(ids)),
             Err(_) => (journal.into_disk(), Err(Fault::ReplyMemory)),
         },
-        Err((fault, disk)) => (disk, Err(opening_fault(fault))),
+        Err((fault, disk)) => (disk, Err(Fault::from(fault))),
     }
 }

@@ -2,7 +2,7 @@
 ghost use Rattle.std.specs.Prelude.{◌≡◌, IsErrOf, OnOk, IsTrue, IfErr};
 ghost use Rattle.std.specs.Io.KnownBytes.{Appends};
 ghost use Rattle.std.specs.List.{flat_map};
-ghost use Rattle.disk_model.specs.View.{Increased};
+ghost use Rattle.disk_model.specs.Disk.{Increased};
 ghost use Rattle.exec_commands.specs.Replies.{reply_line};
 ghost use Rattle.exec_journal.specs.Opening.{Opens};
 ghost use Rattle.exec_faults.specs.Faults.{HasCause, IsRunEnd};
@@ -11,7 +11,7 @@ ghost use Rattle.status_report.specs.Shown.{ShowsAs, answer_line, resource_lines
 
 use disk_model::Disk;
 use exec_commands::{LineReply, NoticeForm, Tagged};
-use exec_faults::{Fault, opening_fault};
+use exec_faults::Fault;
 use exec_journal::Journal;
 use exec_messages::{IoFault, send_reply};
 use exec_state::State;
@@ -108,7 +108,7 @@ pub(crate) fn write_state<W: Write>(
 
 /// Opens a journal without a boot, writes what it holds, and returns its disk. It writes the reply to `list`, and then those to `info` and
 /// `history` of each resource: all of them, or the fault is one of the opening, of output, or of memory for a reply.
-#[tactic(auto, using(exec_faults::proofs::FaultLemmas::opening_cause))]
+#[tactic(auto, using(exec_faults::proofs::FaultLemmas::opening_cause, exec_faults::proofs::FaultLemmas::output_cause))]
 pub fn show<D: Disk + Drop, W: Write>(
     alloc: Global,
     disk: D,
@@ -117,17 +117,16 @@ pub fn show<D: Disk + Drop, W: Write>(
     ensures shown { (D.view result.0).honest
         → ShowsAs (D.view disk).reads (W.contents writer.old) (W.contents writer.new) result.1 }
     ensures opens { Opens (D.view disk) (D.view result.0) }
+    ensures ends { IsRunEnd result.1 }
     ensures cause { IsErrOf result.1 Fault.Disk
         → Increased (D.view disk).failures (D.view result.0).failures }
-    ensures ends { IsRunEnd result.1 }
     ensures memory { IfErr result.1 (HasCause ⟦<Global as Grows>⟧.refuses) }
 {
     match Journal::open(alloc, disk) {
         Ok((journal, state)) => match write_state(alloc, writer, &state) {
             Ok(()) => (journal.into_disk(), Ok(())),
-            Err(IoFault::InputOrOutput) => (journal.into_disk(), Err(Fault::InputOrOutput)),
-            Err(IoFault::Memory) => (journal.into_disk(), Err(Fault::ReplyMemory)),
+            Err(fault) => (journal.into_disk(), Err(Fault::from(fault))),
         },
-        Err((fault, disk)) => (disk, Err(opening_fault(fault))),
+        Err((fault, disk)) => (disk, Err(Fault::from(fault))),
     }
 }

@@ -1,6 +1,6 @@
 //! The status of a journal as a table, for a person.
 ghost use Rattle.std.specs.Prelude.{IsErrOf, IfOk, IfErr, IfSome, IfNone, ◌≡◌};
-ghost use Rattle.disk_model.specs.View.{Increased};
+ghost use Rattle.disk_model.specs.Disk.{Increased};
 ghost use Rattle.exec_journal.specs.Opening.{Opens};
 ghost use Rattle.exec_faults.specs.Faults.{HasCause, IsRunEnd};
 ghost use Rattle.status_report.specs.Tables.{IsTableWritten, IsWrittenAs, IsWritten, NotWritten, WritesAs};
@@ -9,7 +9,7 @@ use crate::alarm::is_alarm;
 use crate::options::StatusOptions;
 use crate::table::table_of;
 use disk_model::Disk;
-use exec_faults::{Fault, opening_fault};
+use exec_faults::Fault;
 use exec_journal::Journal;
 use exec_lines::write_flushed;
 use exec_state::State;
@@ -22,14 +22,14 @@ fn write_made<W: Write>(
     writer: &mut W,
     made: Result<Option<Vec<u8>>, AllocError>,
 ) -> Result<(), Fault>
+    ensures table { IfOk made
+        (λ found. IfSome found
+        (λ text. IsWritten (W.contents writer.old) (W.contents writer.new) text.items result)) }
     ensures refused { IfErr made
         (λ _. NotWritten (W.contents writer.old) (W.contents writer.new) Fault.ReplyMemory result) }
     ensures none { IfOk made
         (λ found. IfNone found
         (NotWritten (W.contents writer.old) (W.contents writer.new) Fault.NoResource result)) }
-    ensures table { IfOk made
-        (λ found. IfSome found
-        (λ text. IsWritten (W.contents writer.old) (W.contents writer.new) text.items result)) }
 {
     match made {
         Ok(Some(text)) => match write_flushed(writer, text.as_slice()) {
@@ -91,9 +91,9 @@ pub fn status<D: Disk + Drop, W: Write>(
         → WritesAs (D.view disk).reads options.now (W.contents writer.old)
         (W.contents writer.new) result.1 }
     ensures opens { Opens (D.view disk) (D.view result.0) }
+    ensures ends { IsRunEnd result.1 }
     ensures cause { IsErrOf result.1 Fault.Disk
         → Increased (D.view disk).failures (D.view result.0).failures }
-    ensures ends { IsRunEnd result.1 }
     ensures memory { IfErr result.1 (HasCause ⟦<Global as Grows>⟧.refuses) }
 {
     match Journal::open(alloc, disk) {
@@ -101,6 +101,6 @@ pub fn status<D: Disk + Drop, W: Write>(
             let ended = report(alloc, writer, options, &state);
             (journal.into_disk(), ended)
         }
-        Err((fault, disk)) => (disk, Err(opening_fault(fault))),
+        Err((fault, disk)) => (disk, Err(Fault::from(fault))),
     }
 }

@@ -1,6 +1,6 @@
 //! The status of a journal as lines of JSON, for a program.
 ghost use Rattle.std.specs.Prelude.{IsErrOf, Some, None, IfErr, ◌≡◌};
-ghost use Rattle.disk_model.specs.View.{Increased};
+ghost use Rattle.disk_model.specs.Disk.{Increased};
 ghost use Rattle.exec_journal.specs.Opening.{Opens};
 ghost use Rattle.exec_faults.specs.Faults.{HasCause, IsRunEnd};
 ghost use Rattle.status_report.specs.StatusLines.{IsPrefixWritten, AreLinesWritten, WritesLinesAs};
@@ -11,40 +11,37 @@ use crate::options::StatusOptions;
 use crate::shown::write_state;
 use crate::state_lines::status_lines;
 use disk_model::Disk;
-use exec_faults::{Fault, opening_fault};
+use exec_faults::Fault;
 use exec_journal::Journal;
 use exec_lines::write_flushed;
-use exec_messages::IoFault;
 use exec_state::State;
 use growth::Grows;
 use std::alloc::Global;
 use std::io::Write;
 
 // Writes the replies of the single resource that is asked for.
+#[tactic(auto, using(exec_faults::proofs::FaultLemmas::output_cause))]
 fn write_only<W: Write>(alloc: Global, writer: &mut W, state: &State, id: &str) -> Result<(), Fault>
     ensures written { IsPrefixWritten state.now.state (Some id.entry) (W.contents writer.old)
         (W.contents writer.new) result }
     ensures memory { IfErr result (HasCause ⟦<Global as Grows>⟧.refuses) }
 {
-    match write_one(alloc, writer, state, id) {
-        Ok(true) => Ok(()),
-        Ok(false) => Err(Fault::NoResource),
-        Err(IoFault::InputOrOutput) => Err(Fault::InputOrOutput),
-        Err(IoFault::Memory) => Err(Fault::ReplyMemory),
+    if write_one(alloc, writer, state, id)? {
+        Ok(())
+    } else {
+        Err(Fault::NoResource)
     }
 }
 
 // Writes the replies of all resources.
+#[tactic(auto, using(exec_faults::proofs::FaultLemmas::output_cause))]
 fn write_all<W: Write>(alloc: Global, writer: &mut W, state: &State) -> Result<(), Fault>
     ensures written { IsPrefixWritten state.now.state None (W.contents writer.old)
         (W.contents writer.new) result }
     ensures memory { IfErr result (HasCause ⟦<Global as Grows>⟧.refuses) }
 {
-    match write_state(alloc, writer, state) {
-        Ok(()) => Ok(()),
-        Err(IoFault::InputOrOutput) => Err(Fault::InputOrOutput),
-        Err(IoFault::Memory) => Err(Fault::ReplyMemory),
-    }
+    write_state(alloc, writer, state)?;
+    Ok(())
 }
 
 // Writes what `show` prints, of all resources or of the single one that is asked for.
@@ -106,9 +103,9 @@ pub fn status_json<D: Disk + Drop, W: Write>(
         → WritesLinesAs (D.view disk).reads options.now (W.contents writer.old)
         (W.contents writer.new) result.1 }
     ensures opens { Opens (D.view disk) (D.view result.0) }
+    ensures ends { IsRunEnd result.1 }
     ensures cause { IsErrOf result.1 Fault.Disk
         → Increased (D.view disk).failures (D.view result.0).failures }
-    ensures ends { IsRunEnd result.1 }
     ensures memory { IfErr result.1 (HasCause ⟦<Global as Grows>⟧.refuses) }
 {
     match Journal::open(alloc, disk) {
@@ -116,6 +113,6 @@ pub fn status_json<D: Disk + Drop, W: Write>(
             let ended = report_lines(alloc, writer, options, &state);
             (journal.into_disk(), ended)
         }
-        Err((fault, disk)) => (disk, Err(opening_fault(fault))),
+        Err((fault, disk)) => (disk, Err(Fault::from(fault))),
     }
 }

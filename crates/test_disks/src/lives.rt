@@ -4,7 +4,7 @@ use child_keeper::{Script, Scripted};
 use disk_model::Fill;
 use executor::{Input, InputOf};
 use ocf_types::{
-    CommandOf, Millis, Outcome, Question, Reply, ReplyOf, RequestOf, RscId, Task, TurnEnd,
+    Action, CommandOf, Millis, Outcome, Question, Reply, ReplyOf, RequestOf, RscId, Task, TurnEnd,
 };
 use std::alloc::Global;
 use std::collections::VecDeque;
@@ -30,7 +30,7 @@ fn machine(alloc: Global, now: u64, inputs: Vec<Input>, stop: u64) -> Option<Mac
 fn first(alloc: Global) -> Option<Vec<Input>> {
     let exec = RequestOf::Command(CommandOf::Exec {
         id: RscId::new(b"r1").ok()?,
-        task: Task::Start,
+        task: Task::plain(Action::Start),
         timeout: Millis::new(20_000)?,
     });
     let mut inputs = Vec::new(alloc);

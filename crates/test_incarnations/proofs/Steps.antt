@@ -6,7 +6,7 @@ use Rattle.ocf_types.specs.State.{State, after_all, empty}
 use Rattle.ocf_types.specs.declared.reply.Notice.{Notice}
 use Rattle.disk_model.specs.Image.{Image}
 use Rattle.disk_model.specs.MemDisk.{IsFresh, IsSame, view_of}
-use Rattle.disk_model.specs.View.{Lawful, View}
+use Rattle.disk_model.specs.Disk.{Lawful, DiskView}
 use Rattle.disk_model.specs.declared.memory.MemDisk.{MemDisk}
 use Rattle.child_model.specs.Children.{ChildrenView}
 use Rattle.exec_journal.specs.Found.{FoundAs, IsFreshPair}
@@ -26,7 +26,7 @@ pub unanswered : (is : List Input) → as_calls is [] ≡ []
 unanswered [] = refl
 unanswered (i ∷ is) = refl
 
-module _ {D : Type 0} (view : D → View) where
+module _ {D : Type 0} (view : D → DiskView) where
   -- an incarnation of an executor that was opened and made calls
   pub served : (old new : D) (from : ChildrenView) (now : ℕ) (opened last : ExecutorView D) (ran queued : List Notice) (calls : List Exchange)
       (d : Effects) → Opened view (view old) from now opened ran queued → Calls view opened calls last d → new ≡ last.disk

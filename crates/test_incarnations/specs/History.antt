@@ -3,7 +3,7 @@ use Rattle.std.specs.Prelude.{◌≡◌, List, [], ◌∷◌, ◌++◌}
 use Rattle.ocf_types.specs.Kinds.{Event}
 use Rattle.ocf_types.specs.State.{State, after_all, empty}
 use Rattle.disk_model.specs.Image.{Image}
-use Rattle.disk_model.specs.View.{View}
+use Rattle.disk_model.specs.Disk.{DiskView}
 use Rattle.exec_journal.specs.Found.{FoundAs}
 use Rattle.executor.specs.Incarnations.{Exchange, GoesOnFrom, InOpening, Up, AreIncarnations, Lasted, Incarnation, CrashLeaves, first_disk, last_disk}
 use Rattle.executor.specs.Promise.{IsKept}
@@ -11,17 +11,17 @@ use Rattle.executor.specs.Behaves.{Behaves}
 use Rattle.executor.specs.SeenIncarnations.{seen}
 
 -- the calls of an incarnation: none if the executor was not opened
-abbrev pub calls_of : {D : Type 0} → (view : D → View) → (x : Incarnation D) → Lasted view x → List Exchange
+abbrev pub calls_of : {D : Type 0} → (view : D → DiskView) → (x : Incarnation D) → Lasted view x → List Exchange
 calls_of view (InOpening old new now end) sat = []
 calls_of view (Up x) sat = sat.calls ++ sat.begun
 
 -- the calls of each incarnation of a history, the last one first
-abbrev pub calls_in : {D : Type 0} → (view : D → View) → (start : State) → (incarnations : List (Incarnation D)) → AreIncarnations view start incarnations → List (List Exchange)
+abbrev pub calls_in : {D : Type 0} → (view : D → DiskView) → (start : State) → (incarnations : List (Incarnation D)) → AreIncarnations view start incarnations → List (List Exchange)
 calls_in view start [] is = []
 calls_in view start (x ∷ older) is = calls_of view x is.2 ∷ calls_in view start older is.0
 
 -- an incarnation with these calls, from one disk to another, which crashed at its last moment
-pub record IsIncarnation {D : Type 0} (view : D → View) (calls : List Exchange) (old new : D) : Type 0 where
+pub record IsIncarnation {D : Type 0} (view : D → DiskView) (calls : List Exchange) (old new : D) : Type 0 where
   pub incarnation : Incarnation D
   pub sat : Lasted view incarnation
   pub made : calls_of view incarnation sat ≡ calls
@@ -31,7 +31,7 @@ pub record IsIncarnation {D : Type 0} (view : D → View) (calls : List Exchange
 
 -- a history that begins without a journal, whose incarnations made these calls, the last one first; the disk holds only a crash
 -- image of it
-pub record IsHistory {D : Type 0} (view : D → View) (calls : List (List Exchange)) (disk : D) : Type 0 where
+pub record IsHistory {D : Type 0} (view : D → DiskView) (calls : List (List Exchange)) (disk : D) : Type 0 where
   pub incarnations : List (Incarnation D)
   pub is : AreIncarnations view empty incarnations
   pub made : calls_in view empty incarnations is ≡ calls
@@ -39,7 +39,7 @@ pub record IsHistory {D : Type 0} (view : D → View) (calls : List (List Exchan
 
 -- the promise for such a history: the disk holds the state after a list of events; the exchanges and events that were seen are a
 -- behaviour of the state machine with these events, and keep the promise
-pub record IsPromised {D : Type 0} (view : D → View) (calls : List (List Exchange)) (disk : D) : Type 0 where
+pub record IsPromised {D : Type 0} (view : D → DiskView) (calls : List (List Exchange)) (disk : D) : Type 0 where
   pub history : IsHistory view calls disk
   pub events : List Event
   pub found : FoundAs (after_all empty events) (view disk).reads

@@ -3,7 +3,8 @@ use Rattle.std.proofs.Common.{◌≡◌, ℕ, true, false, List, [], ◌∷◌, 
 use Rattle.std.specs.Prelude.{codes}
 use Rattle.ocf_types.specs.Kinds.{Event}
 use Rattle.ocf_types.specs.State.{empty}
-use Rattle.ocf_types.specs.declared.action.Task.TheVariants as task
+use Rattle.ocf_types.specs.Actions.{plain, task}
+use Rattle.ocf_types.specs.declared.action.Action.TheVariants.{Start}
 use Rattle.ocf_types.specs.declared.outcome.RunEnd.TheVariants.{Done}
 use Rattle.ocf_types.specs.declared.event.Change.TheVariants as change
 use Rattle.ocf_types.specs.declared.event.Step.TheVariants as step
@@ -16,7 +17,7 @@ abbrev pub registered : Event
 registered = record { at = 0; change = change.Register (record { id = r1; provider = codes "pacemaker"; agent = codes "Dummy"; params = [] }) }
 
 abbrev pub asked : ℕ → Event
-asked call = record { at = 0; change = change.Step r1 (step.Exec (record { call = call; task = task.Start; timeout = 20000 })) }
+asked call = record { at = 0; change = change.Step r1 (step.Exec (record { call = call; task = task Start plain; timeout = 20000 })) }
 
 abbrev pub begins : ℕ → ℕ → Event
 begins call run = record { at = 10; change = change.Step r1 (step.Begin call run) }

@@ -4,7 +4,7 @@ use Rattle.std.proofs.lemmas.Bool.{false≢true}
 use Rattle.ocf_types.specs.Kinds.{Command, Event, Reply}
 use Rattle.ocf_types.specs.State.{after_all}
 use Rattle.ocf_types.specs.declared.reply.TurnEnd.{TurnEnd}
-use Rattle.disk_model.specs.View.{Lawful, View}
+use Rattle.disk_model.specs.Disk.{Lawful, DiskView}
 use Rattle.exec_ledger.specs.Lemmas.{of_closed, of_open}
 use Rattle.exec_ledger.specs.Pieces.{Effects, CrashCondition, followed_by, no_effects, batch_effects}
 use Rattle.executor.specs.CallLemmas.{followed_by_assoc, followed_by_none}
@@ -16,7 +16,7 @@ use Rattle.executor.specs.ExecutorView.{ExecutorView}
 use Rattle.exec_ledger.specs.LedgerView.{LedgerView}
 use Rattle.executor.proofs.Sessions.Growing.{Onward, leads_open, leads_still, leads_turn, onward, onward_at, onward_joined}
 
-module _ {D : Type 0} (view : D → View) where
+module _ {D : Type 0} (view : D → DiskView) where
   -- calls of a closed executor leave it closed, over the same disk, and do nothing
   pub record Closed (x y : ExecutorView D) (d : Effects) : Type 0 where
     pub is_closed : y.is_open ≡ false

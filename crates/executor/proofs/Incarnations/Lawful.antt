@@ -7,7 +7,7 @@ use Rattle.ocf_types.specs.State.{State, after, after_all_in, after_in, empty}
 use Rattle.ocf_types.specs.declared.layout.Layout.{Layout}
 use Rattle.ocf_types.specs.declared.layout.Layout.TheVariants.{First, Second}
 use Rattle.disk_model.specs.Image.{Image}
-use Rattle.disk_model.specs.View.{Lawful, View}
+use Rattle.disk_model.specs.Disk.{Lawful, DiskView}
 use Rattle.two_parts.specs.Choice.{choice}
 use Rattle.two_parts.specs.declared.choice.Choice.{Choice}
 use Rattle.two_parts.specs.declared.choice.Choice.TheVariants.{Broken, Current, Fresh}
@@ -51,7 +51,7 @@ module _ (laws : LawfulLemmas) where
           (in_second whole.layout (after_all_in whole.layout prefix.first (flat_map (λ es. es) prefix.batches))
           (all_stay whole.layout prefix.first (flat_map (λ es. es) prefix.batches) prefix.lawful prefix.apply))
 
-  module _ {D : Type 0} (view : D → View) (law : JournalLemmas) (lawful : (d : D) → (view d).honest → Lawful (view d)) (start : State) where
+  module _ {D : Type 0} (view : D → DiskView) (law : JournalLemmas) (lawful : (d : D) → (view d).honest → Lawful (view d)) (start : State) where
     -- so is the first state of a history that may leave something
     pub start_lawful : (incarnations : List (Incarnation D)) → AreIncarnations view start incarnations → (c : Image) → IncarnationsLeave view start incarnations c → IsLawfulState start
     start_lawful [] is c left = found_lawful start c left.0

@@ -5,7 +5,7 @@ use Rattle.ocf_types.specs.Kinds.{Event}
 use Rattle.ocf_types.specs.Lemmas.{after_all-append}
 use Rattle.ocf_types.specs.State.{State, after_all}
 use Rattle.disk_model.specs.Image.{Image}
-use Rattle.disk_model.specs.View.{Lawful, View}
+use Rattle.disk_model.specs.Disk.{Lawful, DiskView}
 use Rattle.exec_journal.specs.Found.{FoundAs}
 use Rattle.exec_journal.specs.Reserve.{PairHasReserve}
 use Rattle.exec_journal.specs.Batches.{EitherSide}
@@ -20,7 +20,7 @@ use Rattle.executor.proofs.Sessions.Growing.{Onward, leads_start, leads_still, o
 abbrev all_of : Effects → List Event
 all_of d = d.events ++ d.pending
 
-module _ {D : Type 0} (view : D → View) (law : JournalLemmas) (lawful : (d : D) → (view d).honest → Lawful (view d)) where
+module _ {D : Type 0} (view : D → DiskView) (law : JournalLemmas) (lawful : (d : D) → (view d).honest → Lawful (view d)) where
   module _ (x : Uptime D) (serves : Serves view x) where
     opened_leads : Onward view x.opened x.opened no_effects
     opened_leads =

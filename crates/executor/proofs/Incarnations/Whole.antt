@@ -8,11 +8,11 @@ use Rattle.ocf_types.specs.Lemmas.{after_all-append}
 use Rattle.ocf_types.specs.State.{State, after, after_all, empty}
 use Rattle.ocf_types.specs.declared.reply.Notice.{Notice}
 use Rattle.disk_model.specs.Image.{Image}
-use Rattle.disk_model.specs.View.{Lawful, View}
+use Rattle.disk_model.specs.Disk.{Lawful, DiskView}
 use Rattle.child_model.specs.Children.{ChildrenView}
 use Rattle.two_parts.specs.declared.choice.Choice.{Choice}
 use Rattle.two_parts.specs.declared.damage.Damage.{Damage}
-use Rattle.exec_journal.specs.Found.{FoundAs, HasDamage, IsFirstPart, IsFreshPair, IsToWrite, LeadsTo}
+use Rattle.exec_journal.specs.Found.{FoundAs, HasDamage, IsFirstLayout, IsFreshPair, IsToWrite, LeadsTo}
 use Rattle.exec_journal.specs.Opening.{Opens, OpensLike}
 use Rattle.exec_journal.specs.Reserve.{PairHasReserve}
 use Rattle.executor.specs.Incarnations.{BeginsAs, EndsOpening, GoesOnFrom, MayBoot, InOpening, Up, AreIncarnations, IncarnationsLeave, SurvivingEvents, OpensAfter, Lasted, Incarnation, boots}
@@ -53,10 +53,10 @@ module _ (law : JournalLemmas) where
   pub fresh_begins : (c : Image) → IsFreshPair c → BeginsAs empty c
   fresh_begins c fresh = written_begins empty c (fresh_found c fresh) (inl fresh)
 
-  pub first_begins : (s : State) (c : Image) → FoundAs s c → IsFirstPart c → BeginsAs s c
+  pub first_begins : (s : State) (c : Image) → FoundAs s c → IsFirstLayout c → BeginsAs s c
   first_begins s c found first = written_begins s c found (inr (first, (s, found)))
 
-module _ {D : Type 0} (view : D → View) (law : JournalLemmas) (once : OneFinding) (lawful : (d : D) → (view d).honest → Lawful (view d))
+module _ {D : Type 0} (view : D → DiskView) (law : JournalLemmas) (once : OneFinding) (lawful : (d : D) → (view d).honest → Lawful (view d))
     (start : State) where
   pub one_state : (s t : State) (c : Image) → FoundAs s c → FoundAs t c → s ≡ t
   one_state s t c here there = once.state c s t here there
@@ -170,7 +170,7 @@ module _ {D : Type 0} (view : D → View) (law : JournalLemmas) (once : OneFindi
       )
 
 -- an opening that was refused is an incarnation
-pub refused_sits : {D : Type 0} (view : D → View) (old new : D) (from to : ChildrenView) (now : ℕ) (fault : OpenError)
+pub refused_sits : {D : Type 0} (view : D → DiskView) (old new : D) (from to : ChildrenView) (now : ℕ) (fault : OpenError)
     → NotOpened (view old) (view new) from to now fault → Lasted view (InOpening old new now (Some fault))
 refused_sits view old new from to now fault fails = record {
   did = fails.did;
@@ -178,7 +178,7 @@ refused_sits view old new from to now fault fails = record {
 }
 
 -- so is one of the journal alone
-pub looked_sits : {D : Type 0} (view : D → View) (old new : D) (now : ℕ) (end : Option OpenError) → Opens (view old) (view new)
+pub looked_sits : {D : Type 0} (view : D → DiskView) (old new : D) (now : ℕ) (end : Option OpenError) → Opens (view old) (view new)
     → Lasted view (InOpening old new now end)
 looked_sits view old new now end opens = record {
   did = read_only (view old) (view new) now opens.crash opens.reserved opens.unwritten;

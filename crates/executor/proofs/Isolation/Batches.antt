@@ -19,7 +19,7 @@ use Rattle.ocf_types.specs.declared.reply.ReplyOf.TheVariants.{Refused}
 use Rattle.child_model.specs.declared.answer.Entry.{Entry}
 use Rattle.exec_ledger.specs.Pieces.{Effects, batch_effects}
 use Rattle.exec_ledger.specs.Replies.{KeepsRunning, acknowledged}
-use Rattle.exec_ledger.specs.Together.{Answered, disk_each, failed, is_kept}
+use Rattle.exec_ledger.specs.Together.{Answered, disk_each, failed, is_no_refusal}
 use Rattle.executor.specs.Incarnations.{Exchange, Batch, Took}
 use Rattle.executor.specs.Projections.{IsAnswered, IsPlain, commanded, events_of, projection_of}
 use Rattle.executor.specs.Isolated.{Alone, Follows, Isolated, IsolatedCommand, IsolatedTakes, cut, isolated_after_all}
@@ -96,7 +96,7 @@ sent_so [] = tt
 sent_so (m ∷ ms) = (inl refl, sent_so ms)
 
 abbrev pub AllRefused : List Reply → Type 0
-AllRefused rs = AllByRecursion (λ r. is_kept r ≡ false) rs
+AllRefused rs = AllByRecursion (λ r. is_no_refusal r ≡ false) rs
 
 -- each reply to a batch whose record failed is a refusal
 disk_reported : (ms : List Reply) → AreReportedOf (disk_each ms) ms × AllRefused (disk_each ms)
@@ -109,7 +109,7 @@ failed_reported (Refused refusal ∷ ms) = let rest = failed_reported ms in ((in
 failed_reported (m ∷ ms) = let rest = disk_reported ms in ((inr refl, rest.0), (refl, rest.1))
 
 -- an acknowledgement is not a refusal
-kept_ack : (c : Change) → is_kept (acknowledged c) ≡ true
+kept_ack : (c : Change) → is_no_refusal (acknowledged c) ≡ true
 kept_ack (change.Step id (step.Exec o)) = refl
 kept_ack (change.Step id (step.Recur m)) = refl
 kept_ack _ = refl
@@ -127,10 +127,10 @@ reported_commands now c old new r m effects (inr disk) did = record {
 }
 
 -- a command that was refused has no event
-refused_none : (found : Result Event Refusal) (r : Reply) (es : List Event) → is_kept r ≡ false → Follows found r es → es ≡ []
+refused_none : (found : Result Event Refusal) (r : Reply) (es : List Event) → is_no_refusal r ≡ false → Follows found r es → es ≡ []
 refused_none (Err why) r es refused follows = follows.1
 refused_none (Ok e) r es refused follows =
-    absurd (true≢false (sym (kept_ack e.change) ∙ ap is_kept (sym follows.0) ∙ refused))
+    absurd (true≢false (sym (kept_ack e.change) ∙ ap is_no_refusal (sym follows.0) ∙ refused))
 
 module _ (now : ℕ) (id : List ℕ) where
   -- the state after the commands of a batch, even if its record failed
@@ -187,6 +187,6 @@ module _ (now : ℕ) (id : List ℕ) where
       )
     where
       one : (b : Bool) → bytes_eq id (commanded c) ≡ b → (b ≡ true → IsPlain r)
-          → Commands now c x (seen_after x first) r (batch_effects true first) → is_kept r ≡ false → events_of id first ≡ []
+          → Commands now c x (seen_after x first) r (batch_effects true first) → is_no_refusal r ≡ false → events_of id first ≡ []
       one true about plain did refused = ap (events_of id) (refused_none (event_of x.state now c) r first refused (did.follows (plain refl)))
       one false about plain did refused = named_so false id c first about did.names

@@ -9,7 +9,7 @@ use Rattle.ocf_types.specs.State.{State, after_all}
 use Rattle.ocf_types.specs.declared.command.RequestOf.TheVariants as asked
 use Rattle.ocf_types.specs.declared.reply.TurnEnd.{TurnEnd}
 use Rattle.ocf_types.specs.declared.reply.TurnEnd.TheVariants as turn_end
-use Rattle.disk_model.specs.View.{View}
+use Rattle.disk_model.specs.Disk.{DiskView}
 use Rattle.child_model.specs.declared.answer.Entry.{Entry}
 use Rattle.exec_ledger.specs.Actives.{active}
 use Rattle.exec_ledger.specs.Lemmas.{same_entries, same_events}
@@ -38,7 +38,7 @@ use Rattle.executor.proofs.Isolation.Went.{Went, call_went, closed_plain, first_
 use Rattle.executor.proofs.Incarnations.Calls.{calls_closed}
 use Rattle.executor.proofs.Sessions.Calls.{lemma_session_is_calls}
 
-module _ {D : Type 0} (view : D → View) (mine : ℕ → Bool) (id : List ℕ) where
+module _ {D : Type 0} (view : D → DiskView) (mine : ℕ → Bool) (id : List ℕ) where
   own_entries : List Entry → List Entry
   own_entries es = filter (λ e. mine e.run) es
 
@@ -210,7 +210,7 @@ module _ {D : Type 0} (view : D → View) (mine : ℕ → Bool) (id : List ℕ) 
       (lemma_projections_join id y y2 (projection_of id e) (part id es) (own_entries first.entries) (own_entries later.entries) (events_of id first.events)
       (events_of id later.events) one (holds_self y2) following)))
 
-module _ {D : Type 0} (view : D → View) (x z : ExecutorView D) where
+module _ {D : Type 0} (view : D → DiskView) (x z : ExecutorView D) where
   -- the law
   pub lemma_each_alone : (es : List Exchange) (d : Effects) (id : List ℕ) → DistinctKeys x.state → Calls view x es z d
       → AllByRecursion IsAnswered (part id es) → AreRising x.state.clock es

@@ -19,7 +19,7 @@ use Rattle.child_model.specs.declared.answer.Poll.TheVariants as poll
 use Rattle.exec_ledger.specs.Actives.{Active, active, active_in, active_of}
 use Rattle.exec_turn.specs.Actives.{result_of}
 use Rattle.exec_turn.specs.Picks.{begin_of, begins}
-use Rattle.exec_turn.specs.Polls.{IsPoll, Polled, ending, ends_of, entries_of, is_late, polls, results, said}
+use Rattle.exec_turn.specs.Polls.{IsPoll, Polled, ending, ends_of, entries_of, is_late, book_entry, polls, results}
 use Rattle.exec_turn.specs.Starts.{Started, refusals, refused_end, starts}
 use Rattle.ocf_types.specs.Lemmas.{each_weaken}
 use Rattle.executor.specs.Projections.{events_of}
@@ -79,7 +79,7 @@ poll_runs : (mine : ℕ → Bool) (at : ℕ) (x : Running) (p : Poll) (kill : Re
     → AllByRecursion (λ e. mine e.run ≡ b) (entries_of at x p kill)
 poll_runs mine at x poll.Running kill b h = (h, by (is_late at x))
   where
-    by : (late : Bool) → AllByRecursion (λ e. mine e.run ≡ b) (cond late (said x.run (kill_answer kill) ∷ []) [])
+    by : (late : Bool) → AllByRecursion (λ e. mine e.run ≡ b) (cond late (book_entry x.run (kill_answer kill) ∷ []) [])
     by true = (h, tt)
     by false = tt
 poll_runs mine at x (poll.Exited code) kill b h = (h, tt)

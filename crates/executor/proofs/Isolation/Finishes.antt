@@ -6,7 +6,7 @@ use Rattle.ocf_types.specs.declared.reply.TurnEnd.{TurnEnd}
 use Rattle.ocf_types.specs.declared.reply.TurnEnd.TheVariants.{Done}
 use Rattle.ocf_types.specs.Kinds.{Event}
 use Rattle.ocf_types.specs.State.{State, after_all}
-use Rattle.disk_model.specs.View.{View}
+use Rattle.disk_model.specs.Disk.{DiskView}
 use Rattle.child_model.specs.declared.answer.Entry.{Entry}
 use Rattle.exec_ledger.specs.Actives.{active}
 use Rattle.exec_ledger.specs.Lemmas.{same_entries, same_events}
@@ -32,7 +32,7 @@ pub record FinishDone {D : Type 0} (now : ℕ) (old new : ExecutorView D) (effec
   pub state : new.state ≡ after_all old.state effects.events
   pub due : due_in new ≡ due_after_all old.state (due_in old) effects.events
 
-pub finish_done : {D : Type 0} (view : D → View) (now : ℕ) (old new : ExecutorView D) (end : TurnEnd) (takes : FinishesTurn view now old new end)
+pub finish_done : {D : Type 0} (view : D → DiskView) (now : ℕ) (old new : ExecutorView D) (end : TurnEnd) (takes : FinishesTurn view now old new end)
     → old.state.clock ≤ cut now → end ≡ Done → FinishDone now old new takes.turns.effects
 finish_done view now old new end takes clock is_done =
     let turns = takes.turns in

@@ -42,7 +42,7 @@ holds_on x y (e ∷ es) s = holds_on (isolated_after x e) (isolated_after y e) e
 -- and takes the same calls
 pick_there : (x y : Isolated) (at : ℕ) (r : Resource) (pick : Option ℕ) → SameIsolated x y → y.resource ≡ Some r → IsPick r y.due at pick → IsPick r x.due at pick
 pick_there x y at r pick s is picked = pick_same r y.due x.due at pick
-    (λ call lemma_known. s.due call (subst (λ (o : Option Resource). has_monitor o call ≡ true) (sym is) lemma_known)) picked
+    (λ call known. s.due call (subst (λ (o : Option Resource). has_monitor o call ≡ true) (sym is) known)) picked
 
 goes_there : (id : List ℕ) (at : ℕ) (x y : Isolated) (entries : List Entry) (events : List Event) → SameIsolated x y
     → IsolatedRest at y entries events ⊎ IsolatedBegin id at y entries events → IsolatedRest at x entries events ⊎ IsolatedBegin id at x entries events

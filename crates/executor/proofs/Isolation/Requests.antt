@@ -15,7 +15,7 @@ use Rattle.ocf_types.specs.declared.refusal.Refusal.{Refusal}
 use Rattle.ocf_types.specs.declared.refusal.Refusal.TheVariants as refusal
 use Rattle.ocf_types.specs.declared.reply.ReplyOf.TheVariants.{Refused}
 use Rattle.ocf_types.specs.RegistryLemmas.{none_is, passed}
-use Rattle.disk_model.specs.View.{View}
+use Rattle.disk_model.specs.Disk.{DiskView}
 use Rattle.exec_ledger.specs.BatchStarts.{due_after_all}
 use Rattle.exec_ledger.specs.Commands.{Obeys, Records}
 use Rattle.executor.specs.Projections.{IsPlain, commanded}
@@ -130,7 +130,7 @@ pub record Commands (now : ℕ) (c : Command) (old new : Seen) (reply : Reply) (
   pub keep : AllByRecursion (λ e. KeepsRunning e.change) effects.events
   pub follows : IsPlain reply → Follows (event_of old.state now c) reply effects.events
 
-pub commands : {D : Type 0} (view : D → View) (now : ℕ) (c : Command) (old new : ExecutorView D) (reply : Reply) (effects : Effects)
+pub commands : {D : Type 0} (view : D → DiskView) (now : ℕ) (c : Command) (old new : ExecutorView D) (reply : Reply) (effects : Effects)
     → old.state.clock ≤ cut now
     → TakesRequest view now (asked.Command c) old new reply effects → Commands now c (seen old) (seen new) reply effects
 commands {D} view now c old new reply effects clock takes =

@@ -20,13 +20,13 @@ use Rattle.ocf_types.specs.declared.reply.TurnEnd.{TurnEnd}
 use Rattle.ocf_types.specs.declared.reply.TurnEnd.TheVariants.{Done}
 use Rattle.ocf_types.specs.RegistryLemmas.{absent_any, distinct_filter, each_filter, keys-at_id}
 use Rattle.ocf_types.specs.Lemmas.{each_append, each_weaken}
-use Rattle.disk_model.specs.View.{View}
+use Rattle.disk_model.specs.Disk.{DiskView}
 use Rattle.child_model.specs.declared.answer.Entry.{Entry}
 use Rattle.exec_ledger.specs.Actives.{Active, active, active_of}
 use Rattle.exec_turn.specs.Picks.{ArePicks, begin_of, begins}
 use Rattle.exec_turn.specs.Polls.{IsPoll, Polled, polls, results}
 use Rattle.exec_turn.specs.Starts.{Started, refusals, starts}
-use Rattle.exec_turn.specs.Turn.{IsTurn, TurnReport, Whole}
+use Rattle.exec_turn.specs.Turn.{IsTurn, TurnAnswers, Whole}
 use Rattle.exec_ledger.specs.BatchStarts.{due_after_all, batch_start}
 use Rattle.executor.specs.Projections.{IsPlain, events_of}
 use Rattle.exec_ledger.specs.Lemmas.{same_entries, same_events}
@@ -95,13 +95,13 @@ own_polls mine id at y s ps each bytes apart runs resource =
 -- A turn that ended done, at the moment that was handed in.
 pub record TurnDone {D : Type 0} (now : ℕ) (old new : ExecutorView D) (given : Reply) (effects : Effects) : Type 0 where
   pub done : given ≡ reply.Turn Done
-  pub t : TurnReport Done (batch_start old.state (due_in old) old.position (cut now) old.refuses)
+  pub t : TurnAnswers Done (batch_start old.state (due_in old) old.position (cut now) old.refuses)
   pub entries : effects.entries ≡ polls (cut now) t.polled ++ starts t.clock t.started
   pub events : effects.events ≡ results (cut now) t.polled ++ (begins (cut now) t.begun ++ refusals (cut now) t.started)
   pub state : new.state ≡ after_all old.state effects.events
   pub due : due_in new ≡ due_after_all old.state (due_in old) effects.events
 
-pub turn_done : {D : Type 0} (view : D → View) (now : ℕ) (old new : ExecutorView D) (given : Reply) (effects : Effects) → old.state.clock ≤ cut now
+pub turn_done : {D : Type 0} (view : D → DiskView) (now : ℕ) (old new : ExecutorView D) (given : Reply) (effects : Effects) → old.state.clock ≤ cut now
     → IsPlain given
     → TakesATurn view now old new given effects → TurnDone now old new given effects
 turn_done {D} view now old new given effects clock plain takes =

@@ -8,7 +8,7 @@ use Rattle.ocf_types.specs.declared.command.RequestOf.TheVariants as asked
 use Rattle.ocf_types.specs.declared.reply.TidyEnd.{TidyEnd}
 use Rattle.ocf_types.specs.declared.reply.TurnEnd.{TurnEnd}
 use Rattle.ocf_types.specs.declared.reply.TurnEnd.TheVariants as turn_end
-use Rattle.disk_model.specs.View.{View}
+use Rattle.disk_model.specs.Disk.{DiskView}
 use Rattle.exec_state.specs.Store.{due_of}
 use Rattle.exec_ledger.specs.LedgerView.{LedgerView}
 use Rattle.exec_ledger.specs.Lemmas.{same_events}
@@ -58,7 +58,7 @@ pub record Went {D : Type 0} (mine : ℕ → Bool) (id : List ℕ) (at : ℕ) (o
   pub begins : AllBeginOwn mine id more
   pub whole : new.is_open ≡ true → more ≡ []
 
-module _ {D : Type 0} (view : D → View) (mine : ℕ → Bool) (id : List ℕ) where
+module _ {D : Type 0} (view : D → DiskView) (mine : ℕ → Bool) (id : List ℕ) where
   -- all events are recorded, or there are none
   went_so : (at : ℕ) (old new : ExecutorView D) (es : List Event) → Does at (seen old) (seen new) es → Went mine id at old new es
   went_so at old new es does = record {

@@ -21,7 +21,7 @@ use Rattle.exec_ledger.specs.Boots.{booted}
 use Rattle.exec_ledger.specs.Pieces.{Effects, HasBegin, is_begin}
 use Rattle.exec_ledger.specs.Replies.{acknowledged}
 use Rattle.exec_ledger.specs.BatchStarts.{BatchStart, batch_start}
-use Rattle.exec_ledger.specs.Together.{Adds, Answered, disk_each, failed, is_kept}
+use Rattle.exec_ledger.specs.Together.{Adds, Answered, disk_each, failed, is_no_refusal}
 use Rattle.exec_turn.specs.Actives.{notice_of, result_of}
 use Rattle.exec_turn.specs.Picks.{begins}
 use Rattle.exec_turn.specs.Polls.{Polled, ends_of, result_notices, results}
@@ -61,14 +61,14 @@ kept_recorded s now c r e true is reported = inl ((is, reported), tt)
 kept_recorded s now c r e false is reported = tt
 
 one_recorded : (s : State) (now : ℕ) (c : Command) (r : Reply) (es : List Event) (v : Result Event Refusal) → event_of s now c ≡ v → Adds v r es
-    → AllRecorded s (if is_kept r then Acknowledged now c r ∷ [] else []) es
+    → AllRecorded s (if is_no_refusal r then Acknowledged now c r ∷ [] else []) es
 one_recorded s now c r es (Err why) is (refused, none) =
-    subst (λ (t : Reply). AllRecorded s (if is_kept t then Acknowledged now c t ∷ [] else []) es) (sym refused) tt
+    subst (λ (t : Reply). AllRecorded s (if is_no_refusal t then Acknowledged now c t ∷ [] else []) es) (sym refused) tt
 one_recorded s now c r es (Ok e) is (inl (reported, one)) =
-    subst (λ (fs : List Event). AllRecorded s (if is_kept r then Acknowledged now c r ∷ [] else []) fs) (sym one)
-    (kept_recorded s now c r e (is_kept r) is reported)
+    subst (λ (fs : List Event). AllRecorded s (if is_no_refusal r then Acknowledged now c r ∷ [] else []) fs) (sym one)
+    (kept_recorded s now c r e (is_no_refusal r) is reported)
 one_recorded s now c r es (Ok e) is (inr (refused, registers, none)) =
-    subst (λ (t : Reply). AllRecorded s (if is_kept t then Acknowledged now c t ∷ [] else []) es) (sym refused) tt
+    subst (λ (t : Reply). AllRecorded s (if is_no_refusal t then Acknowledged now c t ∷ [] else []) es) (sym refused) tt
 
 answered_recorded : (s : State) (now : ℕ) (cs : List Command) (rs : List Reply) (es : List Event) → Answered now s cs rs es
     → AllRecorded s (acknowledgements now cs rs) es
@@ -77,7 +77,7 @@ answered_recorded s now [] (r ∷ rs) es bad = absurd bad
 answered_recorded s now (c ∷ cs) [] es bad = absurd bad
 answered_recorded s now (c ∷ cs) (r ∷ rs) es (first, later, adds, rest, is) =
     subst (AllRecorded s (acknowledgements now (c ∷ cs) (r ∷ rs))) (sym is)
-    (both_recorded s (if is_kept r then Acknowledged now c r ∷ [] else []) first (acknowledgements now cs rs) later
+    (both_recorded s (if is_no_refusal r then Acknowledged now c r ∷ [] else []) first (acknowledgements now cs rs) later
     (one_recorded s now c r first (event_of s now c) refl adds) (answered_recorded (after_all s first) now cs rs later rest))
 
 -- refusals acknowledge nothing

@@ -111,7 +111,7 @@ full_with_reserve answers notices n did ((end, is, t), memory) =
     let same : end ≡ turn_end.BookFull = (let reported : reply.Turn turn_end.BookFull ≡ reply.Turn end = is in cc) in
     let less : 3 < 3 = t.full.0 same in omega (arith, less)
 
--- want of memory without a refused growth
+-- lack of memory without a refused growth
 memory_at_once : (answers : List Entry) (room : ℕ) (notices : List Notice) (n : Machine) (did : Effects)
     → MovesWhile true (turned turn_end.Memory answers room notices) waiting n did → ⊥
 memory_at_once answers room notices n did moves = let bad : false ≡ true = moves.1 refl in cc

@@ -8,7 +8,7 @@ use Rattle.ocf_types.specs.Kinds.{Event}
 use Rattle.ocf_types.specs.Lemmas.{after_all-append}
 use Rattle.ocf_types.specs.State.{State, after_all}
 use Rattle.disk_model.specs.Image.{Image}
-use Rattle.disk_model.specs.View.{Lawful, View}
+use Rattle.disk_model.specs.Disk.{Lawful, DiskView}
 use Rattle.child_model.specs.Children.{Asked}
 use Rattle.child_model.specs.declared.answer.Entry.{Entry}
 use Rattle.exec_journal.specs.Found.{FoundAs}
@@ -29,7 +29,7 @@ use Rattle.executor.proofs.Incarnations.Uptimes.{uptime_survives, whole_leads}
 use Rattle.executor.proofs.Incarnations.Whole.{OneFinding, after_boots, one_state}
 use Rattle.executor.proofs.Machines.Calls.{labels_answers, machine_of, moves_all, same_machine}
 
-module _ {D : Type 0} (view : D → View) (law : JournalLemmas) (once : OneFinding) (lawful : (d : D) → (view d).honest → Lawful (view d))
+module _ {D : Type 0} (view : D → DiskView) (law : JournalLemmas) (once : OneFinding) (lawful : (d : D) → (view d).honest → Lawful (view d))
     (start : State) where
   -- the pair after a behaviour
   abbrev BackedBy : List (Incarnation D) → List Seen → Image → Type 0

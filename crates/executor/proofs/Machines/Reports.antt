@@ -16,7 +16,7 @@ use Rattle.executor.specs.Interruptions.{interrupted, interrupted_in, interrupti
 use Rattle.executor.specs.Behaves.{Opening, Behaves, Seen, Serving}
 use Rattle.executor.specs.SeenIncarnations.{reports}
 use Rattle.executor.proofs.History.Runs.{both_false, rests}
-use Rattle.executor.proofs.History.TurnReport.{interruptions-append}
+use Rattle.executor.proofs.History.TurnAnswers.{interruptions-append}
 
 -- lists with some elements left out, one after the other
 within_all : (xs : List Notice) → IsWithin xs xs

@@ -30,7 +30,7 @@ use Rattle.exec_turn.specs.Polls.{Polled, ending, ends_of, results}
 use Rattle.exec_turn.specs.Starts.{Started, refusals, refused_end}
 use Rattle.exec_ledger.specs.Lemmas.{same_events, same_pending}
 use Rattle.exec_ledger.specs.Pieces.{Effects, followed_by, no_effects, batch_effects}
-use Rattle.exec_turn.specs.Turn.{EachPolled, IsFinish, IsTurn, PickedAt, TurnReport, TurnKind, Whole}
+use Rattle.exec_turn.specs.Turn.{EachPolled, IsFinish, IsTurn, PickedAt, TurnAnswers, TurnKind, Whole}
 use Rattle.executor.specs.Histories.{Follow, IsInOrder}
 use Rattle.executor.specs.Incarnations.{Abandoned, Cleared, Exchange, Finished, Batch, Tidied, Took, boots}
 use Rattle.executor.specs.Machine.{GoesOn, Label, Machine, MovesAll, MovesOpen, MovesTurn, MovesWhile, TakesAll, TidyEnds}
@@ -42,7 +42,7 @@ use Rattle.executor.proofs.Isolation.Lists.{each_unmap}
 use Rattle.executor.proofs.History.Events.{runs_ascend}
 use Rattle.executor.proofs.History.Order.{begin_in_order}
 use Rattle.executor.proofs.History.Runs.{ends_between, follow_first}
-use Rattle.executor.proofs.History.TurnReport.{apart_all, interrupted_once}
+use Rattle.executor.proofs.History.TurnAnswers.{apart_all, interrupted_once}
 use Rattle.executor.proofs.Incarnations.Whole.{boots_is}
 use Rattle.executor.proofs.Machines.Follows.{AtMostOne, BegunSo, RunsHere, all_run, begins_follow, command_applies, drawn, ends_follow, entries_found, follow_both, ids_of}
 
@@ -128,7 +128,7 @@ two_follow end x ps bs polled picked fine =
     follow_both x.state (results x.at ps) (begins x.at bs) one
     (begun_so end (following x (results x.at ps)) bs picked (fine_on x.state (results x.at ps) one fine)).follow
 
-three_follow : (end : TurnEnd) (x : BatchStart) (t : TurnReport end x) → Fine x.state
+three_follow : (end : TurnEnd) (x : BatchStart) (t : TurnAnswers end x) → Fine x.state
     → Follow x.state (results x.at t.polled ++ begins x.at t.begun ++ refusals x.at t.started)
 three_follow end x t fine =
     let es = results x.at t.polled in

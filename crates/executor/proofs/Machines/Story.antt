@@ -3,7 +3,8 @@
 use Rattle.std.proofs.Common.{◌≡◌, inl, ℕ, ◌<◌, true, false, List, [], ◌∷◌, length, Some, Ok, refl, ap, subst, arith}
 use Rattle.ocf_types.specs.Kinds.{Event}
 use Rattle.ocf_types.specs.State.{State, after_all, empty}
-use Rattle.ocf_types.specs.declared.action.Task.TheVariants as task
+use Rattle.ocf_types.specs.Actions.{plain, task}
+use Rattle.ocf_types.specs.declared.action.Action.TheVariants.{Start}
 use Rattle.ocf_types.specs.declared.command.CommandOf.TheVariants as command
 use Rattle.ocf_types.specs.declared.command.RequestOf.TheVariants as asked
 use Rattle.ocf_types.specs.declared.operation.Running.{Running}
@@ -19,7 +20,7 @@ use Rattle.exec_ledger.specs.Pieces.{Effects, HasBegin, no_effects}
 use Rattle.exec_ledger.specs.Replies.{acknowledged}
 use Rattle.exec_ledger.specs.BatchStarts.{batch_start}
 use Rattle.exec_turn.specs.Picks.{begins as begins_at}
-use Rattle.exec_turn.specs.Turn.{TurnReport}
+use Rattle.exec_turn.specs.Turn.{TurnAnswers}
 use Rattle.executor.specs.Incarnations.{Took}
 use Rattle.executor.specs.Machine.{Label, Machine, MovesWhile, after_events}
 use Rattle.executor.specs.Interruptions.{interrupted}
@@ -50,7 +51,7 @@ with_run = after_events with_action (begins 1 1 ∷ [])
 
 -- the turn
 abbrev running : Running
-running = record { call = 1; run = 1; task = task.Start; timeout = 20000; interval = 0; since = 10 }
+running = record { call = 1; run = 1; task = task Start plain; timeout = 20000; interval = 0; since = 10 }
 
 abbrev begun : Active
 begun = record { id = r1; running = running }
@@ -59,7 +60,7 @@ module _ (p : Position) (fits : IsTooLong p.tail (begins_at 10 (begun ∷ [])) �
   -- the calls
   abbrev asks : Label
   asks = record {
-    exchange = Took (input.Request 0 (asked.Command (command.Exec r1 task.Start 20000))) (acknowledged (exec_event 1).change);
+    exchange = Took (input.Request 0 (asked.Command (command.Exec r1 (task Start plain) 20000))) (acknowledged (exec_event 1).change);
     answers = [];
     notices = [];
     room = 256;
@@ -91,14 +92,14 @@ module _ (p : Position) (fits : IsTooLong p.tail (begins_at 10 (begun ∷ [])) �
     λ bad. absurd (cc),
   )
 
-  abbrev reported : TurnReport turn_end.Done (batch_start with_action.state with_action.due p 10 false)
+  abbrev reported : TurnAnswers turn_end.Done (batch_start with_action.state with_action.due p 10 false)
   reported = record {
     polled = [];
     begun = begun ∷ [];
     started = record { what = begun; answer = Ok tt } ∷ [];
     clock = 7;
     each_polled = record { each = refl; bytes = tt };
-    picked = (((Some 1, [], refl, refl, refl), record { runs = omega arith; room = λ some bad. fits bad }), λ bad. absurd (cc));
+    picked = (((Some 1, [], refl, refl, refl), record { runs = omega arith; reserve = λ some bad. fits bad }), λ bad. absurd (cc));
     each_started = refl;
   }
 

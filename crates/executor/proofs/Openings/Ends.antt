@@ -10,7 +10,7 @@ use Rattle.child_model.specs.Children.{Admits, ChildrenView, given_up}
 use Rattle.disk_model.specs.Image.{Image}
 use Rattle.disk_model.specs.Lemmas.{joined, passed_on, supposed, weakened}
 use Rattle.disk_model.specs.Runs.{CrashesTo}
-use Rattle.disk_model.specs.View.{Passed, Unwritten, View}
+use Rattle.disk_model.specs.Disk.{Passed, Unwritten, DiskView}
 use Rattle.gated_slots.specs.declared.append.SlotFault.{SlotFault}
 use Rattle.gated_slots.specs.declared.append.SlotFault.TheVariants as slot
 use Rattle.exec_journal.specs.Found.{FoundAs, IsToWrite, JournalAt}
@@ -40,16 +40,16 @@ boot_next s m = by (any_busy s)
     by true = omega arith
     by false = refl
 
-opens_like : (old new : View) (now : ℕ) → CrashesTo old new (OpensLike old) → CrashesTo old new (StartsLike old now)
+opens_like : (old new : DiskView) (now : ℕ) → CrashesTo old new (OpensLike old) → CrashesTo old new (StartsLike old now)
 opens_like old new now crash = weakened old new (OpensLike old) (StartsLike old now) (λ h c left. inl left) crash
 
 -- only the journal was opened, or not even that
-pub read_only : (old new : View) (now : ℕ) → CrashesTo old new (OpensLike old) → ((old.honest → AllHaveReserve old) → CrashesTo old new PairHasReserve)
+pub read_only : (old new : DiskView) (now : ℕ) → CrashesTo old new (OpensLike old) → ((old.honest → AllHaveReserve old) → CrashesTo old new PairHasReserve)
     → ((old.honest → IsToWrite old.reads → ⊥) → Unwritten old new) → OpensDisk old new now
 read_only old new now crash reserved unwritten =
     record { crash = opens_like old new now crash; reserved = reserved; unwritten = λ quiet. unwritten (λ h. (quiet h).0) }
 
-module _ (old new : View) (from : ChildrenView) (now : ℕ) where
+module _ (old new : DiskView) (from : ChildrenView) (now : ℕ) where
   -- the journal was not opened
   pub journal_refused : (fault : JournalFault) → FailsToOpen fault old new → NotOpened old new from from now (reported_fault fault)
   journal_refused fault fails = record {
@@ -91,7 +91,7 @@ module _ (old new : View) (from : ChildrenView) (now : ℕ) where
       never_full journal.Memory is = cc
 
 -- memory was refused once the journal was opened, and the children were given up
-pub unready_memory : (old new : View) (from to : ChildrenView) (now : ℕ) → Opens old new → to ≡ given_up from
+pub unready_memory : (old new : DiskView) (from to : ChildrenView) (now : ℕ) → Opens old new → to ≡ given_up from
     → (new.honest → IsOwn old.reads from) → (new.honest → IsForeign old.reads from → ⊥) → NotOpened old new from to now why.Memory
 unready_memory old new from to now opens kids theirs own = record {
   did = read_only old new now opens.crash opens.reserved opens.unwritten;
@@ -112,7 +112,7 @@ unready_memory old new from to now opens kids theirs own = record {
 }
 
 -- the children are another journal's
-unready_foreign : (old new : View) (p : Position) (s : State) (from to : ChildrenView) (now : ℕ) → OpensAt p s old new → to ≡ from
+unready_foreign : (old new : DiskView) (p : Position) (s : State) (from to : ChildrenView) (now : ℕ) → OpensAt p s old new → to ≡ from
     → s.next_run ≤ from.last_run → NotOpened old new from to now why.Foreign
 unready_foreign old new p s from to now opens kids later = record {
   did = read_only old new now opens.opens.crash opens.opens.reserved opens.opens.unwritten;
@@ -141,7 +141,7 @@ own_children once c s from found low foreign =
     let later = foreign.later in
     omega (arith, next, low, later)
 
-pub unready : ((c : Image) (s t : State) → FoundAs s c → FoundAs t c → s ≡ t) → (old new : View) (p : Position) (s : State) (from to : ChildrenView) (now : ℕ) (fault : OpenError) → OpensAt p s old new
+pub unready : ((c : Image) (s t : State) → FoundAs s c → FoundAs t c → s ≡ t) → (old new : DiskView) (p : Position) (s : State) (from to : ChildrenView) (now : ℕ) (fault : OpenError) → OpensAt p s old new
     → IsUnready from to s fault → NotOpened old new from to now fault
 unready once old new p s from to now fault opens is = elim is.either [
   | inl foreign ↦ (let kids = is.foreign foreign in
@@ -153,8 +153,8 @@ unready once old new p s from to now fault opens is = elim is.either [
       (λ h. own_children once old.reads s from (opens.found h) kids.1))
 ]
 
-module _ {D : Type 0} (view : D → View) (law : JournalLemmas) (once : (c : Image) (s t : State) → FoundAs s c → FoundAs t c → s ≡ t)
-    (old : View) (from : ChildrenView) (now : ℕ) (mid : ExecutorView D) (over : IsOver from mid)
+module _ {D : Type 0} (view : D → DiskView) (law : JournalLemmas) (once : (c : Image) (s t : State) → FoundAs s c → FoundAs t c → s ≡ t)
+    (old : DiskView) (from : ChildrenView) (now : ℕ) (mid : ExecutorView D) (over : IsOver from mid)
     (opens : OpensAt mid.position mid.state old (view mid.disk)) where
   -- memory was refused before the boot
   pub report_refused : (d : D) (to : ChildrenView) → d ≡ mid.disk → to ≡ mid.children → NotOpened old (view d) from to now why.Memory
@@ -178,7 +178,7 @@ module _ {D : Type 0} (view : D → View) (law : JournalLemmas) (once : (c : Ima
           (λ h c left. inr (mid.state, opens.found (crash.passed.honest h), left)) crash);
       reserved =
           λ all. joined old (view mid.disk) (view new.disk) PairHasReserve (opens.opens.reserved all)
-          (supposed (view mid.disk) (view new.disk) PairHasReserve crash.passed (λ h. reserved (opens.room all (crash.passed.honest h))));
+          (supposed (view mid.disk) (view new.disk) PairHasReserve crash.passed (λ h. reserved (opens.reserve all (crash.passed.honest h))));
       unwritten = λ is_quiet. rests is_quiet (any_busy mid.state) refl;
     }
       where
@@ -203,9 +203,9 @@ module _ {D : Type 0} (view : D → View) (law : JournalLemmas) (once : (c : Ima
     -- and nothing was written where a boot does not fit
     lacks_unwritten : (view mid.disk).honest → LacksBoot mid.position.tail mid.state → IsToWrite old.reads → ⊥
     lacks_unwritten h lacks to_write =
-        let room = opens.anew h to_write lacks.0 in
+        let reserve = opens.anew h to_write lacks.0 in
         let short = lacks.1 in
-        omega (arith, room, short)
+        omega (arith, reserve, short)
 
     lacks_reserve : (view mid.disk).honest → LacksBoot mid.position.tail mid.state → LacksReserve old.reads
     lacks_reserve h lacks =
@@ -239,7 +239,7 @@ module _ {D : Type 0} (view : D → View) (law : JournalLemmas) (once : (c : Ima
                 λ h. subst (λ p. IsInSync p final.state (view final.disk)) (sym index)
                 (subst (λ (s : State). IsInSync new.position s (view final.disk)) (sym state)
                 (subst (λ (d : D). IsInSync new.position new.state (view d)) (sym disk) (boots.settled (honest_new h))));
-            room = λ busy. absurd (true≢false (sym busy ∙ quiet_now));
+            reserve = λ busy. absurd (true≢false (sym busy ∙ quiet_now));
             matched = subst (λ (v : ChildrenView). ChildrenMatch final.state v) (sym given) (quiet_matched final.state from quiet_now rising);
             admits = subst (λ (v : ChildrenView). Admits v.site final.site) (sym given) admits;
           };
@@ -277,9 +277,9 @@ module _ {D : Type 0} (view : D → View) (law : JournalLemmas) (once : (c : Ima
       full = λ h is. lacks_reserve (boots.crash.passed.honest h) (boots.full.0 (ap Err (as_full fault is)));
       never_full = λ reserved h is.
           let lacks = boots.full.0 (ap Err (as_full fault is)) in
-          let room = opens.room reserved (boots.crash.passed.honest h) lacks.0 in
+          let reserve = opens.reserve reserved (boots.crash.passed.honest h) lacks.0 in
           let short = lacks.1 in
-          omega (arith, room, short);
+          omega (arith, reserve, short);
       not_foreign = λ h _. own h;
       spared = λ h other. absurd (own h other);
       foreign_unbooted = λ other.

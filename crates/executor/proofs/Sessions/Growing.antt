@@ -8,7 +8,7 @@ use Rattle.ocf_types.specs.Due.{Due}
 use Rattle.ocf_types.specs.declared.refusal.Refusal.TheVariants.{Disk}
 use Rattle.ocf_types.specs.declared.reply.ReplyOf.TheVariants.{Refused}
 use Rattle.ocf_types.specs.declared.reply.TurnEnd.{TurnEnd}
-use Rattle.disk_model.specs.View.{View, Lawful}
+use Rattle.disk_model.specs.Disk.{DiskView, Lawful}
 use Rattle.child_model.specs.declared.answer.Entry.{Entry}
 use Rattle.exec_ledger.specs.BatchStarts.{due_after_all}
 use Rattle.executor.specs.Sessions.{Input, Session, TakesWhile, request_effects, Leads, Sits, TakesOpen, command_effects}
@@ -30,7 +30,7 @@ use Rattle.executor.specs.TurnCalls.{MakesTurn}
 use Rattle.executor.specs.declared.session.InputOf.TheVariants as input
 
 -- one more input
-pub session_more : {D : Type 0} (view : D → View) (x y z : ExecutorView D) (is : List Input) (rs : List Reply) (i : Input) (r : Reply)
+pub session_more : {D : Type 0} (view : D → DiskView) (x y z : ExecutorView D) (is : List Input) (rs : List Reply) (i : Input) (r : Reply)
     (a b : Effects)
     → Session view x is rs y a → TakesWhile y.is_open view i y z r b → Session view x (is ++ i ∷ []) (rs ++ r ∷ []) z (followed_by a b)
 session_more view x y z [] [] i r a b s t = (
@@ -55,10 +55,10 @@ session_more view x y z (j ∷ is) (q ∷ rs) i r a b (m, first, later, takes, r
 )
 
 -- without effects a crash leaves what it might have left before
-pub leads_start : {D : Type 0} (view : D → View) (law : JournalLemmas) (x : ExecutorView D) → ((view x.disk).honest → Lawful (view x.disk))
+pub leads_start : {D : Type 0} (view : D → DiskView) (law : JournalLemmas) (x : ExecutorView D) → ((view x.disk).honest → Lawful (view x.disk))
     → ExecutorKeeps view x → Leads view x x no_effects
 leads_start view law x lawful keeps = record {
-  crash = settled_leaves law x.position x.state view x.disk lawful keeps.journal keeps.room;
+  crash = settled_leaves law x.position x.state view x.disk lawful keeps.journal keeps.reserve;
   book = sym (append-nil x.children.book);
   log = sym (append-nil x.children.log);
   site = refl;
@@ -69,13 +69,13 @@ leads_start view law x lawful keeps = record {
 
 -- The effects of calls, even where the children's book was emptied: from one view of an executor to another. An executor that a disk
 -- fault closed may have gone on to a state that is not recorded.
-pub record Onward {D : Type 0} (view : D → View) (old new : ExecutorView D) (effects : Effects) : Type 0 where
+pub record Onward {D : Type 0} (view : D → DiskView) (old new : ExecutorView D) (effects : Effects) : Type 0 where
   pub crash : CrashCondition view old.disk new.disk old.state (after_all old.state effects.events) effects
   pub state : new.is_open ≡ true → new.state ≡ after_all old.state effects.events
   pub whole : new.is_open ≡ true → effects.pending ≡ []
 
 -- where the state is the one that is recorded
-pub onward_at : {D : Type 0} (view : D → View) (x y : ExecutorView D) (d : Effects)
+pub onward_at : {D : Type 0} (view : D → DiskView) (x y : ExecutorView D) (d : Effects)
     → CrashCondition view x.disk y.disk x.state y.state d → (y.is_open ≡ true → d.pending ≡ []) → Onward view x y d
 onward_at view x y d leaves whole = record {
   crash = subst (λ (t : State). CrashCondition view x.disk y.disk x.state t d) leaves.state leaves;
@@ -83,11 +83,11 @@ onward_at view x y d leaves whole = record {
   whole = whole;
 }
 
-pub onward : {D : Type 0} (view : D → View) (x y : ExecutorView D) (d : Effects) → Leads view x y d → Onward view x y d
+pub onward : {D : Type 0} (view : D → DiskView) (x y : ExecutorView D) (d : Effects) → Leads view x y d → Onward view x y d
 onward view x y d leads = onward_at view x y d leads.crash leads.whole
 
 -- where calls left it open, its state is the recorded one
-pub leads_still : {D : Type 0} (view : D → View) (w x : ExecutorView D) (a : Effects) → ((view x.disk).honest → Lawful (view x.disk))
+pub leads_still : {D : Type 0} (view : D → DiskView) (w x : ExecutorView D) (a : Effects) → ((view x.disk).honest → Lawful (view x.disk))
     → x.is_open ≡ true → Onward view w x a → Leads view x x no_effects
 leads_still view w x a lawful is_open so_far = record {
   crash = no_call view x.disk x.state lawful
@@ -106,7 +106,7 @@ no_pending : (e : Event) (reply : Reply) → (reply ≡ Refused Disk → ⊥) �
 no_pending e (Refused Disk) not_disk = absurd (not_disk refl)
 no_pending e reply not_disk = refl
 
-leads_command : {D : Type 0} (view : D → View) (x y : ExecutorView D) (r : Result Event Refusal) (reply : Reply) → Leads view x x no_effects
+leads_command : {D : Type 0} (view : D → DiskView) (x y : ExecutorView D) (r : Result Event Refusal) (reply : Reply) → Leads view x x no_effects
     → Obeys view r (ledger_of x) (ledger_of y) reply → OnlyLedgerChanges x y → ((y.is_open ≡ false) ↔ (reply ≡ Refused Disk)) → Leads view x y (command_effects r reply)
 leads_command view x y (Err refusal) reply still obeys beside closes =
     subst (λ (z : ExecutorView _). Leads view x z no_effects) (sym (same_view x y obeys.1 beside)) still
@@ -120,7 +120,7 @@ leads_command view x y (Ok e) reply still records beside closes = record {
   whole = λ is_open. no_pending e reply (λ disk. absurd (true≢false (sym is_open ∙ closes.1 disk)));
 }
 
-leads_request : {D : Type 0} (view : D → View) (now : ℕ) (request : Request) (x y : ExecutorView D) (reply : Reply) → Leads view x x no_effects
+leads_request : {D : Type 0} (view : D → DiskView) (now : ℕ) (request : Request) (x y : ExecutorView D) (reply : Reply) → Leads view x x no_effects
     → ServesOpen view now request x y reply → ((y.is_open ≡ false) ↔ (reply ≡ Refused Disk))
     → Leads view x y (request_effects x.state now request reply)
 leads_request view now (asked.Question question) x y reply still serves closes =
@@ -129,7 +129,7 @@ leads_request view now (asked.Command command) x y reply still serves closes =
     leads_command view x y (event_of x.state now command) reply still serves.0 serves.1 closes
 
 -- the effects of a turn of any kind
-pub leads_turn : {D : Type 0} {kind : TurnKind} {most : ℕ} (view : D → View) (now : ℕ) (x y : ExecutorView D) (end : TurnEnd)
+pub leads_turn : {D : Type 0} {kind : TurnKind} {most : ℕ} (view : D → DiskView) (now : ℕ) (x y : ExecutorView D) (end : TurnEnd)
     (takes : MakesTurn kind most view now x y end)
     → Leads view x y takes.turns.effects
 leads_turn view now x y end takes = record {
@@ -143,7 +143,7 @@ leads_turn view now x y end takes = record {
 }
 
 -- the effects of one input
-pub leads_open : {D : Type 0} (view : D → View) (i : Input) (x y : ExecutorView D) (reply : Reply) (d : Effects) → Leads view x x no_effects
+pub leads_open : {D : Type 0} (view : D → DiskView) (i : Input) (x y : ExecutorView D) (reply : Reply) (d : Effects) → Leads view x x no_effects
     → TakesOpen view i x y reply d → Leads view x y d
 leads_open view (input.Request now request) x y reply d still takes =
     subst (λ (e : Effects). Leads view x y e) (sym takes.does)
@@ -152,7 +152,7 @@ leads_open view (input.Turn now) x y reply d still takes =
     subst (λ (e : Effects). Leads view x y e) (sym takes.does) (leads_turn view now x y takes.end takes.takes)
 
 -- calls after others
-pub onward_joined : {D : Type 0} (view : D → View) (x y z : ExecutorView D) (a b : Effects) → y.is_open ≡ true → Onward view x y a
+pub onward_joined : {D : Type 0} (view : D → DiskView) (x y z : ExecutorView D) (a b : Effects) → y.is_open ≡ true → Onward view x y a
     → Onward view y z b → Onward view x z (followed_by a b)
 onward_joined view x y z a b is_open one two =
     let nothing : a.pending ≡ [] = one.whole is_open in
@@ -168,7 +168,7 @@ onward_joined view x y z a b is_open one two =
       whole = λ still. ap (λ (p : List Event). p ++ b.pending) nothing ∙ two.whole still;
     }
 
-leads_joined : {D : Type 0} (view : D → View) (x y z : ExecutorView D) (a b : Effects) → y.is_open ≡ true → Leads view x y a → Leads view y z b
+leads_joined : {D : Type 0} (view : D → DiskView) (x y z : ExecutorView D) (a b : Effects) → y.is_open ≡ true → Leads view x y a → Leads view y z b
     → Leads view x z (followed_by a b)
 leads_joined view x y z a b is_open one two =
     let on = onward_joined view x y z a b is_open (onward view x y a one) (onward view y z b two) in
@@ -188,7 +188,7 @@ leads_joined view x y z a b is_open one two =
     }
 
 -- one more input, taken while the executor is open or closed
-leads_more : {D : Type 0} (o : Bool) (view : D → View) (i : Input) (x y z : ExecutorView D) (reply : Reply) (a b : Effects) → y.is_open ≡ o
+leads_more : {D : Type 0} (o : Bool) (view : D → DiskView) (i : Input) (x y z : ExecutorView D) (reply : Reply) (a b : Effects) → y.is_open ≡ o
     → ((view y.disk).honest → Lawful (view y.disk)) → TakesWhile o view i y z reply b → Leads view x y a
     → Leads view x z (followed_by a b)
 leads_more true view i x y z reply a b is_open lawful takes leads =
@@ -199,7 +199,7 @@ leads_more false view i x y z reply a b closed lawful takes leads =
     (subst (λ (d : Effects). Leads view x y (followed_by a d)) (sym takes.2) (subst (λ (d : Effects). Leads view x y d) (sym (followed_by_none a)) leads))
 
 -- one more input, in a session
-pub sits_more : {D : Type 0} (view : D → View) (x y z : ExecutorView D) (is : List Input) (rs : List Reply) (i : Input) (r : Reply) (b : Effects)
+pub sits_more : {D : Type 0} (view : D → DiskView) (x y z : ExecutorView D) (is : List Input) (rs : List Reply) (i : Input) (r : Reply) (b : Effects)
     → ((view y.disk).honest → Lawful (view y.disk)) → Sits view is x y rs → TakesWhile y.is_open view i y z r b
     → Sits view (is ++ i ∷ []) x z (rs ++ r ∷ [])
 sits_more view x y z is rs i r b lawful sits takes = record {
@@ -208,7 +208,7 @@ sits_more view x y z is rs i r b lawful sits takes = record {
   leads = λ was_open. leads_more y.is_open view i x y z r sits.effects b refl lawful takes (sits.leads was_open);
 }
 
-pub sits_start : {D : Type 0} (view : D → View) (law : JournalLemmas) (x : ExecutorView D) → ((view x.disk).honest → Lawful (view x.disk))
+pub sits_start : {D : Type 0} (view : D → DiskView) (law : JournalLemmas) (x : ExecutorView D) → ((view x.disk).honest → Lawful (view x.disk))
     → ExecutorInvariant view x → Sits view [] x x []
 sits_start view law x lawful sound =
     record { effects = no_effects; each = (refl, refl); leads = λ is_open. leads_start view law x lawful (sound is_open) }

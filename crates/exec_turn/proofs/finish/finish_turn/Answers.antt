@@ -7,7 +7,7 @@ use Rattle.exec_ledger.specs.Lemmas.{settled_found, settled_reserved, whole}
 use Rattle.exec_ledger.specs.BatchStarts.{batch_start_of}
 use Rattle.exec_ledger.specs.LedgerView.{due_in}
 use Rattle.exec_turn.specs.Turn.{IsFinish}
-use Rattle.exec_turn.specs.Turns.{Finishes, reports_of}
+use Rattle.exec_turn.specs.Turns.{Finishes, turn_notices}
 use Rattle.exec_turn.proofs.Ends.{book_full, finish_done, finish_failed}
 use Rattle.exec_turn.proofs.finish.finish_turn.Goals as goal
 
@@ -23,7 +23,7 @@ returns-then-room-len-clause-finishes g c =
     subst (λ (l : List Notice). Finishes g.D.Disk.view h.disk h.disk x h.state (due_in h) from from l turn_end.BookFull)
     (sym c.clear.ensures.items)
     (book_full IsFinish g.D.Disk.view h.disk x from (refl, refl) (whole g.D.Disk.view h.disk h.state lawful found
-    (settled_reserved c.lemma_journal_holds.ensures.once h.position h.state v lawful kept.journal kept.room)))
+    (settled_reserved c.lemma_journal_holds.ensures.once h.position h.state v lawful kept.journal kept.reserve)))
 
 pub returns-in-Ok-clause-finishes : goal.returns-in-Ok-clause-finishes
 returns-in-Ok-clause-finishes g c =
@@ -31,7 +31,7 @@ returns-in-Ok-clause-finishes g c =
     let at = c.moment-at.ensures ∙ ap (λ (s : State). moment s c.args.now) c.state-state.ensures.state in
     subst (λ m. Finishes g.D.Disk.view h.disk c.record_polls.new.ledger.disk (batch_start_of h m) c.record_polls.new.ledger.state
     (due_in c.record_polls.new.ledger) (g.C.Children.view c.args.children.now) (g.C.Children.view c.record_polls.new.children)
-    (reports_of c.record_polls.new.batches) turn_end.Done) at
+    (turn_notices c.record_polls.new.buffers) turn_end.Done) at
     (finish_done c.in-Ok.ensures.polled)
 
 pub returns-in-Err-clause-finishes : goal.returns-in-Err-clause-finishes
@@ -40,5 +40,5 @@ returns-in-Err-clause-finishes g c =
     let at = c.moment-at.ensures ∙ ap (λ (s : State). moment s c.args.now) c.state-state.ensures.state in
     subst (λ m. Finishes g.D.Disk.view h.disk c.record_polls.new.ledger.disk (batch_start_of h m) c.record_polls.new.ledger.state
     (due_in c.record_polls.new.ledger) (g.C.Children.view c.args.children.now) (g.C.Children.view c.record_polls.new.children)
-    (reports_of c.record_polls.new.batches) turn_end.Disk) at
+    (turn_notices c.record_polls.new.buffers) turn_end.Disk) at
     (finish_failed c.in-Err.ensures.polled)

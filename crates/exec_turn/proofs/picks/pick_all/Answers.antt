@@ -6,7 +6,7 @@ use Rattle.ocf_types.specs.Indexes.{id_at}
 use Rattle.exec_journal.specs.PartPrefix.{encoded_batch}
 use Rattle.exec_state.specs.Store.{dues}
 use Rattle.exec_ledger.specs.Actives.{Active}
-use Rattle.exec_turn.specs.Launches.{IsStart, all_starting}
+use Rattle.exec_turn.specs.Launches.{IsStart, actions_of_starts}
 use Rattle.exec_turn.specs.Picks.{begins}
 use Rattle.exec_turn.proofs.PickSteps.{SoFar, above, begun_here, each_push, full_here, no_memory_here, nothing_here, one_longer, batch_more, encoded_more, spent_here, starting_more}
 use Rattle.exec_turn.proofs.Resting.{rests_picked}
@@ -49,7 +49,7 @@ returns-then-not-fits-clause-picked g c =
     let inv = c.loop-index.invariant in
     let within : c.loop-index.index < length s.resources = omega (arith, c.loop-index-test.true, c.len-index-end.ensures.value) in
     let drawn : c.loop-index.run + 1 ≤ num_max = omega (arith, (c.in-Some-new.ensures.lawful.0 refl).1, c.get.ensures.value) in
-    let size = encoded_more c.args.at c.loop-index.len c.encoded_len-len.result (all_starting c.loop-index.starts.items)
+    let size = encoded_more c.args.at c.loop-index.len c.encoded_len-len.result (actions_of_starts c.loop-index.starts.items)
     (record { id = id_at s c.loop-index.index; running = c.in-Some.running }) c.loop-index.batch.items c.begin_at-begin.result inv.batch
     c.begin_at-begin.ensures.begin inv.len c.encoded_len-len.ensures in
     let all = c.args.journal.now.tail.at + 5 + (c.loop-index.len + c.encoded_len-len.result) + 1 + 32768 in
@@ -62,7 +62,7 @@ returns-in_default-start_of-clause-picked g c =
     let inv = c.loop-index.invariant in
     let within : c.loop-index.index < length s.resources = omega (arith, c.loop-index-test.true, c.len-index-end.ensures.value) in
     let drawn : c.loop-index.run + 1 ≤ num_max = omega (arith, (c.in-Some-new.ensures.lawful.0 refl).1, c.get.ensures.value) in
-    let size = encoded_more c.args.at c.loop-index.len c.encoded_len-len.result (all_starting c.loop-index.starts.items)
+    let size = encoded_more c.args.at c.loop-index.len c.encoded_len-len.result (actions_of_starts c.loop-index.starts.items)
     (record { id = id_at s c.loop-index.index; running = c.in-Some.running }) c.loop-index.batch.items c.begin_at-begin.result inv.batch
     c.begin_at-begin.ensures.begin inv.len c.encoded_len-len.ensures in
     no_memory_here inv.so_far within c.in-Some.ensures drawn size (c.if-not-fits.ensures.value.0 refl)
@@ -73,7 +73,7 @@ loop-index-preserved g c =
     let inv = c.loop-index.invariant in
     let within : c.loop-index.index < length s.resources = omega (arith, c.loop-index-test.true, c.len-index-end.ensures.value) in
     let drawn : c.loop-index.run + 1 ≤ num_max = omega (arith, (c.in-Some-new.ensures.lawful.0 refl).1, c.get.ensures.value) in
-    let size = encoded_more c.args.at c.loop-index.len c.encoded_len-len.result (all_starting c.loop-index.starts.items)
+    let size = encoded_more c.args.at c.loop-index.len c.encoded_len-len.result (actions_of_starts c.loop-index.starts.items)
     (record { id = id_at s c.loop-index.index; running = c.in-Some.running }) c.loop-index.batch.items c.begin_at-begin.result inv.batch
     c.begin_at-begin.ensures.begin inv.len c.encoded_len-len.ensures in
     let items = c.loop-index.starts.items in
@@ -82,10 +82,10 @@ loop-index-preserved g c =
     let more = begun_here inv.so_far within c.in-Some.ensures drawn size {later = c.in-Some-new.next} (c.if-not-fits.ensures.value.0 refl)
     (omega (arith, c.in-Some-new.ensures.value, c.get.ensures.value)) in
     let grown : starts ≡ items ++ c.in-Ok.start ∷ [] = c.push_reserved-in-loop-index.ensures.items in
-    let all : all_starting starts ≡ all_starting items ++ a ∷ [] = starting_more items starts c.in-Ok.start a grown c.in-Ok.ensures.what in
-    let batch_is : c.push_reserved.new.self.items ≡ begins c.args.at (all_starting items ++ a ∷ [])
+    let all : actions_of_starts starts ≡ actions_of_starts items ++ a ∷ [] = starting_more items starts c.in-Ok.start a grown c.in-Ok.ensures.what in
+    let batch_is : c.push_reserved.new.self.items ≡ begins c.args.at (actions_of_starts items ++ a ∷ [])
     =
-    batch_more c.args.at (all_starting items) a c.loop-index.batch.items c.push_reserved.new.self.items c.begin_at-begin.result
+    batch_more c.args.at (actions_of_starts items) a c.loop-index.batch.items c.push_reserved.new.self.items c.begin_at-begin.result
     c.push_reserved.ensures.items inv.batch c.begin_at-begin.ensures.begin in
     let count : length starts ≡ length items + 1 = one_longer items starts c.in-Ok.start grown in record {
       so_far = subst (λ (l : List Active). SoFar s (dues c.args.state.now) c.args.journal.now.tail.at c.args.at (c.loop-index.index + 1)

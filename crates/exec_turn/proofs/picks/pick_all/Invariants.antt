@@ -4,7 +4,7 @@ use Rattle.std.specs.Vec.{vec_capacity}
 use Rattle.exec_journal.specs.PartPrefix.{encoded_batch}
 use Rattle.exec_journal.specs.Journal.{journal_position}
 use Rattle.exec_state.specs.Store.{dues}
-use Rattle.exec_turn.specs.Launches.{IsStart, all_starting}
+use Rattle.exec_turn.specs.Launches.{IsStart, actions_of_starts}
 use Rattle.exec_turn.specs.Picks.{begins}
 use Rattle.exec_turn.proofs.PickSteps.{SoFar}
 use Rattle.exec_turn.proofs.picks.pick_all.Given as goal
@@ -12,7 +12,7 @@ use Rattle.exec_turn.proofs.picks.pick_all.Given as goal
 abbrev pub invariant-loop-index : goal.invariant-loop-index
 invariant-loop-index g l =
     let s = l.state.state in
-    let begun = all_starting l.starts.items in
+    let begun = actions_of_starts l.starts.items in
     record {
       so_far : SoFar s (dues l.state) (journal_position l.journal).tail l.at l.index l.run begun;
       batch : l.batch.items ≡ begins l.at begun;

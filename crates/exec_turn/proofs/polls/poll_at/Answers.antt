@@ -15,25 +15,25 @@ returns-in_default-clause-polled g c =
     (sym c.running_at.ensures ∙ c.in_default.is) in
     ([], [], none, sym (append-nil _), sym (append-nil _))
 
-pub returns-in_default-ask-clause-polled : goal.returns-in_default-ask-clause-polled
-returns-in_default-ask-clause-polled g c =
+pub returns-in_default-poll_one-clause-polled : goal.returns-in_default-poll_one-clause-polled
+returns-in_default-poll_one-clause-polled g c =
     let e = entry_at c.args.state.now.state c.args.index in
-    let h = c.in_default-ask.ensures.polled in
+    let h = c.in_default-poll_one.ensures.polled in
     let one = polled_one c.args.at e.0 c.in-Some.running e.1.history.running h.0 h.1 (g.C.Children.view c.args.children.now)
-    (g.C.Children.view c.ask.new.children) None
+    (g.C.Children.view c.poll_one.new.children) None
     (sym c.running_at.ensures ∙ c.in-Some.is) h.2 h.3 h.4 in
     ([], [], one, sym (append-nil _), sym (append-nil _))
 
 pub returns-clause-polled : goal.returns-clause-polled
 returns-clause-polled g c =
     let e = entry_at c.args.state.now.state c.args.index in
-    let h = c.in-Some-ask.ensures.polled in
-    let end = c.in-Some-ask.end in
+    let h = c.in-Some-poll_one.ensures.polled in
+    let end = c.in-Some-poll_one.end in
     let who : Active = record { id = e.0; running = c.in-Some.running } in
     let batch_id : c.copied-id.result ≡ e.0 = ◌∙◌ {c = e.0} c.copied-id.ensures c.id_at.ensures in
     let reported_id : c.copied-id-2.result ≡ e.0 = ◌∙◌ {c = e.0} c.copied-id-2.ensures c.id_at-2.ensures in
     let one = polled_one c.args.at e.0 c.in-Some.running e.1.history.running h.0 h.1 (g.C.Children.view c.args.children.now)
-    (g.C.Children.view c.ask.new.children) (Some end)
+    (g.C.Children.view c.poll_one.new.children) (Some end)
     (sym c.running_at.ensures ∙ c.in-Some.is) h.2 h.3 h.4 in (
       result_of c.args.at who end ∷ [],
       notice_of c.args.at who end ∷ [],

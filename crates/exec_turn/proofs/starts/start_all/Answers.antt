@@ -7,7 +7,7 @@ use Rattle.ocf_env.specs.Locations.{Call, SiteView}
 use Rattle.child_model.specs.MayStart.{IsLaunch}
 use Rattle.exec_ledger.specs.Actives.{Active}
 use Rattle.exec_turn.specs.Actives.{notice_of}
-use Rattle.exec_turn.specs.Launches.{IsOfOne, all_starting, what_starts}
+use Rattle.exec_turn.specs.Launches.{HasOwnLaunch, actions_of_starts, action_of_start}
 use Rattle.exec_turn.specs.Starts.{Rising, Starts, refused_end}
 use Rattle.exec_turn.specs.declared.picks.StartOf.{StartOf}
 use Rattle.exec_turn.proofs.Starting.{each_at, one_live, starts_more}
@@ -38,7 +38,7 @@ start_one-requires-clause-launches g c =
 
 pub start_one-requires-clause-of_one : goal.start_one-requires-clause-of_one
 start_one-requires-clause-of_one g c =
-    each_at IsOfOne c.args.starts.now c.loop-start.start-index c.start-item.result c.requires.of_one c.loop-start-test.true c.start-item.is
+    each_at HasOwnLaunch c.args.starts.now c.loop-start.start-index c.start-item.result c.requires.of_one c.loop-start-test.true c.start-item.is
 
 pub loop-start-preserved : goal.loop-start-preserved
 loop-start-preserved g c =
@@ -48,32 +48,32 @@ loop-start-preserved g c =
     let all = c.args.starts.now in
     let i = c.loop-start.start-index in
     let x = c.start-item.result in
-    let a = what_starts x in
+    let a = action_of_start x in
     let old = view c.loop-start.children in
     let new = view c.start_one.new.children in
     let reported = inv.started.0 in
     let started = c.start_one.ensures.started in
     let answer = started.0 in
-    let taken : all_starting (take (i + 1) all) ≡ all_starting (take i all) ++ a ∷ [] =
-    ap all_starting (take_more all i x c.loop-start-test.true ∙ ap (λ (y : StartOf Call). take i all ++ y ∷ []) (sym c.start-item.is))
-    ∙ map-append what_starts (take i all) (x ∷ []) in
+    let taken : actions_of_starts (take (i + 1) all) ≡ actions_of_starts (take i all) ++ a ∷ [] =
+    ap actions_of_starts (take_more all i x c.loop-start-test.true ∙ ap (λ (y : StartOf Call). take i all ++ y ∷ []) (sym c.start-item.is))
+    ∙ map-append action_of_start (take i all) (x ∷ []) in
     let split : drop i all ≡ x ∷ drop (i + 1) all = drop_more all i x c.loop-start-test.true
     ∙ ap (λ (y : StartOf Call). y ∷ drop (i + 1) all) (sym c.start-item.is) in
-    let rises : Rising old.last_run (all_starting (x ∷ drop (i + 1) all)) = subst
-    (λ (l : List (StartOf Call)). Rising old.last_run (all_starting l)) split inv.rising in
+    let rises : Rising old.last_run (actions_of_starts (x ∷ drop (i + 1) all)) = subst
+    (λ (l : List (StartOf Call)). Rising old.last_run (actions_of_starts l)) split inv.rising in
     let last : new.last_run ≡ x.running.run = ap (λ (v : ChildrenView). v.last_run) started.1 in
     record {
       started = (
         reported ++ map (notice_of c.args.at a) (refused_end answer),
         subst (λ (l : List Active). Starts c.args.at clock l (view c.args.children.now) new c.start_one.new.batch.items
             (reported ++ map (notice_of c.args.at a) (refused_end answer))) (sym taken)
-            (starts_more c.args.at clock (all_starting (take i all)) a
+            (starts_more c.args.at clock (actions_of_starts (take i all)) a
             (view c.args.children.now) old new c.loop-start.batch.items c.start_one.new.batch.items reported _ answer inv.started.1 started.1
             started.2 refl),
         started.3 ∙ ap (λ (l : List Notice). l ++ map (notice_of c.args.at a) (refused_end answer)) inv.started.2
             ∙ append_assoc c.args.notices.now.items reported (map (notice_of c.args.at a) (refused_end answer)),
       );
-      rising = subst (λ k. Rising k (all_starting (drop (i + 1) all))) (sym last) rises.1;
+      rising = subst (λ k. Rising k (actions_of_starts (drop (i + 1) all))) (sym last) rises.1;
       few = let live = ap (λ (v : ChildrenView). length v.live) started.1 in
           omega (arith, inv.few, live, one_live x.running.run old.live answer);
       room = let left = ap (λ (v : ChildrenView). v.room) started.1 in omega (arith, inv.room, left);

@@ -3,7 +3,7 @@ use Rattle.std.specs.Vec.{vec_capacity}
 use Rattle.ocf_types.specs.declared.reply.Notice.{Notice}
 use Rattle.child_model.specs.Children.{live_limit}
 use Rattle.exec_journal.specs.Journal.{journal_disk}
-use Rattle.exec_turn.specs.Launches.{all_starting}
+use Rattle.exec_turn.specs.Launches.{actions_of_starts}
 use Rattle.exec_turn.specs.Starts.{Rising, Starts}
 use Rattle.exec_turn.proofs.starts.start_all.Given as goal
 
@@ -14,9 +14,9 @@ invariant-loop-start g l =
     let i = l.start-index in
     record {
       started : (reported : List Notice)
-          × Starts l.at clock (all_starting (take i l.starts)) (view l.fn.children) (view l.children) l.batch.items reported
+          × Starts l.at clock (actions_of_starts (take i l.starts)) (view l.fn.children) (view l.children) l.batch.items reported
           × (l.notices.items ≡ l.fn.notices.items ++ reported);
-      rising : Rising (view l.children).last_run (all_starting (drop i l.starts));
+      rising : Rising (view l.children).last_run (actions_of_starts (drop i l.starts));
       few : length (view l.children).live + length l.starts ≤ live_limit + i;
       room : length l.starts ≤ (view l.children).room + i;
       site : (view l.children).site ≡ (view l.fn.children).site;

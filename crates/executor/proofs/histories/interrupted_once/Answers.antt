@@ -1,4 +1,4 @@
-use Rattle.executor.proofs.History.TurnReport.{interrupted_once}
+use Rattle.executor.proofs.History.TurnAnswers.{interrupted_once}
 use Rattle.executor.proofs.histories.interrupted_once.Goals as goal
 
 pub returns : goal.returns

@@ -1,5 +1,5 @@
 use Rattle.std.proofs.Common.{◌≡◌, ◌∙◌, ap}
-use Rattle.ocf_types.specs.Actions.{action_of, action_word}
+use Rattle.ocf_types.specs.Actions.{action_word}
 use Rattle.ocf_env.specs.Locations.{Call}
 use Rattle.ocf_env.specs.Programs.{arguments_at, program_at}
 use Rattle.ocf_env.proofs.launches.launch.Goals as goal
@@ -9,7 +9,7 @@ returns-clause-invocation g c =
     let via = c.args.site.now.via in
     let call = c.in_ok-invocation.ensures.call in
     let file = c.in_ok-file.ensures.file in
-    let word : c.word.result.now ≡ action_word (action_of c.args.running.task) = c.word.ensures ∙ ap action_word c.action.ensures in
+    let word : c.word.result.now ≡ action_word c.args.running.task.action = c.word.ensures ∙ ap action_word c.action.ensures in
     let same = ap (λ (i : Call). i.environment) call in
     record {
       program = ap (λ (i : Call). i.program) call ∙ ap (program_at via) file;

@@ -81,7 +81,7 @@ returns-in_err-finish_turn g c = record {
       step_fails c.args.self.now c.finish_turn.new.self c.from_residual.result c.from_residual.ensures.0
       (both_keep c.args.self.now c.loop-turns.self c.finish_turn.new.self c.loop-turns.invariant.keeps c.finish_turn.ensures.made.keeps)
       (in_turn c.loop-turns.self.at c.loop-turns.invariant.winds
-      (record { is_open = c.loop-turns.invariant.is_open; runs = sym c.if-not-runs_any.ensures.value; client_view = c.in_err-finish_turn.ensures.made.breaks })) c.in_err-finish_turn.ensures.made.cause;
+      (record { is_open = c.loop-turns.invariant.is_open; runs = sym c.if-not-runs_any.ensures.value; finish = c.in_err-finish_turn.ensures.made.breaks })) c.in_err-finish_turn.ensures.made.cause;
 }
 
 pub returns-then-not-pauses : goal.returns-then-not-pauses

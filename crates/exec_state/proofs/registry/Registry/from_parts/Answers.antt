@@ -6,7 +6,7 @@ use Rattle.recurring.specs.declared.monitor.Monitor.{Monitor}
 use Rattle.recurring.specs.Monitors.{all_due_at, pairs}
 use Rattle.recurring.specs.declared.due_index.TheConstants.{INDEX_LIMIT}
 use Rattle.exec_state.specs.Seen.{seen, seen_all, monitors_of, monitors_all, FitsRoom}
-use Rattle.exec_state.proofs.Entries.{length-find_all_due}
+use Rattle.exec_state.proofs.Entries.{length-map_entries}
 use Rattle.exec_state.proofs.Restored.{absent_next, fact_next, due_by_id, one_more, due_one_more}
 use Rattle.exec_state.proofs.registry.Registry.from_parts.Goals as goal
 
@@ -67,8 +67,8 @@ returns-in_err-reserve-clause-memory g c =
       length-append done rest,
       ap length c.loop-part.invariant.3,
       length-map {B = List ℕ × List (ℕ × ℕ)} ms (λ (e : List ℕ × List Monitor). (e.0, pairs e.1)),
-      length-find_all_due seen c.loop-part.resources.entries,
-      length-find_all_due monitors_of c.loop-part.resources.entries,
+      length-map_entries seen c.loop-part.resources.entries,
+      length-map_entries monitors_of c.loop-part.resources.entries,
     ) in
     let refused : length c.args.parts.items ≤ INDEX_LIMIT → IsTrue g.A.Grows.refuses = λ le. c.in_err-reserve.ensures.memory (few le) in
     search rules

@@ -4,19 +4,19 @@ use Rattle.recurring.specs.DueIndex.{Dues}
 use Rattle.exec_state.specs.Seen.{seen, seen_all, monitors_of, monitors_all}
 use Rattle.exec_state.specs.Store.{dues_by_id}
 use Rattle.exec_state.proofs.Dues.{dues_without}
-use Rattle.exec_state.proofs.Entries.{find_all_due-remove_entry}
+use Rattle.exec_state.proofs.Entries.{map_entries-remove_entry}
 use Rattle.exec_state.proofs.Resting.{rest_before_0}
 use Rattle.exec_state.proofs.registry.Registry.remove.Goals as goal
 
 pub returns-clause-resources : goal.returns-clause-resources
 returns-clause-resources g c =
     rw (← c.self.view_is) (ap seen_all c.shift_remove.ensures.entries
-    ∙ find_all_due-remove_entry seen c.args.id.now c.self.inside.resources.entries c.len-len.ensures.unique)
+    ∙ map_entries-remove_entry seen c.args.id.now c.self.inside.resources.entries c.len-len.ensures.unique)
 
 pub returns-clause-monitors : goal.returns-clause-monitors
 returns-clause-monitors g c =
     rw (← c.self.view_is) (ap monitors_all c.shift_remove.ensures.entries
-    ∙ find_all_due-remove_entry monitors_of c.args.id.now c.self.inside.resources.entries c.len-len.ensures.unique)
+    ∙ map_entries-remove_entry monitors_of c.args.id.now c.self.inside.resources.entries c.len-len.ensures.unique)
 
 pub invariant_of-self : goal.invariant_of-self
 invariant_of-self g c = (

@@ -11,7 +11,7 @@ use Rattle.exec_state.specs.MonitorsAfter.{monitors_stepped}
 use Rattle.exec_state.specs.Seen.{seen, seen_all, monitors_of, monitors_all}
 use Rattle.exec_state.specs.Store.{dues_by_id}
 use Rattle.exec_state.proofs.Dues.{dues_set_at, length-dues}
-use Rattle.exec_state.proofs.Entries.{find_all_due-set_value, find_all_due-same_at, set_value-found}
+use Rattle.exec_state.proofs.Entries.{map_entries-set_value, map_entries-same_at, set_value-found}
 use Rattle.exec_state.proofs.Resting.{rest_before_0}
 use Rattle.exec_state.proofs.registry.Registry.take_step.Goals as goal
 
@@ -45,7 +45,7 @@ returns-then-may_change-clause-resources g c =
     let was = c.index_mut-resource.result.now in
     let found : lookup (bytes_eq id) es ≡ Some was = sym c.in-Some.ensures.value ∙ c.index_mut-resource.ensures.value in
     rw (← c.self.view_is) (ap seen_all (set_value-found id es c.in-Some.index c.take_step.new.self c.in-Some.ensures.index)
-    ∙ find_all_due-set_value seen id (stepped c.args.at c.args.step) es was c.take_step.new.self c.get_index_of.ensures.unique found
+    ∙ map_entries-set_value seen id (stepped c.args.at c.args.step) es was c.take_step.new.self c.get_index_of.ensures.unique found
     c.take_step.ensures.state)
 
 pub returns-then-may_change-clause-monitors : goal.returns-then-may_change-clause-monitors
@@ -58,7 +58,7 @@ returns-then-may_change-clause-monitors g c =
     let running : option_and_then (λ r. r.history.running) (lookup (bytes_eq id) (seen_all es)) ≡ was.ops.running
     = ap (option_and_then (λ r. r.history.running)) there in
     rw (← c.self.view_is) (ap monitors_all (set_value-found id es c.in-Some.index c.take_step.new.self c.in-Some.ensures.index)
-    ∙ find_all_due-set_value monitors_of id
+    ∙ map_entries-set_value monitors_of id
     (monitors_stepped c.args.at (option_and_then (λ r. r.history.running) (lookup (bytes_eq id) (seen_all es))) c.args.step) es
     was c.take_step.new.self c.get_index_of.ensures.unique found
     (c.take_step.ensures.monitors ∙ ap (λ o. monitors_stepped c.args.at o c.args.step was.monitors) (sym running)))
@@ -70,7 +70,7 @@ returns-else-may_change-clause-resources g c =
     let was = c.index_mut-resource.result.now in
     let found : lookup (bytes_eq id) es ≡ Some was = sym c.in-Some.ensures.value ∙ c.index_mut-resource.ensures.value in
     rw (← c.self.view_is) (ap seen_all (set_value-found id es c.in-Some.index c.take_step.new.self c.in-Some.ensures.index)
-    ∙ find_all_due-set_value seen id (stepped c.args.at c.args.step) es was c.take_step.new.self c.get_index_of.ensures.unique found
+    ∙ map_entries-set_value seen id (stepped c.args.at c.args.step) es was c.take_step.new.self c.get_index_of.ensures.unique found
     c.take_step.ensures.state)
 
 pub returns-else-may_change-clause-monitors : goal.returns-else-may_change-clause-monitors
@@ -83,7 +83,7 @@ returns-else-may_change-clause-monitors g c =
     let running : option_and_then (λ r. r.history.running) (lookup (bytes_eq id) (seen_all es)) ≡ was.ops.running
     = ap (option_and_then (λ r. r.history.running)) there in
     rw (← c.self.view_is) (ap monitors_all (set_value-found id es c.in-Some.index c.take_step.new.self c.in-Some.ensures.index)
-    ∙ find_all_due-set_value monitors_of id
+    ∙ map_entries-set_value monitors_of id
     (monitors_stepped c.args.at (option_and_then (λ r. r.history.running) (lookup (bytes_eq id) (seen_all es))) c.args.step) es
     was c.take_step.new.self c.get_index_of.ensures.unique found
     (c.take_step.ensures.monitors ∙ ap (λ o. monitors_stepped c.args.at o c.args.step was.monitors) (sym running)))
@@ -109,5 +109,5 @@ invariant_of-self-else-may_change g c =
       c.self.invariant.0,
       rest_before_0 _ _,
       c.self.invariant.2
-          ∙ sym (ap dues_by_id (find_all_due-same_at monitors_of es c.in-Some.index was is c.index_mut-resource.ensures.value same)),
+          ∙ sym (ap dues_by_id (map_entries-same_at monitors_of es c.in-Some.index was is c.index_mut-resource.ensures.value same)),
     )

@@ -4,6 +4,6 @@ use Rattle.exec_state.proofs.Resting.{rests_all}
 use Rattle.exec_state.proofs.state.State.rests.Goals as goal
 
 pub returns : goal.returns
-returns g c = λ lemma_known.
+returns g c = λ known.
     let s : Store = store_of g.A.Grows.refuses c.self.inside.next_call c.self.inside.next_run c.self.inside.clock c.self.inside.registry in
-    rw (← c.self.view_is) (rests_all s c.args.now c.self.invariant (c.rests.ensures lemma_known))
+    rw (← c.self.view_is) (rests_all s c.args.now c.self.invariant (c.rests.ensures known))

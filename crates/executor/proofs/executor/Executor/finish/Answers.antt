@@ -5,8 +5,8 @@ use Rattle.child_model.specs.Children.{Admits}
 use Rattle.exec_ledger.specs.Lemmas.{while_open}
 use Rattle.exec_ledger.specs.BatchStarts.{batch_start_of}
 use Rattle.exec_turn.specs.Turn.{IsFinish}
-use Rattle.exec_turn.specs.Turns.{reports_of}
-use Rattle.executor.specs.Reports.{reported_of}
+use Rattle.exec_turn.specs.Turns.{turn_notices}
+use Rattle.executor.specs.Reports.{remembered_report}
 use Rattle.executor.specs.ExecutorView.{ExecutorView, executor_view}
 use Rattle.executor.specs.TurnCalls.{FinishesTurn, FinishesWhile}
 use Rattle.executor.proofs.executor.Executor.finish.Goals as goal
@@ -26,8 +26,8 @@ invariant_of-self g c is_open =
 pub returns : goal.returns
 returns g c =
     let e = c.self.inside in
-    let x = executor_view e.ledger (g.C.Children.view e.children) e.site (reports_of e.batches) (reported_of e.opening_report) in
-    let y = executor_view c.finish_turn-end.new.ledger (g.C.Children.view c.finish_turn-end.new.children) e.site (reports_of c.finish_turn-end.new.batches) (reported_of e.opening_report) in
+    let x = executor_view e.ledger (g.C.Children.view e.children) e.site (turn_notices e.buffers) (remembered_report e.opening_report) in
+    let y = executor_view c.finish_turn-end.new.ledger (g.C.Children.view c.finish_turn-end.new.children) e.site (turn_notices c.finish_turn-end.new.buffers) (remembered_report e.opening_report) in
     let was : x.is_open ≡ true = sym c.is_open.ensures.value ∙ c.if-not-is_open.false in
     let turn = c.finish_turn-end.ensures in
     let takes : FinishesTurn g.D.Disk.view c.args.now x y c.finish_turn-end.result = record {
@@ -40,7 +40,7 @@ returns g c =
           let same = turn.unchanged is in
           let none = (subst (λ (end : TurnEnd). IsFinish end (batch_start_of e.ledger (moment e.ledger.state c.args.now)) turn.finishes.effects y.reported) is
           turn.finishes.does).1 in
-          λ i. executor_view (same.0 i) (g.C.Children.view (same.1 i)) e.site (none i) (reported_of e.opening_report);
+          λ i. executor_view (same.0 i) (g.C.Children.view (same.1 i)) e.site (none i) (remembered_report e.opening_report);
       closes = turn.closes;
     } in
     record {

@@ -1,5 +1,5 @@
 use Rattle.std.proofs.Common.{◌<◌, [], rules}
-use Rattle.disk_model.specs.View.{LAST}
+use Rattle.disk_model.specs.Disk.{LAST}
 use Rattle.file_disk.specs.FileDisk.{view_of}
 use Rattle.file_disk.specs.RecordLemmas.{called_refused, unwritten_refused, unwritten_failed, unwritten_measured}
 use Rattle.file_disk.proofs.disk.FileDiskDisk.len.Goals as goal

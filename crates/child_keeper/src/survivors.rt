@@ -1,4 +1,4 @@
-//! Killed agents that have not ended yet.
+//! Agents that outlived their SIGKILL.
 ghost use Rattle.std.specs.Prelude.{◌≡◌, ◌<◌, ◌≤◌, ◌++◌, [], ◌∷◌, IfOk, IsTrue, List, OnErr};
 ghost use Rattle.std.specs.VecDeque.{deque_capacity, deque_items, deque_len};
 ghost use Rattle.child_model.specs.Children.{live_limit};
@@ -12,27 +12,27 @@ use std::alloc::{AllocError, Allocator};
 use std::collections::VecDeque;
 use std::process::OpenProcess;
 
-/// Killed agents that were not reaped yet, oldest first. One that has ended stays a zombie until `reap` reaps it.
+/// Agents that had not ended a tenth of a second after SIGKILL, oldest first. One that has ended since stays here until `reap`.
 #[derive(Drop)]
-pub struct Zombies<P: OpenProcess + Drop, A: Allocator> {
+pub struct Survivors<P: OpenProcess + Drop, A: Allocator> {
     pub agents: VecDeque<Agent<P>, A>,
     pub ghost room: { live_limit ≤ deque_capacity agents },
     pub ghost few: { deque_len agents ≤ live_limit },
 }
 
-impl<P: OpenProcess + Drop, A: Grows> Zombies<P, A> {
+impl<P: OpenProcess + Drop, A: Grows> Survivors<P, A> {
     /// An empty list with the capacity for as many as may live. It fails only where memory is refused.
-    pub fn new(alloc: A) -> Result<Zombies<P, A>, AllocError>
+    pub fn new(alloc: A) -> Result<Survivors<P, A>, AllocError>
         ensures none { IfOk result (λ d. deque_items d.agents ≡ []) }
         ensures memory { OnErr result (IsTrue A.refuses) }
     {
-        // TRUSTED: a deque grows its own memory.
+        // TRUSTED: a deque allocates by itself, and fails only where that is refused.
         let agents = A::library_growth(VecDeque::with_capacity(alloc, LIVE_LIMIT))?;
-        Ok(Zombies { agents })
+        Ok(Survivors { agents })
     }
 }
 
-impl<P: OpenProcess + Drop, A: Allocator> Zombies<P, A> {
+impl<P: OpenProcess + Drop, A: Allocator> Survivors<P, A> {
     /// Reaps and removes each agent that has ended. It never waits.
     pub fn reap(&mut self)
         ensures fewer { deque_len self.new.agents ≤ deque_len self.old.agents }
@@ -45,7 +45,7 @@ impl<P: OpenProcess + Drop, A: Allocator> Zombies<P, A> {
         self.agents.iter().any(|agent| agent.id == *id)
     }
 
-    // Makes capacity for one more if there is none: it removes the agents that have ended, or else the oldest one.
+    // Makes capacity for one more if there is none: reaps the agents that have ended, or else forgets the oldest one unreaped.
     fn make_room(&mut self)
         ensures room { deque_len self.new.agents < LIVE_LIMIT }
     {

@@ -1,7 +1,7 @@
 use Rattle.std.proofs.Common.{sym, ◌∙◌}
 use Rattle.child_model.specs.declared.answer.Poll.TheVariants as poll
 use Rattle.exec_turn.proofs.Polling.{polled_late}
-use Rattle.exec_turn.proofs.polls.ask.Goals as goal
+use Rattle.exec_turn.proofs.polls.poll_one.Goals as goal
 
 pub returns-else-not-is_late : goal.returns-else-not-is_late
 returns-else-not-is_late g c =
