@@ -6,6 +6,6 @@ use Rattle.child_keeper.specs.Agents.{runs_of}
 use Rattle.child_model.specs.Children.{ChildrenView}
 use Rattle.child_keeper.specs.declared.processes.Processes.{Processes}
 
--- the view of these processes; they insist on no site
+-- the view of these processes; they name no site, so agents may be at any
 abbrev pub processes_of : {R A P I O E : Type 0} {i : WriteOf I} {o : ReadOf O} {e : ReadOf E} → Processes R A P I O E i o e → ChildrenView
 processes_of p = record { book = p.book.entries.items; log = p.book.log.items; room = p.book.room; last_run = p.last_run; live = runs_of p.live.agents.items; site = None }

@@ -6,7 +6,7 @@ use std::alloc::{AllocError, Allocator};
 use std::process::OpenProcess;
 use std::{io, slice};
 
-/// A search for agents that are to be ended, and for their background jobs in the session of this process.
+/// A search for agents that are to be ended, and for their background jobs in the executor's session of setsid(2).
 #[derive(Drop)]
 pub struct AgentsSought<'a, R, P: OpenProcess + Drop, A: Allocator> {
     rt: &'a R,

@@ -31,10 +31,10 @@ use std::{mem, process};
 /// writes where the log says. It has no descriptor but 0, 1 and 2, blocks no signal, is ended by SIGPIPE, and has the umask of
 /// this process. OCF Resource Agent API 1.1, actions.
 ///
-/// `kill` only gives an agent up; `end_killed` ends all given up, each with its descendants and its background jobs in this
-/// session. All get SIGSTOP before SIGKILL, so that none spawns others unseen. It waits for their end a tenth of a second
-/// at most, and names each process that lives on by its number and its command on standard error. While such an agent lives on,
-/// the next actions of its resource except a stop are refused as [`StartFault::Other`].
+/// `kill` only gives an agent up; `end_killed` ends all given up, each with its descendants and its background jobs in the
+/// executor's session of setsid(2). All get SIGSTOP before SIGKILL, so that none spawns others unseen. It waits for their end a
+/// tenth of a second at most, and names each process that lives on by its number and its command on standard error. While such
+/// an agent lives on, the next actions of its resource except a stop are refused as [`StartFault::Other`].
 ///
 /// A spawn takes memory from the allocator; so does the search of `end_killed`, which without it kills the agents and what it
 /// found before. A spawn is refused as [`StartFault::Other`] if memory or descriptors have run out, or for any cause but a
@@ -150,7 +150,7 @@ fn log_end<R: Clock + Eprint, P: OpenProcess + Drop>(
     log.end(rt, &agent.id, ended);
 }
 
-// Writes to the log that all these agents are given up, because the session ends.
+// Writes to the log that all these agents are given up, because the executor ends.
 fn log_killed<R: Clock + Eprint, P: OpenProcess + Drop>(rt: &R, log: &Log, agents: &[Agent<P>]) {
     for agent in agents {
         log_end(rt, log, agent, LoggedEnd::Killed);

@@ -15,8 +15,9 @@ use Rattle.child_model.specs.declared.answer.Poll.TheVariants as poll
 abbrev pub live_limit : ℕ
 live_limit = resources_limit
 
--- the book of answers and how many more entries fit, the log of all answers, which exists only in contracts, the greatest run for
--- which a start was called (0 if none was), the live runs in the order of their starts, and the site that agents must be at, if any
+-- the children as the executor sees them: the book of answers and how many more entries fit, the log of all answers, which exists
+-- only in contracts, the greatest run for which a start was called (0 if none was), the live runs in the order of their starts,
+-- and the only site at which they start agents, if they name one
 pub record ChildrenView : Type 0 where
   pub book : List Entry
   pub log : List Entry
@@ -25,10 +26,10 @@ pub record ChildrenView : Type 0 where
   pub live : List ℕ
   pub site : Option SiteView
 
--- agents may be started at a site: at any, or only at the one that they must be at
+-- these children start agents at this site: at any, if they name none, or at the one that they name
 abbrev pub Admits : Option SiteView → SiteView → Type 0
 Admits None site = ⊤
-Admits (Some insisted) site = site ≡ insisted
+Admits (Some named) site = site ≡ named
 
 -- the live runs except this one
 abbrev pub without_run : ℕ → List ℕ → List ℕ

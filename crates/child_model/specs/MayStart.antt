@@ -13,10 +13,10 @@ use Rattle.ocf_env.specs.declared.launches.LaunchOf.{LaunchOf}
 use Rattle.child_model.specs.Children.{Admits}
 
 -- in this state an action runs, under the launch's call and run, in the resource of its id; the launch calls the agent that is
--- registered there for that action, with the registered parameters, at the site that agents must be at, if any
-pub record IsLaunch (insisted : Option SiteView) (s : State) (launch : LaunchOf Call) : Type 0 where
+-- registered there for that action, with the registered parameters, at a site at which the children start agents
+pub record IsLaunch (named : Option SiteView) (s : State) (launch : LaunchOf Call) : Type 0 where
   pub site : SiteView
-  pub admitted : Admits insisted site
+  pub admitted : Admits named site
   pub resource : Resource
   pub running : Running
   pub is : resource_at s launch.id ≡ Some resource
@@ -26,6 +26,6 @@ pub record IsLaunch (insisted : Option SiteView) (s : State) (launch : LaunchOf 
   pub invocation : IsInvocation site (registration_of launch.id resource) running launch.invocation
 
 -- the journal, over a disk in this view, is settled at a state in which the launched action runs: its begin is found after every
--- crash. The launch is at the site that agents must be at, if any
+-- crash. The launch is at a site at which the children start agents
 abbrev pub MayStart : {D M : Type 0} → Option SiteView → Journal D M → DiskView → LaunchOf Call → Type 0
-MayStart insisted j v launch = (s : State) × InSync j v s × IsLaunch insisted s launch
+MayStart named j v launch = (s : State) × InSync j v s × IsLaunch named s launch

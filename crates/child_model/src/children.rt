@@ -11,7 +11,8 @@ use ocf_env::Launch;
 use ocf_types::{RunId, StartFault};
 use std::alloc::Allocator;
 
-/// Agent processes, each under its run number, and the book of their answers.
+/// The children: agent processes, each under its run number, and the book of their answers. They may name the only site at which
+/// they start agents; those of `child_keeper` name none.
 ///
 /// `start`, `poll` and `kill` add one entry each, with the answer that they return. Memory is allocated only to spawn an
 /// agent, and in `end_killed`, which may search for what agents started.

@@ -28,6 +28,6 @@ pub record IsStart (site : SiteView) (s : State) (x : StartOf Call) : Type 0 whe
   pub of_one : HasOwnLaunch x
   pub invocation : IsInvocation site (registration_of x.launch.id resource) x.running x.launch.invocation
 
--- each of these launches an action that runs in this state, at the site on which the children insist, if any
+-- each of these launches an action that runs in this state, at a site at which the children start agents
 abbrev pub AllLaunch : Option SiteView → State → List (StartOf Call) → Type 0
-AllLaunch insisted s starts = AllByRecursion (λ x. IsLaunch insisted s x.launch) starts
+AllLaunch named s starts = AllByRecursion (λ x. IsLaunch named s x.launch) starts

@@ -26,7 +26,7 @@ pub record Polled : Type 0 where
 abbrev pub is_late : ℕ → Running → Bool
 is_late at x = nat_le (x.since + x.timeout) at
 
--- an answer about a run, as an entry of the book
+-- an answer to a poll or a kill of a run, as an entry of the book; only the entry of a start has a count of device calls, in `at`
 abbrev pub book_entry : ℕ → Answer → Entry
 book_entry run answer = record { run = run; at = 0; answer = answer }
 

@@ -11,7 +11,7 @@ use Rattle.exec_turn.specs.Picks.{Picked, begins}
 use Rattle.exec_turn.specs.Polls.{IsPoll, Polled, polls, result_notices, results}
 use Rattle.exec_turn.specs.Starts.{Started, refusal_notices, refusals, starts}
 
--- a kind of turn: a relation of its end, the view before it, its effects and its notices
+-- a kind of turn: a relation of its end, the view before its first batch (`BatchStart`), its effects and its notices
 abbrev pub TurnKind : Type 1
 TurnKind = TurnEnd → BatchStart → Effects → List Notice → Type 0
 
@@ -20,7 +20,8 @@ pub record EachPolled (x : BatchStart) (ps : List Polled) : Type 0 where
   pub each : map (λ p. p.who) ps ≡ active x.state
   pub bytes : AllByRecursion (λ p. IsPoll p.poll) ps
 
--- the actions begun from this view, by what ended the picks; lack of memory ends them only where the allocator refuses growths
+-- the actions begun, from the view before their batch, by what ended the picks; lack of memory ends them only where the allocator
+-- refuses growths
 abbrev pub PickedAt : TurnEnd → BatchStart → List Active → Type 0
 PickedAt end x bs = Picked end x.state x.due x.position.tail x.at bs × (end ≡ turn_end.Memory → IsTrue x.refuses)
 

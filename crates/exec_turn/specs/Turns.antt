@@ -27,6 +27,9 @@ pub record ChildrenMatch (s : State) (v : ChildrenView) : Type 0 where
   pub agents_live : AgentsLive s v.live
   pub rising : v.last_run < s.next_run
 
+-- In the three batches `k` and `l` are the disk before and after, `x` and `y` the views (`BatchStart`) before and after, and
+-- `from` and `to` the children before and after.
+
 -- The first batch: polls, and their results.
 pub record PollsBatch {D : Type 0} (view : D → DiskView) (k l : D) (x y : BatchStart) (from to : ChildrenView) (reported : List Notice)
     (result : Result Unit DiskFault) : Type 0 where
@@ -74,14 +77,15 @@ abbrev pub end_of : Result TurnEnd DiskFault → TurnEnd
 end_of (Ok end) = end
 end_of (Err fault) = turn_end.Disk
 
--- A turn of a kind, of an open executor: from the view before it to a state, due moments and children, with its notices.
+-- A turn of a kind, of an open executor: from the view before its first batch to a state, due moments and children, with its
+-- notices.
 pub record TurnsAs {D : Type 0} (kind : TurnKind) (view : D → DiskView) (old new : D) (x : BatchStart) (t : State) (due : Due) (from to : ChildrenView)
     (reported : List Notice) (end : TurnEnd) : Type 0 where
   pub effects : Effects
   pub book : to.book ≡ from.book ++ effects.entries
   -- the log of all answers ever got the same entries, whether or not the book was emptied in between
   pub log : to.log ≡ from.log ++ effects.entries
-  -- the site that its children insist on stays
+  -- the site that the children name, if any, stays
   pub site : to.site ≡ from.site
   pub does : kind end x effects reported
   -- the events that it recorded, what a crash at any moment of it leaves, and that no agent was spawned without its synced begin
