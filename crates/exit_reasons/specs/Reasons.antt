@@ -1,6 +1,6 @@
 -- The last reason for a failure in the tail of an agent's log. The agent wrote it as a line of its standard error: ocf-shellfuncs of
 -- resource-agents, ocf_exit_reason.
-use Rattle.std.specs.Prelude.{ℕ, ◌+◌, ◌-◌, ◌/◌, ◌%◌, ◌==◌, Bool, ◌&&◌, not, if◌then◌else◌, nat_eq, nat_lt, List, [], ◌∷◌, ◌++◌}
+use Rattle.std.specs.Prelude.{ℕ, ◌+◌, ◌-◌, ◌/◌, ◌%◌, ◌==◌, Bool, ◌&&◌, not, if◌then◌else◌, nat_eq, nat_lt, List, [], ◌∷◌}
 use Rattle.std.specs.Prelude.{length, filter, take, drop, get_or, Option, None, option_map, codes}
 use Rattle.std.specs.List.{before_first, flat_map, last_or, range_with_len, starts_with}
 use Rattle.exit_reasons.specs.declared.tail.Tail.{Tail}

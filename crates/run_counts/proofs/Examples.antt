@@ -1,5 +1,5 @@
 -- The runs of a list of events, computed on examples.
-use Rattle.std.proofs.Common.{◌≡◌, ℕ, List, [], ◌∷◌, ◌++◌, true, false, Some, None, refl}
+use Rattle.std.proofs.Common.{◌≡◌, ℕ, List, [], ◌∷◌, true, false, Some, refl}
 use Rattle.std.specs.Prelude.{codes}
 use Rattle.ocf_types.specs.Kinds.{Change, Event, Step}
 use Rattle.ocf_types.specs.Resource.{Resource, no_history}

@@ -1,4 +1,4 @@
-use Rattle.std.proofs.Common.{◌≡◌, inl, inr, ℕ, zero, suc, [], ◌∷◌, Ok, Err, Result, ap, arith, sym}
+use Rattle.std.proofs.Common.{◌≡◌, inl, inr, ℕ, zero, suc, [], ◌∷◌, Result, ap, arith, sym}
 use Rattle.ocf_types.specs.declared.outcome.StartFault.{StartFault}
 use Rattle.child_model.specs.Children.{Asked, IsOfStart, start_answer}
 use Rattle.child_model.specs.Lemmas.{asked_append}

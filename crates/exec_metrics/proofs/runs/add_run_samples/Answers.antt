@@ -1,5 +1,5 @@
 use Rattle.std.proofs.Common.{rules, ◌≡◌, ◌<◌, ◌++◌, length, ap, ap₂, ◌∙◌}
-use Rattle.ocf_types.specs.Indexes.{entry_at, id_at}
+use Rattle.ocf_types.specs.Indexes.{entry_at}
 use Rattle.run_counts.specs.Counts.{count_at}
 use Rattle.run_counts.specs.declared.count.RunCount.{RunCount}
 use Rattle.exec_metrics.specs.Runs.{run_sample, run_samples}

@@ -1,4 +1,4 @@
-use Rattle.std.proofs.Common.{sym, subst, arith}
+use Rattle.std.proofs.Common.{sym, subst}
 use Rattle.disk_model.specs.Image.{Image}
 use Rattle.exec_journal.proofs.Openings.{opens_on, unwritten_opens}
 use Rattle.exec_journal.specs.Found.{FoundAs}

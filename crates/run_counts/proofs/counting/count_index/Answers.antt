@@ -1,4 +1,4 @@
-use Rattle.std.proofs.Common.{[], ◌∷◌, ◌++◌, List, OnOk, sym, ap, subst, ◌∙◌}
+use Rattle.std.proofs.Common.{◌++◌, List, OnOk, sym, subst, ◌∙◌}
 use Rattle.ocf_types.specs.Expected.{has_failed}
 use Rattle.ocf_types.specs.Indexes.{entry_at}
 use Rattle.run_counts.specs.Counts.{Tallies}
