@@ -130,7 +130,7 @@ class Life:
 
     # an incarnation
 
-    def sit(self, stop, serves, lines):
+    def incarnation(self, stop, serves, lines):
         """Plays an incarnation of an hour; returns its output, by lines, and the numbers that it left."""
         self.wall += HOUR + self.dice.choice([0, 0, 5, HOUR, -HOUR, -30 * HOUR])
         head = [self.wall, HOUR, stop, self.dice.randrange(4), self.dice.getrandbits(63), serves, TIDY_AT, len(lines)]
@@ -295,10 +295,10 @@ class Life:
         """An opening without a crash and without turns, with all questions. It reports everything that an opening ended, or nothing if
         an earlier opening that crashed may have ended it."""
         epochs = self.counts["epochs"]
-        out, self.opening = self.sit(0, 0, [(0, line) for line in QUESTIONS])
+        out, self.opening = self.incarnation(0, 0, [(0, line) for line in QUESTIONS])
         if self.counts["epochs"] > epochs:
             # it tidied after its opening: the next opening is of the other part
-            rest, self.opening = self.sit(0, 0, [])
+            rest, self.opening = self.incarnation(0, 0, [])
             assert rest == [], rest
         report, ended = [], []
         while "outcome" in out[0]:
@@ -318,7 +318,7 @@ class Life:
 
     def stopped_opening(self, calls):
         """An opening that crashes near its end, before the report or after it."""
-        out, _ = self.sit(max(1, calls + self.dice.randrange(-12, 8)), 0, [])
+        out, _ = self.incarnation(max(1, calls + self.dice.randrange(-12, 8)), 0, [])
         assert all(map(is_booted, out)), out
         self.counts["openings that reported and were stopped"] += bool(out)
 
@@ -328,7 +328,7 @@ class Life:
         # (how a tidy ended is no reply)
         tidies = [(self.dice.randrange(2, HOUR), {"op": "tidy"})] if self.tidies else []
         stop = self.opening + self.dice.randrange(1, self.hourly) if stops else 0
-        out, calls = self.sit(stop, 1, sorted([*lines, *tidies], key=lambda line: line[0]))
+        out, calls = self.incarnation(stop, 1, sorted([*lines, *tidies], key=lambda line: line[0]))
         self.hear([line for _, line in lines], out)
         # an hour that crashed does not show how many calls it would have made: perhaps more than expected
         self.hourly = self.hourly * 101 // 100 if 0 < stop <= calls else max(500, calls - self.opening)

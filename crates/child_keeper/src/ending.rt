@@ -74,7 +74,8 @@ pub fn end_agents<
     let sent = send_signal(rt, alloc, Signal::Kill, found.as_slice());
     agents.kill();
     if sent.is_err() {
-        // signals are sent by /bin/sh, for which memory or process numbers may be free now that the agents have ended
+        // signals are sent by /bin/sh, for which memory may be free now that the agents were killed; their process numbers are
+        // not free before they are reaped
         let _ = send_signal(rt, alloc, Signal::Kill, found.as_slice());
     }
     await_ends(rt, agents, &mut found);

@@ -12,7 +12,7 @@ pub fn lemma_just_its_variables()
 {}
 
 /// Metadata that are whole as seen from a poll are whole as seen from each earlier poll: what was kept then, followed by all that
-/// the agent had still to write.
+/// the agent's output had still to deliver.
 pub fn lemma_metadata_are_whole()
     ensures { (old now : AskedView) (metadata : List ℕ) → GoesOn old now
         → IsWholeAnswer now metadata → IsWholeAnswer old metadata }

@@ -17,9 +17,9 @@ use std::rt::Clock;
 
 /// The metadata of an agent as it writes them, at most [`METADATA_LIMIT`] bytes. OCF Resource Agent API 1.1, meta-data.
 ///
-/// The agent runs as for any other action, except that its output is read. The call returns when the agent has ended and no other
-/// process holds its output, or after `limit` milliseconds where there is a limit. Errors come in this order: those of
-/// [`MetaChild::start`]; those of [`MetaChild::poll`].
+/// The agent gets no variable of a resource; its standard output is read, and its standard error is discarded. The call returns
+/// when the agent has ended and no other process holds its output, or after `limit` milliseconds where there is a limit. Errors
+/// come in this order: those of [`MetaChild::start`]; those of [`MetaChild::poll`].
 pub fn run_meta<
     P: OpenProcess + Drop,
     R: Processes<Started = P> + Clock + Eprint + ProcFiles,

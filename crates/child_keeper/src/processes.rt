@@ -87,7 +87,8 @@ impl<R: process::Processes + Clock + Eprint + ProcFiles + Drop, A: Grows> Proces
         );
     }
 
-    // Spawns an agent, unless one of its resource outlived its SIGKILL. A refusal by the system is written to the log.
+    // Spawns an agent; while an agent of its resource outlives its SIGKILL, only that of a stop. A refusal by the system is
+    // written to the log.
     fn spawned<L: Allocator>(&mut self, launch: &Launch<L>) -> Result<Child<R::Started>, StartFault>
         ensures same { processes_of self.new ≡ processes_of self.old }
         ensures live { self.new.live ≡ self.old.live }
@@ -150,7 +151,7 @@ fn log_end<R: Clock + Eprint, P: OpenProcess + Drop>(
     log.end(rt, &agent.id, ended);
 }
 
-// Writes to the log that all these agents are given up, because the executor ends.
+// Writes to the log that all these agents are given up: the executor ends, or another one is opened with these children.
 fn log_killed<R: Clock + Eprint, P: OpenProcess + Drop>(rt: &R, log: &Log, agents: &[Agent<P>]) {
     for agent in agents {
         log_end(rt, log, agent, LoggedEnd::Killed);

@@ -92,7 +92,7 @@ abbrev pub IsOfStart : Answer → Type 0
 IsOfStart (asked.Start answer) = ⊤
 IsOfStart _ = ⊥
 
--- the book asked for a start of this run when the journal's disk had had this many device calls
+-- the book has the entry of a start of this run, requested when the journal's disk had had this many device calls
 abbrev pub Asked : List Entry → ℕ → ℕ → Type 0
 Asked book run at = (answer : Answer) × IsOfStart answer × Contains book (record { run = run; at = at; answer = answer })
 

@@ -15,11 +15,13 @@ use std::alloc::Allocator;
 /// they start agents; those of `child_keeper` name none.
 ///
 /// `start`, `poll` and `kill` add one entry each, with the answer that they return. Memory is allocated only to spawn an
-/// agent, and in `end_killed`, which may search for what agents started.
+/// agent and to end agents, which may search for what they started. Only `end_killed` and `give_up_all` end agents, and a poll or
+/// a kill where as many agents as may live were given up since the last `end_killed`.
 pub trait Children {
     ghost view: { Self → ChildrenView };
 
-    /// Spawns an agent. Its begin must be durable in the journal. Its run then lives, unless the system refuses the spawn.
+    /// Spawns an agent. Its begin must be durable in the journal. Its run then lives, unless the start is refused, by the system
+    /// or by these children.
     fn start<D: Disk + Drop, A: Allocator + Copy, L: Allocator>(
         &mut self,
         journal: &Journal<D, A>,

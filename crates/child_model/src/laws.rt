@@ -31,8 +31,9 @@ pub fn answers_are_reported()
     ensures kill { (a b : Result Unit KillFault) → kill_answer a ≡ kill_answer b → a ≡ b }
 {}
 
-/// A book asked for the starts of both its halves, and one without entries of starts for none. The entry of a start asks for its
-/// run at its count of device calls and for nothing else; the entries of polls and kills ask for nothing.
+/// `Asked`: a book has the entry of a start of this run at this count of device calls. A book has the starts of both its halves,
+/// and one without entries of starts has none. A start adds its own run at its own count and nothing else; polls and kills add
+/// none.
 pub fn lemma_starts_asked()
     ensures joined { (b c : List Entry) (run at : ℕ) → Asked (b ++ c) run at
         ↔ (Asked b run at ⊎ Asked c run at) }

@@ -14,7 +14,7 @@ use exec_lines::Input;
 use std::rt::Clock;
 
 // The longest wait while nothing is queued or running, in milliseconds.
-const LONGEST_IDLE: u32 = 1_000;
+const LONGEST_WAIT: u32 = 1_000;
 
 // How long to wait for input after a turn, in microseconds: 0 if an action ended or began in it; while nothing is queued or
 // running, until the next monitor is due, and a second at most; else, and if a monitor is due already, a short pause.
@@ -37,8 +37,8 @@ fn wait_micros<R: Input, D: Disk + Drop, C: Children + Drop, T: Client<D, C>, K:
     let now = worker.now();
     match worker.first_due() {
         Some(due) if due <= now => micros,
-        Some(due) => 1_000 * (due - now).min(u64::from(LONGEST_IDLE)),
-        None => 1_000 * u64::from(LONGEST_IDLE),
+        Some(due) => 1_000 * (due - now).min(u64::from(LONGEST_WAIT)),
+        None => 1_000 * u64::from(LONGEST_WAIT),
     }
 }
 
@@ -46,7 +46,7 @@ fn wait_micros<R: Input, D: Disk + Drop, C: Children + Drop, T: Client<D, C>, K:
 fn look_millis(micros: u64) -> u32
     ensures part { result * 1000 ≤ micros }
 {
-    (micros / 1_000).min(u64::from(LONGEST_IDLE)) as u32
+    (micros / 1_000).min(u64::from(LONGEST_WAIT)) as u32
 }
 
 // Waits until a line is there, an action may have ended, or a monitor is due.

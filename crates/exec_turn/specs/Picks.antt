@@ -32,8 +32,8 @@ begin_of at a = record { at = at; change = change.Step a.id (step.Begin a.runnin
 abbrev pub begins : ℕ → List Active → List Event
 begins at begun = map (begin_of at) begun
 
--- In this state there is a run number for each of these actions; and their begins, appended at the gate at offset `tail`, leave
--- the reserve free, as an empty batch always does.
+-- In this state there is a run number for each of these actions; and their begins, if there are any, leave the reserve free when
+-- they are appended at the gate at offset `tail`.
 pub record MayBegin (s : State) (tail at : ℕ) (begun : List Active) : Type 0 where
   pub runs : s.next_run + length begun ≤ num_max
   pub reserve : 0 < length begun → IsTooLong tail (begins at begun) → ⊥

@@ -46,7 +46,7 @@ polled_on at x (poll.Exited code) kill v = after_poll v x.run (poll.Exited code)
 polled_on at x (poll.Signaled signal) kill v = after_poll v x.run (poll.Signaled signal)
 polled_on at x poll.Fault kill v = after_poll v x.run poll.Fault
 
--- how the run ended, if it did: an action past its timeout has timed out, whatever the kill answered
+-- how the run ended, if it did: an action that still runs past its timeout has timed out, whatever the kill answered
 abbrev pub ending : ℕ → Running → Poll → Option RunEnd
 ending at x poll.Running = if is_late at x then Some run_end.TimedOut else None
 ending at x (poll.Exited code) = Some (run_end.Done code)

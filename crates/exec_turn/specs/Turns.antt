@@ -83,7 +83,7 @@ pub record TurnsAs {D : Type 0} (kind : TurnKind) (view : D → DiskView) (old n
     (reported : List Notice) (end : TurnEnd) : Type 0 where
   pub effects : Effects
   pub book : to.book ≡ from.book ++ effects.entries
-  -- the log of all answers ever got the same entries, whether or not the book was emptied in between
+  -- the log of all answers ever got the same entries; it keeps them when the book is emptied, which is never done in a turn
   pub log : to.log ≡ from.log ++ effects.entries
   -- the site that the children name, if any, stays
   pub site : to.site ≡ from.site

@@ -64,11 +64,11 @@ pub record Remains (x : SeenUptime) (s : State) (p : List Event) : Type 0 where
   pub begins : HasBegins x p
 
 -- the events that remain of an incarnation
-abbrev pub Sits : Seen → State → List Event → Type 0
-Sits (Opening now end) s zs = (zs ≡ []) ⊎ (MayBoot end × (zs ≡ boots s now))
-Sits (Serving x) s zs = (p : List Event) × Remains x s p × (zs ≡ boots s x.now ++ p)
+abbrev pub RemainOf : Seen → State → List Event → Type 0
+RemainOf (Opening now end) s zs = (zs ≡ []) ⊎ (MayBoot end × (zs ≡ boots s now))
+RemainOf (Serving x) s zs = (p : List Event) × Remains x s p × (zs ≡ boots s x.now ++ p)
 
 -- a behaviour of the machine from a state on, the last incarnation first, and the events that remain of it
 abbrev pub Behaves : State → List Seen → List Event → Type 0
 Behaves start [] zs = zs ≡ []
-Behaves start (x ∷ older) zs = (ys : List Event) × (more : List Event) × Behaves start older ys × Sits x (after_all start ys) more × (zs ≡ ys ++ more)
+Behaves start (x ∷ older) zs = (ys : List Event) × (more : List Event) × Behaves start older ys × RemainOf x (after_all start ys) more × (zs ≡ ys ++ more)

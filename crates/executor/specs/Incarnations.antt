@@ -68,7 +68,7 @@ pub record Uptime (D : Type 0) : Type 0 where
   pub stop : ℕ
 
 -- It was opened, calls returned, others were begun, and it crashed at some moment after the last return.
-pub record Serves {D : Type 0} (view : D → DiskView) (x : Uptime D) : Type 0 where
+pub record IsUptime {D : Type 0} (view : D → DiskView) (x : Uptime D) : Type 0 where
   pub children : ChildrenView
   pub was_running : List Notice
   pub was_queued : List Notice
@@ -108,14 +108,14 @@ last_disk (Up x) = x.last.disk
 -- what is so of every incarnation: its opening ended so, or it was opened, was called, and crashed
 abbrev pub Lasted : {D : Type 0} → (D → DiskView) → Incarnation D → Type 0
 Lasted view (InOpening old new now end) = EndsOpening (view old) (view new) now end
-Lasted view (Up x) = Serves view x
+Lasted view (Up x) = IsUptime view x
 
 -- the images that its crash may have left
 abbrev pub CrashLeaves : {D : Type 0} → (D → DiskView) → Incarnation D → Image → Type 0
 CrashLeaves view (InOpening old new now end) c = (view new).since (view old).clock c
 CrashLeaves view (Up x) c = (view x.last.disk).since x.stop c
 
--- a history may begin on this pair: it is found as this state, and has capacity for its boot
+-- a history may begin on this pair: it is found as this state, and has its reserve
 abbrev pub BeginsAs : State → Image → Type 0
 BeginsAs start c = FoundAs start c × PairHasReserve c
 

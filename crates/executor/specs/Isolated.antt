@@ -160,7 +160,7 @@ pub record IsolatedBegin (id : List ℕ) (at : ℕ) (x : Isolated) (entries : Li
   pub above : x.next_run ≤ run
   pub clock : ℕ
   pub answer : Result Unit StartFault
-  pub lemma_one_entry : entries ≡ record { run = run; at = clock; answer = start_answer answer } ∷ []
+  pub one_entry : entries ≡ record { run = run; at = clock; answer = start_answer answer } ∷ []
   pub begins : events ≡ record { at = at; change = change.Step id (step.Begin call run) }
       ∷ map (λ end. record { at = at; change = change.Step id (step.Result run end) }) (refused_end answer)
 

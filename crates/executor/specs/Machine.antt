@@ -49,8 +49,9 @@ pub record Label : Type 0 where
 
 -- The choices that the machine leaves open, each with the condition under which a call may make it.
 --
--- Memory. A question or a registration may be refused for memory (`IsReplyOrMemory`, `Adds`), and a turn that ends for memory begins only
--- the first of the actions that come next (`PickedAt`): a call that reports lack of memory, only where the allocator refuses growths.
+-- Memory. A question or a registration may be refused for memory (`IsReplyOrMemory`; `Adds` of `exec_ledger`). A turn that ends for
+-- memory begins the actions before the one that found no memory, if any, and no more (`PickedAt`). A call that does either reports
+-- lack of memory:
 abbrev pub LacksMemory : Exchange → Type 0
 LacksMemory (Took (input.Request now request) reply) = reply ≡ Refused Memory
 LacksMemory (Took (input.Turn now) reply) = reply ≡ Turn turn_end.Memory
@@ -62,8 +63,8 @@ abbrev pub LacksOnlyIf : Exchange → Machine → Type 0
 LacksOnlyIf e m = LacksMemory e → IsTrue m.refuses
 
 -- The journal's capacity. A command by itself may be refused for it only where its event does not fit.
-abbrev pub LacksReserve : Label → Event → Type 0
-LacksReserve l e = IsTooLong l.position.tail (e ∷ [])
+abbrev pub LacksSpace : Label → Event → Type 0
+LacksSpace l e = IsTooLong l.position.tail (e ∷ [])
 
 -- The book's capacity. A turn does nothing exactly where the book has room for fewer answers than this many for each resource.
 abbrev pub LacksBook : Label → ℕ → Machine → Type 0
@@ -95,7 +96,7 @@ TakesAll l now cs rs m n did = (meant : List Reply) × (es : List Event) × Answ
 -- one command, whose event the journal may have no capacity for
 abbrev pub TakesOne : Label → ℕ → Command → Reply → Machine → Machine → Effects → Type 0
 TakesOne l now c r m n did = TakesAll l now (c ∷ []) (r ∷ []) m n did
-    ⊎ ((e : Event) × (event_of m.state now c ≡ Ok e) × (r ≡ Refused JournalFull) × LacksReserve l e × GoesOn [] m n did)
+    ⊎ ((e : Event) × (event_of m.state now c ≡ Ok e) × (r ≡ Refused JournalFull) × LacksSpace l e × GoesOn [] m n did)
 
 -- A turn of a kind at a moment, for which the book needs room for this many answers for each resource.
 pub record MovesTurn (kind : TurnKind) (each : ℕ) (end : TurnEnd) (at : ℕ) (l : Label) (m n : Machine) (did : Effects) : Type 0 where
@@ -115,7 +116,7 @@ TidyEnds tidy.EpochSpent l m n did = (l.position.epoch ≡ last_epoch) × GoesOn
 TidyEnds tidy.Disk l m n did = Fails l [] n did
 TidyEnds tidy.Closed l m n did = ⊥
 
--- a call that is not a turn asks no agent process, and has no notice
+-- a call that is not a turn has no answer of an agent process, and no notice: giving up the children kills them without an entry
 abbrev pub IsQuiet : Label → Type 0
 IsQuiet l = (l.answers ≡ []) × (l.notices ≡ [])
 

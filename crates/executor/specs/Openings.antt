@@ -40,25 +40,25 @@ abbrev pub StartsLike : DiskView → ℕ → Image → Type 0
 StartsLike old now c = OpensLike old c ⊎ ((s : State) × FoundAs s old.reads × BootsFrom s now c)
 
 -- on these parts something is queued or running, and a boot does not fit after the last record
-pub record LacksReserve (c : Image) : Type 0 where
+pub record PairLacksReserve (c : Image) : Type 0 where
   pub position : Position
   pub state : State
   pub holds : JournalAt position state c
   pub lacks : LacksBoot position.tail state
 
 -- these parts hold a journal of the second layout in which nothing is queued or running, or a damaged one of either
-abbrev pub IsQuiet : Image → Type 0
-IsQuiet c = (IsToWrite c → ⊥) × ((s : State) → FoundAs s c → any_busy s ≡ false)
+abbrev pub IsQuietPair : Image → Type 0
+IsQuietPair c = (IsToWrite c → ⊥) × ((s : State) → FoundAs s c → any_busy s ≡ false)
 
 -- The effect of an opening on the disk, done or failed.
 pub record OpensDisk (old new : DiskView) (now : ℕ) : Type 0 where
   -- at any moment a crash leaves a pair that it might have left before, or one that is found as the state that the parts held,
   -- or as that state's boot
   pub crash : CrashesTo old new (StartsLike old now)
-  -- where each pair that a crash might have left before has capacity for its boot, each that it leaves has
+  -- where each pair that a crash might have left before has its reserve, each that it leaves has
   pub reserved : (old.honest → AllHaveReserve old) → CrashesTo old new PairHasReserve
   -- nothing is written on a journal of the second layout in which nothing is queued or running, nor on a damaged pair
-  pub unwritten : (old.honest → IsQuiet old.reads) → Unwritten old new
+  pub unwritten : (old.honest → IsQuietPair old.reads) → Unwritten old new
 
 -- an executor over these children, after they were given up: none of them was started for a later state than its own
 pub record IsOver {D : Type 0} (from : ChildrenView) (x : ExecutorView D) : Type 0 where
@@ -83,7 +83,7 @@ pub record Opened {D : Type 0} (view : D → DiskView) (old : DiskView) (from : 
   pub opening_report : x.opening_report ≡ record { interrupted = was_running; dropped = was_queued }
   pub did : OpensDisk old (view x.disk) now
   -- the boot fitted
-  pub fits : (view x.disk).honest → LacksReserve old.reads → ⊥
+  pub fits : (view x.disk).honest → PairLacksReserve old.reads → ⊥
 
 -- the children were started for another journal: the last run is not below the next one of the state that is found
 pub record IsForeign (c : Image) (from : ChildrenView) : Type 0 where
@@ -115,8 +115,8 @@ pub record NotOpened (old new : DiskView) (from to : ChildrenView) (now : ℕ) (
   pub damaged : new.honest → (d : Damage) → fault ≡ why.Damaged d → HasDamage old.reads d
   pub cause : fault ≡ why.Disk → Increased old.failures new.failures
   -- full only where a boot is needed and does not fit, and the children are this journal's; so never where each pair that a
-  -- crash might have left before has capacity for its boot
-  pub full : new.honest → fault ≡ why.Full → LacksReserve old.reads
+  -- crash might have left before has its reserve
+  pub full : new.honest → fault ≡ why.Full → PairLacksReserve old.reads
   pub not_foreign : new.honest → fault ≡ why.Full → IsForeign old.reads from → ⊥
   pub never_full : (old.honest → AllHaveReserve old) → new.honest → fault ≡ why.Full → ⊥
   -- a boot may be recorded only where the device failed, and not before foreign children are refused

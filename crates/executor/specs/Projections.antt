@@ -92,7 +92,8 @@ abbrev pub AreRising : ℕ → List Exchange → Type 0
 AreRising from [] = ⊤
 AreRising from (e ∷ es) = (from ≤ moment_in from e) × AreRising (moment_in from e) es
 
--- a reply that reports no shortage that resources share, of capacity, numbers, memory or the disk; a turn ended done
+-- a reply that reports no shortage that resources share, of capacity, numbers, memory or the disk, and no closed executor; a turn
+-- ended done
 abbrev pub IsPlain : Reply → Type 0
 IsPlain (reply.Refused TooManyResources) = ⊥
 IsPlain (reply.Refused CallsSpent) = ⊥

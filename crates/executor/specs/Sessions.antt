@@ -88,7 +88,7 @@ pub record Leads {D : Type 0} (view : D → DiskView) (old new : ExecutorView D)
   pub whole : new.is_open ≡ true → effects.pending ≡ []
 
 -- Each input was taken, with these replies; and where the executor was open, the effects of all of them.
-pub record Sits {D : Type 0} (view : D → DiskView) (inputs : List Input) (old new : ExecutorView D) (replies : List Reply) : Type 0 where
+pub record TakesInputs {D : Type 0} (view : D → DiskView) (inputs : List Input) (old new : ExecutorView D) (replies : List Reply) : Type 0 where
   pub effects : Effects
   pub each : Session view old inputs replies new effects
   pub leads : old.is_open ≡ true → Leads view old new effects

@@ -38,8 +38,8 @@ use ocf_types::laws::{layouts, lemma_lawful_states};
 /// and however the actions of others ran in between. Its part is: the commands and questions that are about it, each turn, the
 /// entries of its runs, and its events. Of commands that arrived together it has those that are about it, one by one; tidies
 /// are nothing to it. The machine begins with the resource's own history, monitors and due moments; call and run numbers are
-/// handed in. The law holds while none of its replies reports a shortage that resources share, each turn ends done, and moments
-/// do not go back; the replies to others do not matter.
+/// handed in. The law holds while none of its replies reports a shortage that resources share or a closed executor, each turn
+/// ends done, and moments do not go back; the replies to others do not matter.
 pub fn lemma_each_alone<D: Disk>()
     ensures alone { (x z : ExecutorView D) (calls : List Exchange) (d : Effects) (id : List ℕ)
         → DistinctKeys x.state → Calls D.view x calls z d
@@ -136,7 +136,7 @@ pub fn promise<D: Disk>()
 
 /// After any history of openings, calls and crashes at any moment, every pair that may be left is found as the state after what
 /// remains of each incarnation, one after the other: its boot, and a prefix of its events that has all events that a call had
-/// recorded when it returned, and the begin of each start that was asked before the crash. The pair has capacity for its boot.
+/// recorded when it returned, and the begin of each start that was requested before the crash. The pair has its reserve.
 /// So an opening after a history gives the state after what remains, with what ran reported as interrupted, and never reports
 /// damage or a full journal.
 ///
@@ -144,7 +144,7 @@ pub fn promise<D: Disk>()
 /// a full journal and damage come before the boot. Where only the journal was opened, for reading, that is an incarnation without
 /// a boot, however it ended.
 ///
-/// A history begins on any pair that is found as a state and has capacity for its boot: a fresh pair is such a pair, with the
+/// A history begins on any pair that is found as a state and has its reserve: a fresh pair is such a pair, with the
 /// empty state, and so is a journal of the first layout, with the state that it leads to.
 pub fn lemma_whole_history<D: Disk>()
     ensures fresh { (c : Image) → IsFreshPair c → BeginsAs empty c }

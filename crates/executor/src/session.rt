@@ -2,7 +2,7 @@
 ghost use Rattle.std.specs.Prelude.{◌≡◌, ◌++◌, IfErr, IsTrue, OnErr, OnOk, List};
 ghost use Rattle.ocf_types.specs.Kinds.{Reply};
 ghost use Rattle.exec_ledger.specs.Pieces.{Effects};
-ghost use Rattle.executor.specs.Sessions.{Sits, TakesWhile};
+ghost use Rattle.executor.specs.Sessions.{TakesInputs, TakesWhile};
 
 use crate::Executor;
 use child_model::Children;
@@ -46,9 +46,9 @@ impl<D: Disk + Drop, C: Children + Drop, A: Grows> Executor<D, C, A> {
         replies: &mut Vec<Reply<A>, A>,
     ) -> Result<(), Vec<Input<A>, A>>
         // each input was taken, in order and none left out, with one reply to each
-        ensures sits { OnOk result
+        ensures takes_inputs { OnOk result
             ((given : List Reply) × (replies.new.items ≡ replies.old.items ++ given)
-            × Sits D.view inputs.items self.old self.new given) }
+            × TakesInputs D.view inputs.items self.old self.new given) }
         // without memory for the replies nothing was done
         ensures refused { IfErr result
             (λ back. (back ≡ inputs) × (self.new ≡ self.old)

@@ -18,12 +18,12 @@ agrees (Measured part n) bytes d = n ≡ length (bytes_of part d)
 agrees (Read part at) bytes d = bytes ≡ take (length bytes) (drop at (bytes_of part d))
 agrees _ bytes d = Unit {0}
 
--- the bytes that read after the call
+-- the bytes that a read returns after the call
 abbrev pub read_after : Call → List ℕ → Image → Image
 read_after (Wrote part at) bytes d = put part (take at (bytes_of part d) ++ bytes ++ drop (at + length bytes) (bytes_of part d)) d
 read_after _ bytes d = d
 
--- the images that a crash after the call may leave, by those of before and by the bytes that read
+-- the images that a crash after the call may leave, by those of before and by the bytes that a read returns
 abbrev pub left_after : Call → List ℕ → (Image → Type 0) → Image → Image → Type 0
 left_after (Wrote part at) bytes old reads c = (d : Image) × old d × Torn part at (length bytes) d c
 left_after (Tried part at) bytes old reads c = (d : Image) × old d × Torn part at (length bytes) d c
@@ -37,7 +37,7 @@ failures_after Failed n = min (n + 1) LAST
 failures_after Refused n = min (n + 1) LAST
 failures_after _ n = n
 
--- the bytes that read: the first pair, with all writes
+-- the bytes that a read returns: the first pair, with all writes
 abbrev pub reads_of : Image → List Event → Image
 reads_of first [] = first
 reads_of first (e ∷ older) = read_after e.call e.bytes (reads_of first older)

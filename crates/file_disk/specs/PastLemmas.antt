@@ -21,7 +21,7 @@ left_step (Synced part) bytes old d h = (h, refl)
 left_step Failed bytes old d h = h
 left_step Refused bytes old d h = h
 
--- the bytes that read are an image that a crash may leave
+-- the bytes that a read returns are an image that a crash may leave
 reads_left : (first : Image) (past : List Event) → now_of first past (reads_of first past)
 reads_left first [] = refl
 reads_left first (e ∷ older) = left_step e.call e.bytes (now_of first older) (reads_of first older) (reads_left first older)

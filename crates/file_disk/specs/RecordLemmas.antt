@@ -172,7 +172,7 @@ written_put : (part : Part) (at : ℕ) (bytes : List ℕ) (d : Image)
 written_put A at bytes d = record { here = refl; there = refl }
 written_put B at bytes d = record { here = refl; there = refl }
 
--- a write that succeeded, in the bytes that read
+-- a write that succeeded, in the bytes that a read returns
 pub was_written : (part : Part) (at : ℕ) (bytes : List ℕ) (r r2 : Record) → Noted (call.Wrote part at) bytes r r2
     → Written part at bytes (view_by r).reads (view_by r2).reads
 was_written part at bytes r r2 noted =

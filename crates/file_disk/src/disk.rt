@@ -216,7 +216,7 @@ impl<R: Files<File = File> + Copy, A: Allocator + Copy> Disk for FileDisk<R, A> 
         }
     }
 
-    /// The bytes that read change only if the write succeeds. The disk stays honest.
+    /// The bytes that a read returns change only if the write succeeds. The disk stays honest.
     fn write_at(&mut self, part: Part, at: u64, bytes: &[u8]) -> Result<(), DiskFault>
         requires range { at + length bytes.now ≤ PART_LIMIT }
         ensures written { OnOk result

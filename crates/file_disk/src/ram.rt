@@ -106,7 +106,7 @@ impl<A: Allocator + Copy> Disk for RamDisk<A> {
         Ok(())
     }
 
-    /// The bytes that read change only if the write succeeds.
+    /// The bytes that a read returns change only if the write succeeds.
     fn write_at(&mut self, part: Part, at: u64, bytes: &[u8]) -> Result<(), DiskFault>
         requires range { at + length bytes.now ≤ PART_LIMIT }
         requires begins { at ≤ length (bytes_of part (view_of self.old).reads) }

@@ -37,13 +37,13 @@ pub struct Stopped<D: Disk + Drop, A: Grows = Global> {
 }
 
 // Opens the executor of a machine, and runs it over its inputs. `None` if memory for the replies is refused.
-fn sit<D: Disk + Drop, C: Children + Drop, A: Grows>(
+fn run_incarnation<D: Disk + Drop, C: Children + Drop, A: Grows>(
     alloc: A,
     disk: D,
     machine: Machine<C, A>,
 ) -> Option<Stopped<D, A>>
     requires site { Admits (C.view machine.children).site machine.site }
-    ensures sits { IfSome result
+    ensures runs { IfSome result
         (λ r. IsIncarnation D.view (as_calls machine.inputs.items r.replies.items) disk r.disk) }
     ensures memory { IfNone result (IsTrue A.refuses) }
 {
@@ -78,7 +78,7 @@ pub fn live<C: Children + Drop, A: Grows>(
         → IsHistory view_of (as_calls machine.inputs.items r.replies.items ∷ older) r.disk) }
 {
     disk.plan_stop(machine.stop);
-    let stopped = sit(alloc, disk, machine)?;
+    let stopped = run_incarnation(alloc, disk, machine)?;
     let call = stopped.disk.clock().checked_add(1)?;
     let Ok(disk) = stopped.disk.image(alloc, call, fill) else {
         return None;

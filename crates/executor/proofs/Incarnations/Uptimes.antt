@@ -9,7 +9,7 @@ use Rattle.disk_model.specs.Disk.{Lawful, DiskView}
 use Rattle.exec_journal.specs.Found.{FoundAs}
 use Rattle.exec_journal.specs.Reserve.{PairHasReserve}
 use Rattle.exec_journal.specs.Batches.{EitherSide}
-use Rattle.executor.specs.Incarnations.{Serves, Uptime, Survives}
+use Rattle.executor.specs.Incarnations.{IsUptime, Uptime, Survives}
 use Rattle.exec_ledger.specs.Pieces.{Effects, followed_by, no_effects}
 use Rattle.exec_ledger.specs.Lemmas.{JournalLemmas}
 use Rattle.executor.proofs.Incarnations.Calls.{calls_closed, calls_more}
@@ -21,7 +21,7 @@ abbrev all_of : Effects → List Event
 all_of d = d.events ++ d.pending
 
 module _ {D : Type 0} (view : D → DiskView) (law : JournalLemmas) (lawful : (d : D) → (view d).honest → Lawful (view d)) where
-  module _ (x : Uptime D) (serves : Serves view x) where
+  module _ (x : Uptime D) (serves : IsUptime view x) where
     opened_leads : Onward view x.opened x.opened no_effects
     opened_leads =
         onward view x.opened x.opened no_effects

@@ -56,7 +56,7 @@ begins_it y id at clock n c r bs (z ∷ []) x is le pick one call run each =
       above = le;
       clock = clock;
       answer = z.answer;
-      lemma_one_entry = ap (λ (k : ℕ). entry k ∷ []) (ap (λ (w : Active). w.running.run) same ∙ run);
+      one_entry = ap (λ (k : ℕ). entry k ∷ []) (ap (λ (w : Active). w.running.run) same ∙ run);
       begins =
           ap (λ (l : List Active). begins at l ++ refusals at (z ∷ [])) one
           ∙ ap (λ (l : List Event). begins at (a ∷ []) ++ l) (append-nil (map (result_of at z.what) ends))

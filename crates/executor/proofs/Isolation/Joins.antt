@@ -60,7 +60,7 @@ goes_there id at x y entries events s (inr b) = inr (record {
   above = le_trans s.runs b.above;
   clock = b.clock;
   answer = b.answer;
-  lemma_one_entry = b.lemma_one_entry;
+  one_entry = b.one_entry;
   begins = b.begins;
 })
 

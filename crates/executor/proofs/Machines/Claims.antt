@@ -243,7 +243,7 @@ uptime_recorded x s p r =
 
 pub runs_recorded : (start : State) (xs : List Seen) (zs : List Event) → Behaves start xs zs → AllRecorded start (claimed xs) zs
 runs_recorded start [] zs none = tt
-runs_recorded start (Opening now end ∷ older) zs (ys, more, before, sits, is) =
+runs_recorded start (Opening now end ∷ older) zs (ys, more, before, remains, is) =
     subst (AllRecorded start (claimed older)) (sym is) (recorded_more start (claimed older) ys more (runs_recorded start older ys before))
 runs_recorded start (Serving x ∷ older) zs (ys, more, before, (p, r, more_is), is) =
     subst (AllRecorded start (claimed older ++ flat_map claims_of x.calls)) (sym is)
@@ -267,7 +267,7 @@ begun_before (Serving x ∷ older) es fs h =
 
 pub runs_begun : (start : State) (xs : List Seen) (zs : List Event) → Behaves start xs zs → AllBegun xs zs
 runs_begun start [] zs none = tt
-runs_begun start (Opening now end ∷ older) zs (ys, more, before, sits, is) =
+runs_begun start (Opening now end ∷ older) zs (ys, more, before, remains, is) =
     subst (AllBegun older) (sym is) (begun_before older ys more (runs_begun start older ys before))
 runs_begun start (Serving x ∷ older) zs (ys, more, before, (p, r, more_is), is) =
     subst (λ (es : List Event). AllBegun older es × HasBegins x es) (sym is) (

@@ -13,7 +13,7 @@ use Rattle.child_model.specs.Children.{Asked}
 use Rattle.child_model.specs.declared.answer.Entry.{Entry}
 use Rattle.exec_journal.specs.Found.{FoundAs}
 use Rattle.exec_journal.specs.Opening.{OpensLike}
-use Rattle.executor.specs.Incarnations.{EndsOpening, InOpening, Up, AreIncarnations, IncarnationsLeave, SurvivingEvents, MayBoot, Serves, Uptime, Incarnation, Survives, boots}
+use Rattle.executor.specs.Incarnations.{EndsOpening, InOpening, Up, AreIncarnations, IncarnationsLeave, SurvivingEvents, MayBoot, IsUptime, Uptime, Incarnation, Survives, boots}
 use Rattle.executor.specs.Machine.{Label, Machine, MovesAll}
 use Rattle.executor.specs.Behaves.{Opening, Remains, Behaves, Seen, SeenUptime, answers_in, opened_on}
 use Rattle.executor.specs.Openings.{StartsLike}
@@ -84,14 +84,14 @@ module _ {D : Type 0} (view : D → DiskView) (law : JournalLemmas) (once : OneF
       unbooted old new now (Some why.Full) older xs from was c ((ends.unbooted (λ none. none)).from_start honest c left)
 
   -- an executor as it was opened
-  opened_so : (x : Uptime D) (s : Serves view x) (t : State) → x.opened.state ≡ booted t x.now
+  opened_so : (x : Uptime D) (s : IsUptime view x) (t : State) → x.opened.state ≡ booted t x.now
       → due_in x.opened ≡ due_at x.opened.state (moment t x.now)
       → machine_of x.opened ≡ opened_on t x.now x.opened.refuses
   opened_so x s t state due = same_machine (machine_of x.opened) (opened_on t x.now x.opened.refuses) s.opens.over.is_open state
       (due ∙ ap (λ (u : State). due_at u (moment t x.now)) state) refl
 
   -- the observations of an incarnation
-  abbrev view_of : (x : Uptime D) → Serves view x → SeenUptime
+  abbrev view_of : (x : Uptime D) → IsUptime view x → SeenUptime
   view_of x s = record {
     now = x.now;
     ran = s.was_running;
@@ -103,14 +103,14 @@ module _ {D : Type 0} (view : D → DiskView) (law : JournalLemmas) (once : OneF
   }
 
   -- the answers in it are those that its children gave
-  answers_are : (x : Uptime D) (s : Serves view x) → answers_in (view_of x s) ≡ (followed_by x.done x.under_way).entries
+  answers_are : (x : Uptime D) (s : IsUptime view x) → answers_in (view_of x s) ≡ (followed_by x.done x.under_way).entries
   answers_are x s =
       flat_map-append (λ (l : Label). l.answers) (view_of x s).calls (view_of x s).begun
       ∙ ap₂ (λ (a b : List Entry). a ++ b) (labels_answers view s.calls x.opened x.returned x.done s.returns)
       (labels_answers view s.begun x.returned x.last x.under_way s.goes_on)
 
   -- the events that remain of it
-  remains_so : (x : Uptime D) (s : Serves view x) (t : State) (p : List Event) → s.was_running ≡ interrupted t (moment t x.now)
+  remains_so : (x : Uptime D) (s : IsUptime view x) (t : State) (p : List Event) → s.was_running ≡ interrupted t (moment t x.now)
       → s.was_queued ≡ dropped t (moment t x.now) → machine_of x.opened ≡ opened_on t x.now x.opened.refuses → Survives x p → Remains (view_of x s) t p
   remains_so x s t p ran queued machine holds = record {
     ran = ran;

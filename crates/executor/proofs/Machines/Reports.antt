@@ -56,7 +56,7 @@ boots_report s now = by (any_busy s) refl
 
 pub reports_reported : (start : State) (xs : List Seen) (zs : List Event) → Behaves start xs zs → IsWithin (reports xs) (interruptions start zs)
 reports_reported start [] zs none = tt
-reports_reported start (Opening now end ∷ older) zs (ys, more, before, sits, is) =
+reports_reported start (Opening now end ∷ older) zs (ys, more, before, remains, is) =
     subst (λ (l : List Event). IsWithin (reports older) (interruptions start l)) (sym is)
     (subst (IsWithin (reports older)) (sym (interruptions-append start ys more))
     (within_more (reports older) (interruptions start ys) (interruptions (after_all start ys) more) (reports_reported start older ys before)))

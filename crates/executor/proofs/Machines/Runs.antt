@@ -34,7 +34,7 @@ use Rattle.exec_turn.specs.Turn.{EachPolled, IsFinish, IsTurn, PickedAt, TurnAns
 use Rattle.executor.specs.Histories.{Follow, IsInOrder}
 use Rattle.executor.specs.Incarnations.{Abandoned, Cleared, Exchange, Finished, Batch, Tidied, Took, boots}
 use Rattle.executor.specs.Machine.{GoesOn, Label, Machine, MovesAll, MovesOpen, MovesTurn, MovesWhile, TakesAll, TidyEnds}
-use Rattle.executor.specs.Behaves.{Opening, Behaves, Seen, Serving, Sits, opened_on}
+use Rattle.executor.specs.Behaves.{Opening, Behaves, Seen, Serving, RemainOf, opened_on}
 use Rattle.exec_ledger.specs.Boots.{booted}
 use Rattle.exec_ledger.specs.Together.{Adds, Answered}
 use Rattle.executor.specs.declared.session.InputOf.TheVariants as input
@@ -322,10 +322,10 @@ boots_follow s now = by (any_busy s) refl
     by false quiet = tt
 
 -- so do the events that remain of an incarnation, and of a behaviour
-sits_follow : (x : Seen) (s : State) (zs : List Event) → Fine s → Sits x s zs → Follow s zs
-sits_follow (Opening now end) s zs fine (inl none) = subst (Follow s) (sym none) tt
-sits_follow (Opening now end) s zs fine (inr (may, is)) = subst (Follow s) (sym is) (boots_follow s now)
-sits_follow (Serving x) s zs fine (p, r, is) =
+remain_follow : (x : Seen) (s : State) (zs : List Event) → Fine s → RemainOf x s zs → Follow s zs
+remain_follow (Opening now end) s zs fine (inl none) = subst (Follow s) (sym none) tt
+remain_follow (Opening now end) s zs fine (inr (may, is)) = subst (Follow s) (sym is) (boots_follow s now)
+remain_follow (Serving x) s zs fine (p, r, is) =
     let boot = boots_follow s x.now in
     let open_state : after_all s (boots s x.now) ≡ booted s x.now = boots_is s x.now in
     let fine2 : Fine (booted s x.now) = subst Fine open_state (fine_on s (boots s x.now) boot fine) in
@@ -338,10 +338,10 @@ sits_follow (Serving x) s zs fine (p, r, is) =
 
 pub runs_follow : (start : State) (xs : List Seen) (zs : List Event) → Fine start → Behaves start xs zs → Follow start zs
 runs_follow start [] zs fine none = subst (Follow start) (sym none) tt
-runs_follow start (x ∷ older) zs fine (ys, more, before, sits, is) =
+runs_follow start (x ∷ older) zs fine (ys, more, before, remains, is) =
     let first = runs_follow start older ys fine before in
     subst (Follow start) (sym is)
-    (follow_both start ys more first (sits_follow x (after_all start ys) more (fine_on start ys first fine) sits))
+    (follow_both start ys more first (remain_follow x (after_all start ys) more (fine_on start ys first fine) remains))
 
 pub runs_apply : (start : State) (xs : List Seen) (zs : List Event) → IsLawfulState start → Behaves start xs zs → Follow start zs
 runs_apply start xs zs lawful runs = runs_follow start xs zs (record { apart = lawful.ids; low = lawful.next_call.1 }) runs

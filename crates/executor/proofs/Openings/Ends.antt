@@ -24,7 +24,7 @@ use Rattle.exec_journal.specs.declared.fault.JournalFault.TheVariants as journal
 use Rattle.executor.specs.declared.opening.OpenError.{OpenError}
 use Rattle.executor.specs.declared.opening.OpenError.TheVariants as why
 use Rattle.exec_ledger.specs.Boots.{Boots, BootsFrom, LacksBoot, booted}
-use Rattle.executor.specs.Openings.{IsQuiet, LacksReserve, NotOpened, Opened, OpensDisk, StartsLike, reported_fault, reported_slot, IsForeign, IsOver, IsOwn, IsUnready}
+use Rattle.executor.specs.Openings.{IsQuietPair, PairLacksReserve, NotOpened, Opened, OpensDisk, StartsLike, reported_fault, reported_slot, IsForeign, IsOver, IsOwn, IsUnready}
 use Rattle.executor.specs.Interruptions.{dropped, interrupted}
 use Rattle.exec_ledger.specs.LedgerView.{LedgerView}
 use Rattle.executor.specs.ExecutorView.{ExecutorView, due_in, ledger_of}
@@ -182,7 +182,7 @@ module _ {D : Type 0} (view : D → DiskView) (law : JournalLemmas) (once : (c :
       unwritten = λ is_quiet. rests is_quiet (any_busy mid.state) refl;
     }
       where
-        rests : (old.honest → IsQuiet old.reads) → (b : Bool) → any_busy mid.state ≡ b → Unwritten old (view new.disk)
+        rests : (old.honest → IsQuietPair old.reads) → (b : Bool) → any_busy mid.state ≡ b → Unwritten old (view new.disk)
         rests is_quiet false not =
             subst (λ (x : LedgerView D). Unwritten old (view x.disk)) (sym (quiet not)) (opens.opens.unwritten (λ h. (is_quiet h).0))
         rests is_quiet true busy =
@@ -207,11 +207,11 @@ module _ {D : Type 0} (view : D → DiskView) (law : JournalLemmas) (once : (c :
         let short = lacks.1 in
         omega (arith, reserve, short)
 
-    lacks_reserve : (view mid.disk).honest → LacksBoot mid.position.tail mid.state → LacksReserve old.reads
+    lacks_reserve : (view mid.disk).honest → LacksBoot mid.position.tail mid.state → PairLacksReserve old.reads
     lacks_reserve h lacks =
         record { position = mid.position; state = mid.state; holds = holds_before h (lacks_unwritten h lacks); lacks = lacks }
 
-    lacks_boot : (view mid.disk).honest → LacksReserve old.reads → LacksBoot mid.position.tail mid.state
+    lacks_boot : (view mid.disk).honest → PairLacksReserve old.reads → LacksBoot mid.position.tail mid.state
     lacks_boot h lacks =
         let same = once old.reads lacks.state mid.state (law.found lacks.position lacks.state old.reads lacks.holds) (opens.found h) in
         let here = subst (λ (s : State). LacksBoot lacks.position.tail s) same lacks.lacks in

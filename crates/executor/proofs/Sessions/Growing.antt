@@ -11,7 +11,7 @@ use Rattle.ocf_types.specs.declared.reply.TurnEnd.{TurnEnd}
 use Rattle.disk_model.specs.Disk.{DiskView, Lawful}
 use Rattle.child_model.specs.declared.answer.Entry.{Entry}
 use Rattle.exec_ledger.specs.BatchStarts.{due_after_all}
-use Rattle.executor.specs.Sessions.{Input, Session, TakesWhile, request_effects, Leads, Sits, TakesOpen, command_effects}
+use Rattle.executor.specs.Sessions.{Input, Session, TakesWhile, request_effects, Leads, TakesInputs, TakesOpen, command_effects}
 use Rattle.executor.specs.ExecutorView.{OnlyLedgerChanges, ExecutorView, due_in, ledger_of, ExecutorInvariant, ExecutorKeeps}
 use Rattle.ocf_types.specs.Answer.{event_of}
 use Rattle.ocf_types.specs.declared.command.RequestOf.TheVariants as asked
@@ -199,16 +199,16 @@ leads_more false view i x y z reply a b closed lawful takes leads =
     (subst (λ (d : Effects). Leads view x y (followed_by a d)) (sym takes.2) (subst (λ (d : Effects). Leads view x y d) (sym (followed_by_none a)) leads))
 
 -- one more input, in a session
-pub sits_more : {D : Type 0} (view : D → DiskView) (x y z : ExecutorView D) (is : List Input) (rs : List Reply) (i : Input) (r : Reply) (b : Effects)
-    → ((view y.disk).honest → Lawful (view y.disk)) → Sits view is x y rs → TakesWhile y.is_open view i y z r b
-    → Sits view (is ++ i ∷ []) x z (rs ++ r ∷ [])
-sits_more view x y z is rs i r b lawful sits takes = record {
-  effects = followed_by sits.effects b;
-  each = session_more view x y z is rs i r sits.effects b sits.each takes;
-  leads = λ was_open. leads_more y.is_open view i x y z r sits.effects b refl lawful takes (sits.leads was_open);
+pub inputs_more : {D : Type 0} (view : D → DiskView) (x y z : ExecutorView D) (is : List Input) (rs : List Reply) (i : Input) (r : Reply) (b : Effects)
+    → ((view y.disk).honest → Lawful (view y.disk)) → TakesInputs view is x y rs → TakesWhile y.is_open view i y z r b
+    → TakesInputs view (is ++ i ∷ []) x z (rs ++ r ∷ [])
+inputs_more view x y z is rs i r b lawful takes_inputs takes = record {
+  effects = followed_by takes_inputs.effects b;
+  each = session_more view x y z is rs i r takes_inputs.effects b takes_inputs.each takes;
+  leads = λ was_open. leads_more y.is_open view i x y z r takes_inputs.effects b refl lawful takes (takes_inputs.leads was_open);
 }
 
-pub sits_start : {D : Type 0} (view : D → DiskView) (law : JournalLemmas) (x : ExecutorView D) → ((view x.disk).honest → Lawful (view x.disk))
-    → ExecutorInvariant view x → Sits view [] x x []
-sits_start view law x lawful sound =
+pub inputs_start : {D : Type 0} (view : D → DiskView) (law : JournalLemmas) (x : ExecutorView D) → ((view x.disk).honest → Lawful (view x.disk))
+    → ExecutorInvariant view x → TakesInputs view [] x x []
+inputs_start view law x lawful sound =
     record { effects = no_effects; each = (refl, refl); leads = λ is_open. leads_start view law x lawful (sound is_open) }

@@ -11,6 +11,6 @@ returns g c =
     record {
       incarnations = λ older h.
           goes_on (as_calls c.args.machine.inputs.items c.in_ok-stopped.stopped.replies.items) older c.args.disk c.plan_stop.new.self
-          c.in_ok-stopped.stopped.disk c.in-Ok.disk c.in_ok-call.call c.plan_stop.ensures.same c.in_ok-stopped.ensures.sits next
+          c.in_ok-stopped.stopped.disk c.in-Ok.disk c.in_ok-call.call c.plan_stop.ensures.same c.in_ok-stopped.ensures.runs next
           c.in-Ok.ensures.since c.in-Ok.ensures.fresh h;
     }

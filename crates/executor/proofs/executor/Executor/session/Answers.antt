@@ -3,9 +3,9 @@ use Rattle.std.proofs.lemmas.List.{append-nil, nil_from_length}
 use Rattle.std.specs.Vec.{vec_len}
 use Rattle.std.specs.Vec.Iter.{into_iter_items}
 use Rattle.ocf_types.specs.Kinds.{Reply}
-use Rattle.executor.specs.Sessions.{Input, Sits}
+use Rattle.executor.specs.Sessions.{Input, TakesInputs}
 use Rattle.exec_ledger.specs.Lemmas.{JournalLemmas}
-use Rattle.executor.proofs.Sessions.Growing.{sits_more, sits_start}
+use Rattle.executor.proofs.Sessions.Growing.{inputs_more, inputs_start}
 use Rattle.executor.proofs.executor.Executor.session.Goals as goal
 
 pub loop-input-init : goal.loop-input-init
@@ -19,11 +19,11 @@ loop-input-init g c =
       whole = all;
       count = c.into_iter-input-iterator.ensures.into_iter_gives.1 ∙ whole_len ∙ sym (ap length all);
       room = search rules;
-      sits = (
+      takes_inputs = (
         [],
         c.reserve_for.ensures.items
             ∙ sym (append-nil c.args.replies.now.items),
-        sits_start g.D.Disk.view law x (g.met.D.Disk.lawful x.disk) c.lemma_known.ensures.sound,
+        inputs_start g.D.Disk.view law x (g.met.D.Disk.lawful x.disk) c.lemma_known.ensures.sound,
       );
     }
 
@@ -39,7 +39,7 @@ loop-input-preserved g c =
     let was = c.loop-input.invariant in
     let before = c.loop-input.self in
     let steps = c.in-Some.ensures.steps in
-    let given = was.sits.0 in
+    let given = was.takes_inputs.0 in
     let taken = c.take-reply.ensures.takes in
     record {
       whole =
@@ -56,23 +56,23 @@ loop-input-preserved g c =
           let len = c.push_reserved.ensures.len in
           let capacity = c.push_reserved.ensures.capacity in
           omega (arith, one, room, len, capacity);
-      sits = (
+      takes_inputs = (
         given ++ c.take-reply.result ∷ [],
-        c.push_reserved.ensures.items ∙ ap (λ (l : List Reply). l ++ c.take-reply.result ∷ []) was.sits.1
+        c.push_reserved.ensures.items ∙ ap (λ (l : List Reply). l ++ c.take-reply.result ∷ []) was.takes_inputs.1
             ∙ append_assoc c.args.replies.now.items given (c.take-reply.result ∷ []),
-        sits_more view c.args.self.now before
+        inputs_more view c.args.self.now before
             c.take-reply.new.self c.loop-input.yielded given c.in-Some.input c.take-reply.result taken.0
-            (g.met.D.Disk.lawful before.disk) was.sits.2 taken.1,
+            (g.met.D.Disk.lawful before.disk) was.takes_inputs.2 taken.1,
       );
     }
 
-pub returns-clause-sits : goal.returns-clause-sits
-returns-clause-sits g c =
+pub returns-clause-takes_inputs : goal.returns-clause-takes_inputs
+returns-clause-takes_inputs g c =
     let was = c.loop-input.invariant in
     let nothing = nil_from_length (into_iter_items c.loop-input.input-iterator) (sym was.count ∙ c.in-None.ensures.steps.0) in
     let all = sym (append-nil c.loop-input.yielded) ∙ ap (λ (l : List Input). c.loop-input.yielded ++ l) (sym nothing) ∙ was.whole in (
-      was.sits.0,
-      was.sits.1,
-      subst (λ (l : List Input). Sits g.D.Disk.view l c.args.self.now
-          c.loop-input.self was.sits.0) all was.sits.2,
+      was.takes_inputs.0,
+      was.takes_inputs.1,
+      subst (λ (l : List Input). TakesInputs g.D.Disk.view l c.args.self.now
+          c.loop-input.self was.takes_inputs.0) all was.takes_inputs.2,
     )

@@ -4,23 +4,23 @@ use Rattle.executor.specs.Joins.{as_calls}
 use Rattle.executor.specs.Incarnations.{Exchange}
 use Rattle.test_incarnations.specs.History.{IsIncarnation}
 use Rattle.test_incarnations.proofs.Steps.{not_opened, served, unanswered}
-use Rattle.test_incarnations.proofs.sit.Goals as goal
+use Rattle.test_incarnations.proofs.run_incarnation.Goals as goal
 
-pub returns-in-Ok-session-clause-sits : goal.returns-in-Ok-session-clause-sits
-returns-in-Ok-session-clause-sits g c =
-    let sits = c.in-Ok-session.ensures.sits in
+pub returns-in-Ok-session-clause-runs : goal.returns-in-Ok-session-clause-runs
+returns-in-Ok-session-clause-runs g c =
+    let takes_inputs = c.in-Ok-session.ensures.takes_inputs in
     let inputs = c.args.machine.inputs.items in
-    let given : c.session.new.replies.items ≡ sits.0 =
-    sits.1 ∙ ap (λ (l : List Reply). l ++ sits.0) c.new-replies.ensures.items in
-    let d = sits.2.effects in
-    let calls = c.lemma_session_is_calls.ensures c.in-Ok.executor c.session.new.self inputs sits.0 d sits.2.each in
+    let given : c.session.new.replies.items ≡ takes_inputs.0 =
+    takes_inputs.1 ∙ ap (λ (l : List Reply). l ++ takes_inputs.0) c.new-replies.ensures.items in
+    let d = takes_inputs.2.effects in
+    let calls = c.lemma_session_is_calls.ensures c.in-Ok.executor c.session.new.self inputs takes_inputs.0 d takes_inputs.2.each in
     subst (λ (l : List Reply). IsIncarnation g.D.Disk.view (as_calls inputs l) c.args.disk c.close-disk.result.0) (sym given)
     (served g.D.Disk.view c.args.disk c.close-disk.result.0 (g.C.Children.view c.args.machine.children) c.args.machine.now
-    c.in-Ok.executor c.session.new.self c.in-Ok._report.interrupted.items c.in-Ok._report.dropped.items (as_calls inputs sits.0) d
+    c.in-Ok.executor c.session.new.self c.in-Ok._report.interrupted.items c.in-Ok._report.dropped.items (as_calls inputs takes_inputs.0) d
     c.in-Ok.ensures.opened calls c.close-disk.ensures.disk)
 
-pub returns-in-Err-clause-sits : goal.returns-in-Err-clause-sits
-returns-in-Err-clause-sits g c =
+pub returns-in-Err-clause-runs : goal.returns-in-Err-clause-runs
+returns-in-Err-clause-runs g c =
     let refused = c.in-Err.ensures.failed in
     let inputs = c.args.machine.inputs.items in
     let none : as_calls inputs c.new-replies.result.items ≡ [] =
