@@ -10,7 +10,6 @@ Use: growths.py PROGRAM, with LINKED in the environment if tests/shims/growths.c
 import collections
 import json
 import os
-import re
 import shutil
 import struct
 import subprocess
@@ -24,9 +23,7 @@ from helper import PROGRAM  # noqa: E402
 
 MEMORY = {"error": "memory", "number": 15}
 # How standard error begins with each status, if it goes to the system's journal.
-ENDS = {0: b"", 4: b"ocfexec: memory\nFree memory ", 7: b"ocfexec: input or output\nA reply or a notice found no memory."}
-# A killed process that has not ended a tenth of a second later is reported: on a machine with much to do that is no fault of the program.
-ALIVE = re.compile(rb"ocfexec: pid \d+ \([^\n]*\)(, started by an action,| of [^\n]*) is still alive after SIGKILL\n")
+ENDS = {0: "", 4: "ocfexec: memory\nFree memory ", 7: "ocfexec: input or output\nA reply or a notice found no memory."}
 DRAIN, LIST = {"op": "drain"}, {"op": "list"}
 
 
@@ -54,7 +51,7 @@ class Played:
     """A run: its values for each step, how it ended, and how many growths it made and how many were refused."""
 
     def __init__(self):
-        self.answers, self.status, self.err, self.made, self.refused = [], None, b"", 0, 0
+        self.answers, self.status, self.err, self.made, self.refused = [], None, "", 0, 0
 
     def told(self):
         return [value for values in self.answers for value in values if helper.is_notice(value)]
@@ -193,8 +190,8 @@ class Growths(helper.Check):
             run.stdin.close()
         except BrokenPipeError:
             pass
-        with os.fdopen(reader, "rb") as err:
-            rest, played.err = run.stdout.read(), ALIVE.sub(b"", err.read())
+        with os.fdopen(reader, encoding="utf-8") as err:
+            rest, played.err = run.stdout.read(), helper.LATE.sub("", err.read())
         run.stdout.close()
         played.status = run.wait()
         guard.cancel()
@@ -302,7 +299,7 @@ class Growths(helper.Check):
         refuse = 1 if opens else self.play(words, []).made - 5
         self.fresh()
         base = self.play(words, steps)
-        self.assertEqual((base.status, base.err, base.refused), (0, b"", 0))
+        self.assertEqual((base.status, base.err, base.refused), (0, "", 0))
         while True:
             self.fresh()
             files = files_of(folder)
@@ -513,7 +510,7 @@ class Growths(helper.Check):
             with self.subTest(refused=refuse):
                 ends[found.status] += 1
                 if found.status == 5:
-                    self.assertEqual(found.err[:14], b"ocfexec: disk\n")
+                    self.assertEqual(found.err[:14], "ocfexec: disk\n")
                     closed = [[{"error": "disk", "number": 16}], [{"error": "closed", "number": 17}]]
                     self.assertIn(found.answers, ([], closed))
                 else:

@@ -9,6 +9,7 @@ import contextlib
 import functools
 import json
 import os
+import re
 import shlex
 import shutil
 import signal
@@ -32,6 +33,8 @@ FAILED = os.path.join(TOP, "tests/failed")
 LAST, PATIENCE, SLOWER = 10, 60, 4
 # how many seconds a whole run may take, which is less than a script of checks may
 WHOLE = 280
+# the line about a process that has not ended a tenth of a second after it was killed: on a busy machine that is no fault of the program
+LATE = re.compile(r"ocfexec: pid (\d+) \([^\n]*\)(?:, started by an action,| of [^\n]*) is still alive after SIGKILL\n")
 # how this module is called again, and the numbers that the current test asked for
 CALL, numbers = [sys.argv[0], *([PROGRAM] if PROGRAM else [])], {}
 
