@@ -30,9 +30,10 @@ class Manager:
             return ""
 
     def write(self, name, text):
-        with open(self.place("new"), "w", encoding="utf-8") as file:
+        new = self.place(f"new-{os.getpid()}")
+        with open(new, "w", encoding="utf-8") as file:
             file.write(text)
-        os.rename(self.place("new"), self.place(name))
+        os.rename(new, self.place(name))
 
     def waits(self, what, holds):
         until = time.monotonic() + WAIT
@@ -100,7 +101,8 @@ class Manager:
         return main.returncode != 0 and str(main.returncode) not in self.unit.get("Service.RestartPreventExitStatus").split()
 
     def hear(self, text):
-        for line in text.split("\n"):
+        """Notes what a message says: that the unit is ready comes last, so that whoever sees that it is active finds its status."""
+        for line in sorted(text.split("\n"), key=lambda line: line == "READY=1"):
             if line == "READY=1":
                 self.write("active", "active")
             if line.startswith("STATUS="):
