@@ -1,5 +1,5 @@
 #!/bin/sh
-# check: slow
+# check: slow alone
 # The first hour in one go: the Debian package is built and installed, each block of the guide is run and prints what the guide says, and
 # the package is removed. It is installed into a directory of its own; with `/`, on this machine, as the guide says. If no gate has passed
 # on these programs there is no package: then the check uses the program as it was built, and with `/` that is an error. Without a running
