@@ -3,7 +3,8 @@
 # The first hour in one go: the Debian package is built and installed, each block of the guide is run and prints what the guide says, and
 # the package is removed. It is installed into a directory of its own; with `/`, on this machine, as the guide says. If no gate has passed
 # on these programs there is no package: then the check uses the program as it was built, and with `/` that is an error. Without a running
-# systemd, and in a directory, tests/lib/systemctl.py plays it by the unit.
+# systemd, and in a directory, tests/lib/systemctl.py plays it by the unit. It runs by itself: one of the guide's commands waits for a
+# process that lives for a moment.
 # Use: guide.sh PROGRAM [/]
 set -u
 . "$(dirname "$0")/../lib/common.sh" "$@"
