@@ -104,7 +104,7 @@ class Endings(helper.Check):
 
     def ended(self, pids):
         """All have ended when the notice comes, or it was reported that they were killed and had not ended yet."""
-        late = {int(pid) for pid in helper.LATE.findall(self.said())}
+        late = {int(pid) for pid in helper.STILL_ALIVE.findall(self.said())}
         self.assertEqual([pid for pid in pids if helper.is_alive(pid) and pid not in late], [], self.said())
         self.eventually("they end", lambda: not any(map(helper.is_alive, pids)))
 
@@ -134,7 +134,7 @@ class Endings(helper.Check):
             with self.subTest(way):
                 _, pids = self.timed_out("NOTE child; :", way=way)
                 self.ended(pids)
-                self.assertEqual(helper.LATE.sub("", self.said()), "")
+                self.assertEqual(helper.STILL_ALIVE.sub("", self.said()), "")
                 os.remove(os.path.join(self.up, "child"))
 
     def test_grandchild(self):
@@ -176,7 +176,7 @@ class Endings(helper.Check):
         """a daemon, in a session of its own and with an ended parent, lives on"""
         _, pids = self.timed_out("(setsid NOTE child &) ; sleep 60")
         self.assertTrue(helper.is_alive(pids[0]), "the daemon lives")
-        self.assertEqual(helper.LATE.sub("", self.said()), "")
+        self.assertEqual(helper.STILL_ALIVE.sub("", self.said()), "")
 
     def test_earlier_service(self):
         """the service of an earlier start lives on after a monitor times out, also as a background job of that start"""

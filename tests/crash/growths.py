@@ -191,7 +191,7 @@ class Growths(helper.Check):
         except BrokenPipeError:
             pass
         with os.fdopen(reader, encoding="utf-8") as err:
-            rest, played.err = run.stdout.read(), helper.LATE.sub("", err.read())
+            rest, played.err = run.stdout.read(), helper.STILL_ALIVE.sub("", err.read())
         run.stdout.close()
         played.status = run.wait()
         guard.cancel()

@@ -34,7 +34,7 @@ LAST, PATIENCE, SLOWER = 10, 60, 4
 # how many seconds a whole run may take, which is less than a script of checks may
 WHOLE = 280
 # the line about a process that has not ended a tenth of a second after it was killed: on a busy machine that is no fault of the program
-LATE = re.compile(r"ocfexec: pid (\d+) \([^\n]*\)(?:, started by an action,| of [^\n]*) is still alive after SIGKILL\n")
+STILL_ALIVE = re.compile(r"ocfexec: pid (\d+) \([^\n]*\)(?:, started by an action,| of [^\n]*) is still alive after SIGKILL\n")
 # how this module is called again, and the numbers that the current test asked for
 CALL, numbers = [sys.argv[0], *([PROGRAM] if PROGRAM else [])], {}
 

@@ -37,10 +37,6 @@ ITEM = re.compile(r"\w+(::\w+)*")
 PAIR = re.compile(r"[a-z]\w* [A-Z]\w*")
 PATH = re.compile(r"[\w.*-]+(/[\w.*-]*)+")
 OPTION = re.compile(r"(?<![\w-])--?[A-Za-z][a-z-]*")
-# The labels after a name in a table or a list, as `Journal::open`: opened, failed; and what counts as a label: that of a clause, or a field
-# or a case of a definition.
-LABELS = re.compile(r"`[\w:]+`: ([a-z_]+(?:, [a-z_]+)*)(?=;|\)| \||, `| \(|$)")
-LABEL = re.compile(r"^ *(?:(?:ensures|requires) (\w+) \{|(?:pub )?(\w+) :)", re.MULTILINE)
 # The sections of a crate's README, in their order; the description comes before them.
 SECTION = re.compile(r"^(## Proved|\*\*[^*]+\.\*\*)", re.MULTILINE)
 SECTIONS = ["## Proved", "**Tested.**", "**Trusted.**", "**Not proved.**", "**Not done.**"]
@@ -109,8 +105,6 @@ class Names:
             self.of_file[path] = words
             if path.startswith("crates/"):
                 self.of_crate[path.split("/")[1]] |= words
-        texts = [read(path) for path in self.files if re.fullmatch(r"crates/\w+/(src|specs)/.*\.(rt|antt)", path)]
-        self.labels = {label for text in texts for found in LABEL.findall(text) for label in found}
         self.helps = {name: helper.run(*[name][:len(name)], "--help").stdout.decode() for name in ["", *SUBCOMMANDS]}
         self.targets = set(re.findall(r"^(\w+):", read("Makefile"), re.MULTILINE))
 
@@ -217,14 +211,6 @@ class Documents(helper.Check):
     def test_misspelled(self):
         """a name in the documents that is misspelled in any word does not exist"""
         self.assertEqual([one for _, name, place in self.found for one in misspelled(name) if self.names.is_there(one, place)], [])
-
-    def test_labels(self):
-        """the labels of clauses that tables and lists name exist, and misspelled ones do not"""
-        found = [label for path in DOCUMENTS for row in re.findall(r"^(?:\||- ).*", read(path), re.MULTILINE)
-                 for labels in LABELS.findall(row) for label in labels.split(", ")]
-        self.assertGreater(len(found), 100)
-        self.assertEqual([label for label in found if label not in self.names.labels], [])
-        self.assertEqual([label for label in found if label[:1] + "q" + label[1:] in self.names.labels], [])
 
     def test_readmes(self):
         """each crate except those of scenarios has a README of at most 40 lines"""
