@@ -43,7 +43,8 @@ fn open_files<R: Files<File = File>, A: Allocator + Copy>(
 /// It is honest as long as each length and all bytes that the files returned are those that they held when they were
 /// opened, changed by the writes since. A read, a write and a sync are one system call each, which is repeated for the rest
 /// where it was cut short or interrupted. A sync fails, too, if the path of its file now leads to another file or to none; a
-/// length checks this of both files, as openings and tidies ask for lengths. After the first call that failed no system call
+/// length checks this of both files, as openings and tidies ask for lengths. All but a read fail if somebody else has cut the
+/// file or made it grow. After the first call that failed no system call
 /// is made, and each call fails: a system may return success from the next sync after one that failed, with nothing on the
 /// device.
 #[derive(Drop)]
@@ -235,7 +236,11 @@ impl<R: Files<File = File> + Copy, A: Allocator + Copy> Disk for FileDisk<R, A> 
         if !self.log.goes_on() {
             return Err(self.log.fail(&Call::Refused, &[]));
         }
-        match self.file(part).write_all_at(bytes, at) {
+        let written = match part {
+            Part::A => self.a.write(bytes, at),
+            Part::B => self.b.write(bytes, at),
+        };
+        match written {
             Ok(()) => {
                 self.log.pass(&Call::Wrote(part, at), bytes);
                 Ok(())

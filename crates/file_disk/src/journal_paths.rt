@@ -43,6 +43,7 @@ impl<A: Allocator + Copy> JournalPaths<A> {
         self.b.check(rt).map_err(|error| FileError {
             part: Part::B,
             error,
-        })
+        })?;
+        Ok(())
     }
 }

@@ -24,11 +24,11 @@ impl<A: Allocator> KnownPath<A> {
         }
     }
 
-    /// Fails if the path now leads to another file, or to none.
-    pub fn check<R: Files>(&self, rt: &R) -> io::Result<()> {
+    /// The length of the file. It fails if the path now leads to another file, or to none.
+    pub fn check<R: Files>(&self, rt: &R) -> io::Result<u64> {
         let found = fs::symlink_metadata(rt, self.path.as_str())?;
         if (found.dev(), found.ino()) == (self.device, self.number) {
-            Ok(())
+            Ok(found.len())
         } else {
             Err(io::Error::new(ErrorKind::Other, "replaced while in use"))
         }

@@ -16,11 +16,12 @@ use std::rt::Files;
 /// The permissions of a new file: its owner alone reads and writes it.
 pub const OWNER_ONLY: u32 = 0o600;
 
-/// The open file of a part, and its path.
+/// The open file of a part, its path, and the length that it has if nobody else writes it.
 #[derive(Drop)]
 pub struct PartFile<A: Allocator = Global> {
     pub file: File,
     path: KnownPath<A>,
+    length: u64,
 }
 
 // Opens the file of this path, or makes it if there is none; `None` for a directory, a link or a device.
@@ -76,8 +77,8 @@ impl<A: Allocator + Copy> PartFile<A> {
             Err(TryLockError::Error(error)) => return Err(OpenFault::file(part, error)),
         }
         let found = of_part(part, file.metadata())?;
-        let path = KnownPath::new(path, &found);
-        Ok(PartFile { file, path })
+        let (path, length) = (KnownPath::new(path, &found), found.len());
+        Ok(PartFile { file, path, length })
     }
 
     /// Refuses a file whose owner or mode is not accepted.
@@ -102,18 +103,37 @@ impl<A: Allocator + Copy> PartFile<A> {
         Ok(bytes)
     }
 
-    /// The length of the file, up to the limit of a part. It fails if the path now leads to another file, or to none.
+    // Fails if the file has another length than the one that it has if nobody else writes it.
+    fn check_length(&self, found: u64) -> io::Result<()> {
+        if found == self.length {
+            Ok(())
+        } else {
+            Err(io::Error::new(ErrorKind::Other, "cut or grown while in use"))
+        }
+    }
+
+    /// The length of the file, up to the limit of a part. It fails if the path now leads to another file, or to none, or if
+    /// somebody else has changed the length.
     pub fn size<R: Files>(&self, rt: &R) -> io::Result<u64>
         ensures { IfOk result (λ n. n ≤ PART_LIMIT) }
     {
-        self.path.check(rt)?;
-        Ok(self.file.metadata()?.len().min(PART_LIMIT))
+        self.check_length(self.path.check(rt)?)?;
+        Ok(self.length.min(PART_LIMIT))
     }
 
-    /// Syncs the bytes of the file. It fails, too, if the path now leads to another file, or to none: the next opening would
-    /// not find these bytes.
+    /// Writes bytes at an offset. It fails, and writes nothing, if somebody else has changed the length: a write behind the end of
+    /// a file that was cut would hide that.
+    pub fn write(&mut self, bytes: &[u8], at: u64) -> io::Result<()> {
+        self.check_length(self.file.metadata()?.len())?;
+        self.file.write_all_at(bytes, at)?;
+        self.length = self.length.max(at.saturating_add(bytes.len() as u64));
+        Ok(())
+    }
+
+    /// Syncs the bytes of the file. It fails, too, if the path now leads to another file, or to none, as the next opening would
+    /// not find these bytes, or if somebody else has changed the length.
     pub fn sync<R: Files>(&self, rt: &R) -> io::Result<()> {
         self.file.sync_data()?;
-        self.path.check(rt)
+        self.check_length(self.path.check(rt)?)
     }
 }
