@@ -19,7 +19,9 @@ BY_CODES = [
     (0, "promote", "promoted"), (0, "reload-agent", "promoted"), (0, "demote", "started"), (0, "stop", "stopped"),
     (190, "monitor", "started"), (1, "monitor", "failed"), (0, "start", "started"), (6, "reload-agent", "failed"),
     (0, "start", "started"), (1, "stop", "failed"), (0, "stop", "stopped"), (9, "monitor", "failed"), (255, "monitor", "failed"),
-    (0, "promote", "promoted"), (190, "promote", "failed"),
+    (0, "promote", "promoted"), (190, "promote", "failed"), (0, "stop", "failed"), (0, "start", "started"), (0, "stop", "stopped"),
+    (0, "start", "started"), (7, "monitor", "failed"), (0, "stop", "failed"), (1, "start", "failed"), (0, "stop", "failed"),
+    (0, "start", "started"), (0, "stop", "stopped"),
 ]
 # The code of a monitor, the expected code, and the state of the resource after it.
 EXPECTED = [(7, 7, "stopped"), (8, 8, "promoted"), (191, 8, "promoted"), (0, 8, "failed"), (0, 7, "failed")]

@@ -61,9 +61,22 @@ failures = (refl, refl, refl, refl, refl, refl)
 
 -- actions that were cut off
 cut_off : (ill started (result 2 action.Stop (Run TimedOut)) ≡ Unknown) × (ill started (result 2 action.Monitor (Run Lost)) ≡ Unknown)
-    × (well (started ++ result 2 action.Stop Interrupted ∷ []) ≡ Unknown)
+    × (well (started ++ result 2 action.Stop Interrupted ∷ []) ≡ Unknown) × (well (started ++ result 2 action.Monitor Interrupted ∷ []) ≡ Started)
 unfolding started
-cut_off = (refl, refl, refl)
+cut_off = (refl, refl, refl, refl)
+
+-- the condition after a failure, which these results follow
+abbrev then : Ended → List Ended → Condition
+then e es = condition_of (history (started ++ e ∷ es) (Some e))
+
+-- a resource that failed and was stopped has failed, until it runs again; a stop that failed is over with one that succeeds
+stopped : (then (result 2 action.Monitor (code 7)) (result 3 action.Stop (code 0) ∷ []) ≡ Failed)
+    × (then (result 2 action.Start (code 1)) (result 3 action.Monitor (code 7) ∷ []) ≡ Failed)
+    × (then (result 2 action.Monitor (code 7)) (result 3 action.Start (code 0) ∷ result 4 action.Stop (code 0) ∷ []) ≡ Stopped)
+    × (then (result 2 action.Monitor (code 7)) (result 3 action.Monitor (code 0) ∷ result 4 action.Stop (code 0) ∷ []) ≡ Stopped)
+    × (then (result 2 action.Stop (code 1)) (result 3 action.Stop (code 0) ∷ []) ≡ Stopped)
+unfolding started
+stopped = (refl, refl, refl, refl, refl)
 
 -- an action that never began changes nothing, and a failure is over once a later result shows another condition
 over : (well (started ++ result 0 action.Stop Dropped ∷ []) ≡ Started)
@@ -73,12 +86,12 @@ over = (refl, refl)
 
 -- since the first of the results at the end that all show the same condition
 since_first : known_of (started ++ result 2 action.Monitor (code 0) ∷ result 0 action.Stop Cancelled ∷ result 9 action.Monitor (code 0) ∷ [])
-    ≡ Some (record { condition = Started; since = 1000; run = 9 })
+    ≡ Some (record { condition = Started; since = 1000; run = 9; up = 9 })
 unfolding started
 since_first = refl
 
 since_change : known_of (started ++ result 2 action.Monitor (code 7) ∷ result 9 action.Monitor (code 7) ∷ [])
-    ≡ Some (record { condition = Stopped; since = 2000; run = 9 })
+    ≡ Some (record { condition = Stopped; since = 2000; run = 9; up = 1 })
 unfolding started
 since_change = refl
 

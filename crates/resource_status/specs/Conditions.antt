@@ -1,5 +1,5 @@
 -- The condition of a resource, by its last results: OCF Resource Agent API 1.1, actions and exit codes.
-use Rattle.std.specs.Prelude.{ℕ, ◌==◌, nat_lt, Bool, true, false, List, length, fold, if◌then◌else◌, Option, Some, None, codes}
+use Rattle.std.specs.Prelude.{ℕ, ◌==◌, ◌&&◌, not, nat_lt, Bool, true, false, List, length, fold, if◌then◌else◌, Option, Some, None, codes}
 use Rattle.std.specs.Option.{option_map_or}
 use Rattle.std.specs.Str.{bytes_eq}
 use Rattle.ocf_types.specs.Layouts.{kept_in}
@@ -44,6 +44,11 @@ is_bad Failed = true
 is_bad Unknown = true
 is_bad _ = false
 
+-- whether an action is a stop
+abbrev pub is_stop : Action → Bool
+is_stop action.Stop = true
+is_stop _ = false
+
 -- what a monitor found, by its exit code
 abbrev pub found_by : Code → Condition
 found_by code.Success = Started
@@ -69,14 +74,16 @@ written_by_code action.Monitor c = Some (found_by c)
 written_by_code a code.Success = left_by a
 written_by_code a _ = Some Failed
 
--- the condition that a result shows: an action that was cut off may be done or not, and one that never began shows none
+-- the condition that a result shows: an action that was cut off may be done or not, unless it is a monitor, which changes nothing, and
+-- one that never began shows none
 abbrev pub written_by : Action → Outcome → Option Condition
 written_by a (Run (Done n)) = written_by_code a (code_read n)
 written_by a (Run TimedOut) = Some Unknown
 written_by a (Run Signaled) = Some Failed
 written_by a (Run Lost) = Some Unknown
 written_by a (Run (NotStarted fault)) = Some Failed
-written_by a Interrupted = Some Unknown
+written_by action.Monitor Interrupted = None
+written_by _ Interrupted = Some Unknown
 written_by a Dropped = None
 written_by a Cancelled = None
 
@@ -85,26 +92,43 @@ abbrev pub since_in : Option Known → Condition → ℕ → ℕ
 since_in None c at = at
 since_in (Some k) c at = if bytes_eq (condition_word k.condition) (condition_word c) then k.since else at
 
+-- a resource in this condition runs
+abbrev pub is_up : Condition → Bool
+is_up Started = true
+is_up Promoted = true
+is_up _ = false
+
+-- the run of the last result that shows that the resource runs, 0 where none does
+abbrev pub up_in : Option Known → Condition → ℕ → ℕ
+up_in k c run = if is_up c then run else option_map_or (λ k. k.up) k 0
+
 -- what is known after one more result
 abbrev pub after : Option Known → Ended → Option Known
-after k e = option_map_or (λ c. Some (record { condition = c; since = since_in k c e.at; run = e.run })) (written_by e.action e.outcome) k
+after k e = option_map_or (λ c. Some (record { condition = c; since = since_in k c e.at; run = e.run; up = up_in k c e.run }))
+    (written_by e.action e.outcome) k
 
 -- what is known after all results, oldest first
 abbrev pub known_of : List Ended → Option Known
 known_of es = fold after None es
-
--- the last failure is of this run
-abbrev pub failed_by : ℕ → Option Ended → Bool
-failed_by run failed = option_map_or (λ e. e.run == run) failed false
 
 -- a condition, where the result that shows it is a failure: a service that is stopped and should run has failed
 abbrev pub worsened : Condition → Condition
 worsened Unknown = Unknown
 worsened _ = Failed
 
--- a condition, by whether the result that shows it is a failure
-abbrev pub judged : Condition → Bool → Condition
-judged c has_failed = if has_failed then worsened c else c
+-- a condition, where a failure lasts: a resource that was stopped after it has failed
+abbrev pub given_up : Condition → Condition
+given_up Stopped = Failed
+given_up c = c
+
+-- a failure lasts until a result shows that the resource runs; that of a stop does not
+abbrev pub lasts : Known → Ended → Bool
+lasts k e = nat_lt k.up e.run && not (is_stop e.action)
+
+-- the condition, by the last failure: whether the result that shows it is that failure, and whether that lasts
+abbrev pub judged : Known → Option Ended → Condition
+judged k None = k.condition
+judged k (Some e) = if e.run == k.run then worsened k.condition else (if lasts k e then given_up k.condition else k.condition)
 
 -- the condition of a resource with n results, none of which shows one: it never ran, unless the history is long enough that one may have
 -- been dropped
@@ -113,7 +137,7 @@ condition_untold n = if nat_lt n (kept_in First) then NeverRun else Unknown
 
 -- the condition, by what is known, the last failure and the number of results that are kept
 abbrev pub condition_from : Option Known → Option Ended → ℕ → Condition
-condition_from (Some k) failed n = judged k.condition (failed_by k.run failed)
+condition_from (Some k) failed n = judged k failed
 condition_from None failed n = condition_untold n
 
 -- the condition of a resource

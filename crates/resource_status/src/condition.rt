@@ -1,8 +1,8 @@
 //! The condition of a resource, by its last results.
 ghost use Rattle.std.specs.Prelude.{◌≡◌, ◌<◌, length};
 ghost use Rattle.ocf_types.specs.Indexes.{at_index};
-ghost use Rattle.resource_status.specs.Conditions.{after, condition_from, condition_of, condition_tone, condition_untold, condition_word, failed_by};
-ghost use Rattle.resource_status.specs.Conditions.{found_by, is_bad, judged, known_of, left_by, since_in, written_by, written_by_code, worsened};
+ghost use Rattle.resource_status.specs.Conditions.{after, condition_from, condition_of, condition_tone, condition_untold, condition_word, given_up};
+ghost use Rattle.resource_status.specs.Conditions.{found_by, is_bad, judged, known_of, lasts, left_by, since_in, up_in, written_by, written_by_code, worsened};
 
 use crate::meanings::Tone;
 use exec_state::State;
@@ -20,7 +20,7 @@ pub enum Condition {
     Promoted,
     /// It is cleanly stopped.
     Stopped,
-    /// The last action that shows a condition has failed.
+    /// The last action that shows a condition has failed; or it was stopped, and has not run since it failed.
     Failed,
     /// The last action that shows a condition may be done or not, or the history has dropped it.
     Unknown,
@@ -59,6 +59,16 @@ impl Condition {
         matches!(self, Condition::Failed | Condition::Unknown)
     }
 
+    // The condition, where a failure before the result that shows it lasts: a resource that was stopped after that has failed.
+    fn given_up(self) -> Condition
+        ensures { result ≡ given_up self }
+    {
+        match self {
+            Condition::Stopped => Condition::Failed,
+            _ => self,
+        }
+    }
+
     // The condition, where the result that shows it is a failure.
     fn worsened(self) -> Condition
         ensures { result ≡ worsened self }
@@ -79,6 +89,8 @@ pub struct Known {
     pub since: Moment,
     /// The run of the last result that shows a condition.
     pub run: u64,
+    /// The run of the last result that shows that the resource runs; 0 if none does.
+    pub up: u64,
 }
 
 // What a monitor found, by its exit code.
@@ -123,9 +135,11 @@ fn written_by(action: Action, outcome: Outcome) -> Option<Condition>
     match outcome {
         Outcome::Run(RunEnd::Done(code)) => written_by_code(action, read_code(code)),
         Outcome::Run(RunEnd::Signaled | RunEnd::NotStarted(_)) => Some(Condition::Failed),
-        Outcome::Run(RunEnd::TimedOut | RunEnd::Lost) | Outcome::Interrupted => {
-            Some(Condition::Unknown)
-        }
+        Outcome::Run(RunEnd::TimedOut | RunEnd::Lost) => Some(Condition::Unknown),
+        Outcome::Interrupted => match action {
+            Action::Monitor => None,
+            _ => Some(Condition::Unknown),
+        },
         Outcome::Dropped | Outcome::Cancelled => None,
     }
 }
@@ -144,16 +158,31 @@ fn since_in(known: Option<Known>, condition: Condition, at: Moment) -> Moment
     }
 }
 
+// The run of the last result that shows that the resource runs, where one of this run shows a condition.
+fn up_in(known: &Option<Known>, condition: Condition, run: u64) -> u64
+    ensures { result ≡ up_in known.now condition run }
+{
+    match (condition, known) {
+        (Condition::Started | Condition::Promoted, _) => run,
+        (_, Some(known)) => known.up,
+        (_, None) => 0,
+    }
+}
+
 // What is known after one more result.
 fn after(known: Option<Known>, ended: &Ended) -> Option<Known>
     ensures { result ≡ after known ended.now }
 {
     match written_by(ended.action, ended.outcome) {
-        Some(condition) => Some(Known {
-            condition,
-            since: since_in(known, condition, ended.at),
-            run: ended.run,
-        }),
+        Some(condition) => {
+            let up = up_in(&known, condition, ended.run);
+            Some(Known {
+                condition,
+                since: since_in(known, condition, ended.at),
+                run: ended.run,
+                up,
+            })
+        }
         None => known,
     }
 }
@@ -170,24 +199,26 @@ pub fn known_of(state: &State, index: usize) -> Option<Known>
     known
 }
 
-// Whether the last failure is of this run.
-fn failed_by(run: u64, failed: Option<Ended>) -> bool
-    ensures { result ≡ failed_by run failed }
+// Whether a failure lasts: no later result shows that the resource runs, and it is not that of a stop.
+fn lasts(known: &Known, failed: &Ended) -> bool
+    ensures { result ≡ lasts known.now failed.now }
 {
-    match failed {
-        Some(failed) => failed.run == run,
-        None => false,
-    }
+    known.up < failed.run && !matches!(failed.action, Action::Stop)
 }
 
-// A condition, by whether the result that shows it is a failure.
-fn judged(condition: Condition, has_failed: bool) -> Condition
-    ensures { result ≡ judged condition has_failed }
+// The condition, by the last failure.
+fn judged(known: &Known, failed: Option<Ended>) -> Condition
+    ensures { result ≡ judged known.now failed }
 {
-    if has_failed {
-        condition.worsened()
+    let Some(failed) = failed else {
+        return known.condition;
+    };
+    if failed.run == known.run {
+        known.condition.worsened()
+    } else if lasts(known, &failed) {
+        known.condition.given_up()
     } else {
-        condition
+        known.condition
     }
 }
 
@@ -207,7 +238,7 @@ fn condition_from(known: Option<Known>, failed: Option<Ended>, results: usize) -
     ensures { result ≡ condition_from known failed results }
 {
     match known {
-        Some(known) => judged(known.condition, failed_by(known.run, failed)),
+        Some(known) => judged(&known, failed),
         None => condition_untold(results),
     }
 }
