@@ -8,289 +8,108 @@ it when a monitor fails. When the executor ends it is started again; with --jour
   SIGTERM, SIGINT  stop the resources, and end the client; its status is 1 if a resource did not stop
   SIGUSR1          ends the client and leaves the resources running; running actions end first, and the next client continues
   SIGHUP           reads the file again: new resources are started; removed ones are stopped and taken out of the journal; those whose
-                   agent or parameters changed are stopped with the old ones and started with the new ones; those that were given
-                   up are tried again
+                   agent or parameters changed are stopped with the old ones and started with the new ones, if the new agent exists and
+                   has these parameters; those that were given up are tried again
 
 resources.py describes the file. Resources are brought up in parallel, in no order. One that fails is restarted at once, and then after 1,
 2, 4 .. 60 seconds; one that has failed too often is stopped and given up, and named. If the file is missing, or names nothing, the client
 does nothing and starts no executor until SIGHUP.
 
-Each result is printed as a line of JSON. Agents of Debian's package resource-agents need --meta-variables: without Pacemaker's interval
-they take each monitor for a probe. --log - shows their output.
+Every few seconds the client asks the executor whether it answers. One that does not answer is killed, and the journal is opened again.
+The client ends with status 2 if the file is wrong, or the program is missing or may not be run, and with the executor's status if another
+start would end in the same way. After any other fault it tries again, after pauses of 1, 2, 4 .. 60 seconds.
+
+Each result is printed as a line of JSON, unless nobody reads them. Agents of Debian's package resource-agents need --meta-variables:
+without Pacemaker's interval they take each monitor for a probe. --log - shows their output.
+
+--check needs no journal: it checks the file, and asks each agent for its metadata once, with the program and the --root, --via and --path
+of the command, or else with the ocfexec in PATH. --offline asks no agent.
 """
+from __future__ import annotations
+
 import argparse
+import errno
 import json
 import os
 import select
+import shutil
 import signal
-import socket
 import sys
 import time
+from typing import Dict, List
 
 sys.dont_write_bytecode = True
+HERE = os.path.dirname(os.path.realpath(__file__))
+# where the library is, if it is neither beside this file nor where this Python looks for it: in a repository, and after `make install`
+sys.path += [os.path.join(HERE, "../python"), os.path.join(HERE, "../../../lib/python3/dist-packages")]
 import resources  # noqa: E402
-from ocfexec import REPORTED, Ended, Error, Executor, Refused  # noqa: E402
+from agents import Agents, all_faults, site_command  # noqa: E402
+from kept import LONGEST, NEVER, Resource, described  # noqa: E402
+from ocfexec import REPORTED, Ended, Error, Executor, Late, Refused, Result  # noqa: E402
+from output import Systemd, say, standard  # noqa: E402
 
 FILE = "/etc/ocfexec/resources.json"
-RUNNING = (0, 8, 190, 191)  # the exit codes of a monitor that finds its resource running
-NOT_RUNNING = 7  # and cleanly stopped
-LONGEST = 60  # the longest pause, in seconds
-WATCH = "watch"
-NEVER = float("inf")
+PATIENCE, ASK_EVERY = 30, 5  # how long an answer is waited for, and how often one is asked for, in seconds
+OPENING = 10  # how many times the patience an opening may take
+# why a program cannot be started, now and later
+NO_PROGRAM = (errno.ENOENT, errno.EACCES, errno.EPERM, errno.ENOEXEC, errno.ENOTDIR, errno.EISDIR, errno.ELOOP, errno.ENAMETOOLONG)
 
 
-class GivenUp(Exception):
-    """A resource failed too often."""
-
-
-def say(what):
-    print(f"client: {what}", file=sys.stderr, flush=True)
-
-
-def notify(*lines):
-    """Notifies systemd, if systemd started the client: sd_notify(3)."""
-    path = os.environ.get("NOTIFY_SOCKET", "")
-    if path:
-        with socket.socket(socket.AF_UNIX, socket.SOCK_DGRAM) as to:
-            try:
-                to.sendto("\n".join(lines).encode(), "\0" + path[1:] if path.startswith("@") else path)
-            except OSError as error:
-                say(f"cannot notify systemd: {error.strerror}")
-
-
-def described(result):
-    """A result in words, such as: start ended with 1 (OCF_ERR_GENERIC)."""
-    if result["outcome"] in ("done", "not-started"):
-        how = "ended" if result["outcome"] == "done" else "was not started,"
-        return f"{result['action']} {how} with {result['code']} ({result['name']})"
-    return f"{result['action']} was {result['outcome']}"
-
-
-class Resource:
-    """A resource that is kept running. Its task is a generator of what it waits for: an action, yielded as a command, after which it is
-    sent the result; a pause, yielded in seconds; or WATCH, after which it is sent the result of a monitor that does not find the
-    resource running."""
-
-    def __init__(self, name, executor):
-        self.name, self.executor = name, executor
-        self.wanted, self.had = None, resources.Wanted("", "")  # what the file wants now, and what it wanted before
-        self.state, self.is_settled = "new", False  # its state in a word; whether its first start has ended, with success or not
-        self.restarts = []  # when it was restarted, by the monotonic clock
-        self.task = self.awaited = None  # awaited: the number of a call, or WATCH
-        self.due, self.last = NEVER, None  # when its pause is over; its last result
-
-    def want(self, wanted):
-        """Sets what the file wants of it from now on; None if the file no longer has it. Returns whether that needs an action."""
-        differs = wanted != self.wanted or self.state == "given up"
-        if differs:
-            self.had, self.wanted = self.wanted or self.had, wanted
-            self.restarts.clear()
-            self.is_settled = False
-        return differs
-
-    def ask(self, op, *allowed, **more):
-        return self.executor.ask(*allowed, op=op, id=self.name, **more)
-
-    def action(self, action, **more):
-        limit = (self.wanted or self.had).timeout(action)
-        return {"op": "exec", "id": self.name, "action": action, "timeout": limit, **more}
-
-    def settle(self, state, what):
-        say(f"{self.name} {what}")
-        self.state, self.is_settled = state, True
-
-    # Its tasks
-
-    def kept(self):
-        """Keeps it running, until it has failed too often."""
-        try:
-            self.clear()
-            yield from self.registered()
-            self.last = yield self.probe()
-            is_first = self.last["code"] == NOT_RUNNING
-            while True:
-                if self.last["code"] not in RUNNING:
-                    yield from self.started(is_first)
-                self.monitor()
-                self.last = yield WATCH
-                self.state, is_first = "failed", False
-                say(f"{self.name} does not run: {described(self.last)}")
-        except GivenUp as why:
-            yield from self.given_up(why)
-
-    def removed(self):
-        """Stops it with its old parameters, and takes it out of the journal."""
-        try:
-            self.clear()
-            say(f"{self.name} is no longer in the file: it is stopped and unregistered")
-            yield from self.unregistered()
-            self.state = "gone"
-        except GivenUp as why:
-            self.settle("given up", f"is given up: {why}")
-
-    def stopped(self):
-        """Stops it once, as the client ends."""
-        self.clear()
-        self.state = "not stopped"
-        if self.cancel_monitors():
-            self.last = yield self.action("stop")
-            if self.last["failed"]:
-                return say(f"{self.name} could not be stopped: {described(self.last)}")
-            say(f"{self.name} is stopped")
-        self.state = "stopped"
-        return None
-
-    def given_up(self, why):
-        """Leaves it stopped. A stop that failed is not repeated: it needs an administrator."""
-        self.cancel_monitors()
-        if self.last["action"] != "stop":
-            yield self.action("stop")
-        self.settle("given up", f"is given up: {why}")
-
-    # The steps of its tasks
-
-    def registered(self):
-        info = self.ask("info", "unknown-resource")
-        if "error" not in info and not self.wanted.is_registered_as(info):
-            say(f"{self.name} has changed in the file: it is stopped with its old agent and parameters")
-            yield from self.unregistered()
-        self.ask("register", "exists", provider=self.wanted.provider, type=self.wanted.type, params=self.wanted.params)
-
-    def unregistered(self):
-        if not self.cancel_monitors():
-            return
-        self.last = yield self.action("stop")
-        while self.last["failed"]:
-            yield from self.paused()
-            self.last = yield self.action("stop")
-        self.ask("unregister")
-
-    def started(self, is_first):
-        """Starts it until that succeeds. After a failure it is stopped first; if it did not stop, it is not started."""
-        self.state = "starting"
-        while True:
-            if not is_first:
-                yield from self.paused()
-            is_first = False
-            if (self.last["action"], self.last["code"]) != ("monitor", NOT_RUNNING):
-                self.last = yield self.action("stop")
-            if self.last["action"] != "stop" or not self.last["failed"]:
-                self.last = yield self.action("start")
-                if not self.last["failed"]:
-                    return
-
-    def paused(self):
-        """Waits until the next try is due. Raises GivenUp if there were too many."""
-        now, limits = time.monotonic(), self.wanted or self.had
-        self.restarts = [moment for moment in self.restarts if moment > now - limits.within / 1000]
-        if len(self.restarts) >= limits.restarts:
-            raise GivenUp(f"{described(self.last)}, and it was tried {len(self.restarts)} times more within {limits.within} ms")
-        pause = min(LONGEST, 2 ** len(self.restarts) // 2)
-        self.restarts.append(now + pause)
-        if pause:
-            self.settle("failed", f"is tried again in {pause} s: {described(self.last)}")
-            yield pause
-
-    def probe(self):
-        """A monitor. It expects that the resource does not run, unless the results in the journal show that it did."""
-        results = [result for result in self.ask("history")["results"] if result["outcome"] not in ("dropped", "cancelled")]
-        last = next((result for result in reversed(results) if (result["action"], result["outcome"]) != ("monitor", "interrupted")), None)
-        runs = last and last["action"] != "stop" and (last["code"] in RUNNING or last["outcome"] == "interrupted")
-        return self.action("monitor", expect=0 if runs else NOT_RUNNING)
-
-    def monitor(self):
-        """Adds the monitor that the file wants."""
-        interval, timeout = self.wanted.interval, self.wanted.timeout("monitor")
-        for monitor in self.ask("info")["recurring"]:
-            if (monitor["interval"], monitor["timeout"]) != (interval, timeout):
-                self.ask("cancel", interval=monitor["interval"])
-        self.ask("recur", "exists", interval=interval, timeout=timeout)
-        self.settle("running", "runs")
-
-    def cancel_monitors(self):
-        """Whether it is registered at all."""
-        info = self.ask("info", "unknown-resource")
-        for monitor in info.get("recurring", []):
-            self.ask("cancel", interval=monitor["interval"])
-        return "error" not in info
-
-    def clear(self):
-        """Withdraws its queued actions, so that only those that have begun are awaited."""
-        for call in self.ask("info", "unknown-resource").get("queued", []):
-            self.ask("withdraw", "not-queued", call=call)
-
-    # How a task proceeds
-
-    def begin(self, task):
-        """Begins this task in place of the previous one."""
-        if self.task:
-            self.task.close()
-        self.task = task
-        self.go_on(None)
-
-    def go_on(self, came):
-        """Passes a value to the task, and runs it up to what it waits for next."""
-        self.awaited, self.due = None, NEVER
-        try:
-            what = self.task.send(came)
-            if isinstance(what, dict):
-                self.awaited = self.executor.ask(**what)["call"]
-            elif what == WATCH:
-                self.awaited = WATCH
-            else:
-                self.due = time.monotonic() + what
-        except StopIteration:
-            self.task = None
-        except Refused as refused:
-            self.task = None
-            if refused.word not in ("disk", "closed"):  # these two end the executor
-                self.settle("not stopped" if self.state == "not stopped" else "given up", f"is given up: {refused}")
-
-    def hear(self, result):
-        # (a promoted resource runs, too; a result found only in the journal is of an earlier executor)
-        fails = result["interval"] and result.get("failed") and result["code"] not in RUNNING
-        if self.awaited == result["call"] or self.awaited == WATCH and fails:
-            self.go_on(result)
+class NoProgram(Exception):
+    """The executor's program is missing, or may not be run."""
 
 
 class Client:
     """Keeps all resources, through one executor after another, until a signal ends the client."""
 
-    def __init__(self, file, command_line):
-        self.file, self.asked, self.told = file, [], None
+    def __init__(self, file: str, command_line: List[str], patience: float) -> None:
+        self.file, self.patience = file, patience
+        self.asked: List[int] = []
+        self.told = ""  # the state that systemd was told
         self.wake, waker = os.pipe()
         for end in (self.wake, waker):
             os.set_blocking(end, False)
         signal.set_wakeup_fd(waker, warn_on_full_buffer=False)
         for number in (signal.SIGTERM, signal.SIGINT, signal.SIGUSR1, signal.SIGHUP):
             signal.signal(number, lambda came, _: self.asked.append(came))
-        self.executor = Executor(command_line, wake=self.wake)
-        self.resources = {}
-        self.is_ready = self.is_stopping = self.is_leaving = self.has_opened = self.has_worked = False
+        self.systemd = Systemd(standard)
+        # how often the executor is asked for an answer
+        self.ask_every = min(ASK_EVERY, patience / 4, (self.systemd.watchdog or NEVER) / 4)
+        self.ask_at = 0.0
+        self.executor = Executor(command_line, wake=self.wake, patience=patience)
+        self.agents = Agents(self.metadata)
+        self.resources: Dict[str, Resource] = {}
+        self.has_read = self.is_ready = self.is_stopping = self.is_leaving = self.has_opened = self.has_worked = False
 
     # Its file and its signals
 
-    def read(self):
-        """Takes over what the file wants. A wrong file changes nothing. Returns whether the file could be read."""
-        try:
-            wanted = resources.read(self.file)
-        except (resources.Wrong, OSError) as error:
-            say(f"{self.file}: {error.strerror if isinstance(error, OSError) else error}")
-            return False
+    def read(self) -> None:
+        """Takes over what the file wants. A wrong file changes nothing. Raises Wrong, and OSError if it cannot be read."""
+        wanted = resources.read(self.file)
+        self.agents.forget()
         for name in wanted:
-            self.resources.setdefault(name, Resource(name, self.executor))
+            self.resources.setdefault(name, Resource(name, self.executor, self.agents))
         changed = [resource for name, resource in self.resources.items() if resource.want(wanted.get(name))]
-        for resource in changed if self.executor.is_running() else ():
+        for resource in changed if self.is_open() else ():
             self.begin(resource)
-        return True
 
-    def begin(self, resource):
+    def begin(self, resource: Resource) -> None:
         if self.is_stopping:
             resource.begin(resource.stopped())
         else:
             resource.begin(resource.kept() if resource.wanted else resource.removed())
 
-    def heed(self):
+    def reload(self) -> None:
+        self.is_ready = False
+        self.systemd.notify("RELOADING=1", f"MONOTONIC_USEC={time.monotonic_ns() // 1000}")
+        try:
+            self.read()
+            say(f"{self.file} was read again")
+        except (resources.Wrong, OSError) as error:
+            say(f"{self.file}: {error.strerror if isinstance(error, OSError) else error}")
+            say("the file is not used, and nothing is changed")
+
+    def heed(self) -> bool:
         """Does what signals have requested. Returns whether the client has to end."""
         while select.select([self.wake], [], [], 0)[0]:
             os.read(self.wake, 4096)
@@ -299,132 +118,254 @@ class Client:
             if self.is_stopping:
                 continue
             if number == signal.SIGHUP:
-                self.is_ready = False
-                notify("RELOADING=1", f"MONOTONIC_USEC={time.monotonic_ns() // 1000}")
-                say(f"{self.file} was read again" if self.read() else "the file is not used, and nothing is changed")
+                self.reload()
                 continue
             self.is_ready = True
             self.tell("STOPPING=1")
             self.is_leaving, self.is_stopping = number == signal.SIGUSR1, number != signal.SIGUSR1
-            for resource in self.resources.values() if self.is_stopping and self.executor.is_running() else ():
+            for resource in self.resources.values() if self.is_stopping and self.is_open() else ():
                 self.begin(resource)
         return self.is_leaving or self.is_stopping and not any(resource.task for resource in self.resources.values())
 
-    def rest(self, seconds=None):
+    def rest(self, seconds: float = NEVER) -> bool:
         """Waits without an executor until a signal comes. Returns whether the client has to leave, or to stop."""
-        select.select([self.wake], [], [], seconds)
+        until = time.monotonic() + seconds
+        while True:
+            self.systemd.feed()
+            left = min(self.ask_every, until - time.monotonic())
+            if left <= 0 or select.select([self.wake], [], [], left)[0]:
+                break
         self.heed()
         return self.is_leaving or self.is_stopping
 
-    def tell(self, *lines):
+    def tell(self, *lines: str) -> None:
         """Reports the state of all resources to systemd when it has changed; and, once, that each resource runs or has failed."""
-        by_state = {}
+        by_state: Dict[str, List[str]] = {}
         for resource in self.resources.values():
             by_state.setdefault(resource.state, []).append(resource.name)
         told = "STATUS=" + ("; ".join(f"{state}: {', '.join(names)}" for state, names in by_state.items()) or "nothing is configured")
         if not self.is_ready and all(resource.is_settled or not resource.wanted for resource in self.resources.values()):
             self.is_ready, lines = True, (*lines, "READY=1")
         if lines or told != self.told:
-            notify(*lines, told)
+            self.systemd.notify(*lines, told)
             self.told = told
 
     # One executor
 
-    def open(self):
+    def is_open(self) -> bool:
+        """Whether an executor runs, and has opened the journal."""
+        return self.has_opened and self.executor.is_running()
+
+    def metadata(self, agent: str) -> str:
+        """The metadata of an agent, which the executor answers."""
+        try:
+            return self.executor.metadata(agent)
+        finally:
+            self.systemd.feed()
+
+    def open(self) -> None:
         """Starts the executor, and continues with each resource of the file and of the journal."""
         self.has_opened = self.has_worked = False
-        self.executor.start()
+        self.start()
         self.has_opened = True
         for result in self.executor.reported:
-            say(f"{result['id']}: {described(result)} when the executor ended")
-        for name in self.executor.past:
-            self.resources.setdefault(name, Resource(name, self.executor))
+            say(f"{result.id}: {described(result)} when the executor ended")
+        for name in self.executor.histories:
+            self.resources.setdefault(name, Resource(name, self.executor, self.agents))
         for resource in self.resources.values():
             if resource.state != "given up" or self.is_stopping:
                 self.begin(resource)
 
-    def look(self):
-        """Waits for what comes next, and passes it to its resource."""
-        due = min((resource.due for resource in self.resources.values()), default=NEVER)
-        self.executor.hear(None if due == NEVER else max(0, due - time.monotonic()))
-        for result in self.told_results():
-            if result["id"] in self.resources:
-                self.resources[result["id"]].hear(result)
+    def start(self) -> None:
+        """Starts the executor, and waits until it is ready. Raises NoProgram; and Late if an opening takes very long, or the
+        client has to leave."""
+        began = time.monotonic()
+        while True:
+            self.systemd.feed()
+            try:
+                self.executor.start(self.ask_every)
+                return
+            except Late:
+                taken = time.monotonic() - began
+                self.heed()
+                if taken > OPENING * self.patience or self.is_leaving:
+                    raise
+                if taken // self.patience > (taken - self.ask_every) // self.patience:
+                    say(f"the executor has been opening its journal for {taken:.0f} s")
+            except OSError as error:
+                if error.errno in NO_PROGRAM:
+                    raise NoProgram(f"{self.executor.command_line[0]}: {error.strerror}") from error
+                raise
+
+    def look(self) -> None:
+        """Waits for what comes next, and passes it to its resource. Asks the executor for an answer when that is due."""
+        due = min([self.ask_at, *(resource.due for resource in self.resources.values())])
+        self.executor.wait(max(0, due - time.monotonic()))
+        for result in self.print_results():
+            if result.id in self.resources:
+                self.resources[result.id].take(result)
         for resource in self.resources.values():
             if resource.due <= time.monotonic():
                 resource.go_on(None)
-        while self.executor.troubles:
-            say(f"the executor could not make a turn: {self.executor.troubles.pop(0)}")
+        while self.executor.problems:
+            say(f"the executor could not make a turn: {self.executor.problems.pop(0)}")
         self.resources = {name: resource for name, resource in self.resources.items() if resource.state != "gone"}
+        if self.ask_at <= time.monotonic():
+            self.executor.version()
+            self.systemd.feed()
+            self.ask_at = time.monotonic() + self.ask_every
 
-    def told_results(self):
+    def print_results(self) -> List[Result]:
         """The results that have come, each of which is printed."""
-        found = self.executor.take()
+        found = self.executor.results()
         for result in found:
-            print(json.dumps(result, separators=(",", ":"), sort_keys=True), flush=True)
-            self.has_worked |= result["outcome"] not in REPORTED
+            standard.result(json.dumps({**result.raw, "id": result.id}, separators=(",", ":"), sort_keys=True))
+            self.has_worked |= result.outcome not in REPORTED
         return found
 
-    def keep(self):
+    def keep(self) -> int:
         """Keeps the resources until the client has to end, and returns its status. Raises Ended."""
         self.open()
         while not self.heed():
             self.tell()
             self.look()
-        status = self.executor.leave()
-        self.told_results()
+        status = self.leave()
+        self.print_results()
         if status:
             say(f"the executor ended with status {status}")
         return int(status != 0 or any(resource.state == "not stopped" for resource in self.resources.values()))
 
-    def run(self):
-        """The client's exit status."""
-        if os.path.exists(self.file) and not self.read():
-            return 2
+    def leave(self) -> int:
+        """Lets the executor end its running actions and leave, within their timeouts. Returns its status."""
+        limits = [resource.now.timeout(action) / 1000 for resource in self.resources.values() for action in ("start", "stop", "monitor")]
+        until = time.monotonic() + max(limits, default=0) + self.patience
+        while True:
+            self.systemd.feed()
+            try:
+                return self.executor.leave(self.ask_every)
+            except Late:
+                if time.monotonic() > until:
+                    raise
+
+    def end_executor(self) -> None:
+        """Kills an executor that still runs, after a fault."""
+        if not self.executor.is_running():
+            return
+        pid = self.executor.pid
+        say(f"the executor, process {pid}, is killed, and the journal is opened again")
+        try:
+            self.executor.kill()
+        except (Error, OSError) as error:
+            say(f"process {pid} has not ended: {error}")
+
+    # All executors
+
+    def first_read(self) -> None:
+        """Reads the file, unless it is missing, and waits until it names a resource, or the client has to end."""
+        if not self.has_read:
+            try:
+                self.read()
+            except FileNotFoundError:
+                pass
+            self.has_read = True
         while not self.resources:
             say(f"{self.file} is missing or names no resource: nothing to do until SIGHUP")
             self.tell()
             if self.rest():
-                return 0
+                return
+
+    def run(self) -> int:
+        """The client's exit status."""
         pause = 0
         while True:
             try:
-                return self.keep()
+                self.first_read()
+                return self.keep() if self.resources else 0
             except Ended as ended:
-                self.told_results()
                 say(str(ended))
-                if ended.wants_person:
+                if ended.needs_administrator:
+                    self.print_results()
                     return ended.status
-                if self.is_stopping and not self.has_opened:
-                    return 1
+            except resources.Wrong as wrong:
+                say(f"{self.file}: {wrong}")
+                return 2
+            except NoProgram as error:
+                say(str(error))
+                return 2
+            except (Error, OSError, MemoryError) as error:
+                say(f"{error or type(error).__name__}")
+                self.end_executor()
+            self.print_results()
+            if self.is_stopping and not self.has_opened:
+                return 1
             # if an executor has sent a result, the next one follows at once
             pause = 0 if self.has_worked else min(LONGEST, 2 * pause or 1)
-            if pause and self.rest(pause) and self.is_leaving:
-                return 0
+            if pause:
+                say(f"it is tried again in {pause} s")
+                if self.rest(pause) and self.is_leaving:
+                    return 0
 
 
-def main():
+def check(file: str, command_line: List[str], is_offline: bool, patience: float) -> int:
+    """Checks the file, and asks each of its agents. Returns the status."""
+    try:
+        wanted = resources.read(file)
+    except (resources.Wrong, OSError) as error:
+        sys.exit(f"{file}: {error.strerror if isinstance(error, OSError) else error}")
+    program = command_line or [path for path in (shutil.which("ocfexec"),) if path]
+    note = ""
+    if wanted and not is_offline and not program:
+        note = "; no agent was asked: there is no ocfexec in PATH, and no command was given"
+    elif wanted and not is_offline:
+        try:
+            with Executor(site_command(program), patience=patience) as executor:
+                agents = Agents(executor.metadata)
+                faults = refusals(executor, wanted) + all_faults(agents, wanted)
+                silent = sorted({one.agent for one in wanted.values() if agents.is_silent(one.agent)})
+        except (Error, OSError) as error:
+            sys.exit(f"{file}: its agents cannot be asked: {error}")
+        if faults:
+            sys.exit("\n".join(f"{file}: {fault}" for fault in faults))
+        note = f"; no metadata, so parameters are not checked: {', '.join(silent)}" if silent else ""
+    print(f"{file}: {len(wanted)} resources{note}")
+    return 0
+
+
+def refusals(executor: Executor, wanted: Dict[str, resources.Wanted]) -> List[str]:
+    """Which resources an executor refuses, and why."""
+    found = []
+    for name, one in wanted.items():
+        try:
+            executor.register(name, one.agent, one.params)
+        except Refused as refused:
+            found.append(f"resources.{name}: {refused}")
+    return found
+
+
+def seconds(text: str) -> float:
+    value = float(text)
+    if not 0 < value < NEVER:
+        raise ValueError(text)
+    return value
+
+
+def main() -> int:
     parser = argparse.ArgumentParser(description=__doc__, formatter_class=argparse.RawDescriptionHelpFormatter)
     parser.add_argument("--file", default=FILE, help="the file of resources (%(default)s)")
-    parser.add_argument("--check", action="store_true", help="check the file, and exit")
+    parser.add_argument("--check", action="store_true", help="check the file and its agents, and exit")
+    parser.add_argument("--offline", action="store_true", help="with --check: ask no agent")
+    parser.add_argument("--patience", type=seconds, default=PATIENCE, metavar="SECONDS",
+                        help="how long an answer of the executor is waited for (%(default)s)")
     parser.add_argument("command_line", nargs=argparse.REMAINDER, metavar="command", help="the executor's command line")
     options = parser.parse_args()
     if options.check:
-        try:
-            print(f"{options.file}: {len(resources.read(options.file))} resources")
-        except (resources.Wrong, OSError) as error:
-            sys.exit(f"{options.file}: {error.strerror if isinstance(error, OSError) else error}")
-        return 0
+        return check(options.file, options.command_line, options.offline, options.patience)
     if not options.command_line:
         parser.error("the executor's command line is missing")
     try:
-        return Client(options.file, options.command_line).run()
-    except OSError as error:  # there is no such program
-        say(str(error))
-        return 2
-    except Error as error:
-        say(str(error))
-        return 1
+        return Client(options.file, options.command_line, options.patience).run()
+    finally:
+        standard.end()
 
 
 if __name__ == "__main__":

@@ -9,64 +9,84 @@ docs/resources.schema.json describes the same as a JSON Schema, for an editor or
         "timeouts": {"start": 20000, "stop": 20000, "monitor": 20000},       these are the defaults
         "restarts": 5, "within": 600000}}}                                   these are the defaults
 """
+from __future__ import annotations
+
 import json
 import re
-from typing import NamedTuple
+from dataclasses import dataclass, field, fields
+from typing import TYPE_CHECKING, Any, Dict, Iterable, Mapping, NoReturn, Optional, Tuple
+
+if TYPE_CHECKING:
+    from ocfexec import Info
 
 GREATEST = 4294967295  # of an interval and a timeout, in milliseconds
 TIMEOUT = 20000
 MOST_RESOURCES, MOST_PARAMS, MOST_BYTES = 256, 64, 1024
+MOST_EVENT = 16384  # bytes of the event that registers a resource, as docs/FORMAT.md describes it
 
 
 class Wrong(Exception):
     """The file cannot be used. The text begins with the key."""
 
 
-class Wanted(NamedTuple):
+@dataclass(frozen=True)
+class Wanted:
     """What the file wants of a resource. It is restarted at most `restarts` times in `within` milliseconds."""
 
     provider: str
     type: str
-    params: dict = {}
+    params: Dict[str, str] = field(default_factory=dict)
     interval: int = 10000
-    timeouts: dict = {}
+    timeouts: Dict[str, int] = field(default_factory=dict)
     restarts: int = 5
     within: int = 600000
 
-    def is_registered_as(self, info):
-        """Whether the journal has the same agent and parameters, by the reply to `info`."""
-        return (self.provider, self.type, self.params) == (info["provider"], info["type"], info["params"])
+    @property
+    def agent(self) -> str:
+        return f"{self.provider}:{self.type}"
 
-    def timeout(self, action):
+    def is_registered_as(self, info: Info) -> bool:
+        """Whether the journal has the same agent and parameters."""
+        return (self.provider, self.type, self.params) == (info.provider, info.type, info.params)
+
+    def timeout(self, action: str) -> int:
         return self.timeouts.get(action, TIMEOUT)
 
 
-def wrong(key, what, value):
+def event_size(name: str, wanted: Wanted) -> int:
+    """The bytes of the event that registers a resource: its kind, a moment, three names, and the parameters after their count."""
+    names = (name, wanted.provider, wanted.type)
+    params = sum(1 + len(key) + 2 + len(text.encode()) for key, text in wanted.params.items())
+    return 1 + 8 + sum(1 + len(one) for one in names) + 1 + params
+
+
+def wrong(key: str, what: str, value: object) -> NoReturn:
     raise Wrong(f"{key}: expected {what}, not {json.dumps(value)}")
 
 
-def is_name(value, more=""):
-    return isinstance(value, str) and re.fullmatch(f"[A-Za-z0-9_.{more}-]{{1,64}}", value) and value not in (".", "..")
+def is_name(value: object, more: str = "") -> bool:
+    return isinstance(value, str) and bool(re.fullmatch(f"[A-Za-z0-9_.{more}-]{{1,64}}", value)) and value not in (".", "..")
 
 
-def check_object(key, value, needed=(), others=None):
+def check_object(key: str, value: object, needed: Tuple[str, ...] = (), others: Optional[Tuple[str, ...]] = None) -> None:
     """An object that has the required keys and otherwise only the optional ones; any keys, if none are given."""
     if not isinstance(value, dict):
         wrong(key, "an object", value)
     for name in needed:
         if name not in value:
             raise Wrong(f"{key}.{name}: it is missing")
-    for name in value if others is not None else ():
-        if name not in (*needed, *others):
-            raise Wrong(f"{key}.{name}: unknown key; known are {', '.join((*needed, *others))}")
+    known = None if others is None else (*needed, *others)
+    for name in value if known else ():
+        if known and name not in known:
+            raise Wrong(f"{key}.{name}: unknown key; known are {', '.join(known)}")
 
 
-def check_number(key, value, least):
+def check_number(key: str, value: object, least: int) -> None:
     if isinstance(value, bool) or not isinstance(value, int) or not least <= value <= GREATEST:
         wrong(key, f"a whole number from {least} to {GREATEST}", value)
 
 
-def check_params(key, value):
+def check_params(key: str, value: Mapping[str, object]) -> None:
     check_object(key, value)
     if len(value) > MOST_PARAMS:
         raise Wrong(f"{key}: at most {MOST_PARAMS} parameters are possible, not {len(value)}")
@@ -77,12 +97,12 @@ def check_params(key, value):
             wrong(f"{key}.{name}", f"a text of at most {MOST_BYTES} bytes, without NUL", text)
 
 
-def check_resource(name, value):
+def check_resource(name: str, value: Mapping[str, Any]) -> Wanted:
     """What the file wants of one resource."""
     key = f"resources.{name}"
     if not is_name(name, ":"):
         raise Wrong(f"{key}: a resource's name is 1 to 64 letters, digits and _ - . : and neither . nor ..")
-    check_object(key, value, ("provider", "type"), Wanted._fields[2:])
+    check_object(key, value, ("provider", "type"), tuple(one.name for one in fields(Wanted))[2:])
     for word in ("provider", "type"):
         if not is_name(value[word]):
             wrong(f"{key}.{word}", "a name of 1 to 64 letters, digits and _ - .", value[word])
@@ -94,12 +114,15 @@ def check_resource(name, value):
     for word, least in (("interval", 1), ("restarts", 0), ("within", 1)):
         if word in value:
             check_number(f"{key}.{word}", value[word], least)
-    return Wanted(**value)
+    wanted = Wanted(**value)
+    if (size := event_size(name, wanted)) > MOST_EVENT:
+        raise Wrong(f"{key}.params: with the names of the resource and its agent they take {size} bytes; {MOST_EVENT} are possible")
+    return wanted
 
 
-def without_twins(pairs):
+def without_twins(pairs: Iterable[Tuple[str, Any]]) -> Dict[str, Any]:
     """An object without repeated keys."""
-    found = {}
+    found: Dict[str, Any] = {}
     for name, value in pairs:
         if name in found:
             raise Wrong(f"{name}: this key occurs twice in one object")
@@ -107,13 +130,15 @@ def without_twins(pairs):
     return found
 
 
-def read(path):
-    """What the file wants, by resource. Raises Wrong, and OSError if the file cannot be read."""
-    with open(path, encoding="utf-8") as file:
-        try:
+def read(path: str) -> Dict[str, Wanted]:
+    """What the file wants, by resource. Raises Wrong, and OSError if the file is missing or cannot be read at this moment."""
+    try:
+        with open(path, encoding="utf-8") as file:
             found = json.load(file, object_pairs_hook=without_twins)
-        except (ValueError, RecursionError) as error:
-            raise Wrong(f"not JSON: {error}") from None
+    except (ValueError, RecursionError) as error:
+        raise Wrong(f"not JSON: {error}") from None
+    except (PermissionError, IsADirectoryError) as error:
+        raise Wrong(str(error.strerror)) from None
     check_object("the file", found, ("resources",), ())
     resources = found["resources"]
     check_object("resources", resources)

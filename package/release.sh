@@ -1,7 +1,8 @@
 #!/usr/bin/env bash
-# Makes a release: writes its version into the program, the program's check and the manual page, and commits that with the tag vVERSION. A
-# version is three numbers, and higher than each earlier release. So `--version` counts releases, and the version of a package also counts
-# commits: a commit cannot contain its own hash, and a constant that changed with each commit would have the program proved anew each time.
+# Makes a release: writes its version into the program, the Python package, the program's check and the manual page, and commits that with
+# the tag vVERSION. A version is three numbers, and higher than each earlier release. So `--version` counts releases, and the version of a
+# package also counts commits: a commit cannot contain its own hash, and a constant that changed with each commit would have the program
+# proved anew each time.
 # Use: release.sh VERSION
 set -euo pipefail
 cd "$(dirname "$0")/.."
@@ -19,5 +20,6 @@ done
 sed -i "s/^\(pub const VERSION: &str = \"\).*\(\";\)\$/\1$version\2/" crates/exec_options/src/texts.rt
 sed -i "s/^\(wrote \(--version\|-V\) \"ocfexec \).*\"\$/\1$version\"/" tests/cli/words.sh
 sed -i "s/^\(\.TH OCFEXEC 8 [0-9-]* \"ocfexec \)[^\"]*/\1$version/" docs/ocfexec.8
-git commit --quiet --message "Release $version" -- crates/exec_options/src/texts.rt tests/cli/words.sh docs/ocfexec.8
+sed -i "s/^\(__version__ = \"\).*\"\$/\1$version\"/" python/ocfexec/__init__.py
+git commit --quiet --message "Release $version" -- crates/exec_options/src/texts.rt python/ocfexec/__init__.py tests/cli/words.sh docs/ocfexec.8
 git tag --annotate --message "Release $version" "v$version"

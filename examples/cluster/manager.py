@@ -15,6 +15,7 @@ Keys of etcd:
 Only the executor's journal knows what runs here. It is read again whenever the manager or the executor starts.
 """
 import argparse
+import contextlib
 import json
 import os
 import shlex
@@ -25,11 +26,13 @@ import time
 from etcd import Etcd, Unreachable, absent, delete, now, put, unchanged
 from record import Record
 
-sys.path.insert(1, os.path.dirname(os.path.dirname(os.path.abspath(__file__))))
-from ocfexec import Ended, Executor  # noqa: E402
+# the library, if it is not installed: in a repository
+sys.path.append(os.path.join(os.path.dirname(os.path.realpath(__file__)), "../../python"))
+from ocfexec import Ended, Executor, Late  # noqa: E402
 
 NOT_RUNNING = 7  # the exit code of a monitor that finds its service cleanly stopped
 INTERVAL, TIMEOUT, FENCE_SECONDS, FAILED_SECONDS = 500, 10000, 20, 15
+PATIENCE, ASK_EVERY = 30, 5  # how long an answer of the executor is waited for, and how often one is asked for, in seconds
 
 
 class Lease:
@@ -87,7 +90,8 @@ class Manager:
         self.lease = Lease(self.etcd, options.lease, options.reserve)
         self.record = Record(options.record)
         # in this session, so that ending the node by its process group ends the executor, too
-        self.executor = Executor(options.command_line, idle=self.lease.keep, own_session=False)
+        self.executor = Executor(options.command_line, idle=self.lease.keep, own_session=False, patience=PATIENCE)
+        self.ask_at = 0
         self.services, self.view, self.seen = {}, {}, 0
         self.fresh, self.joined = True, False  # whether it has not tried to join yet, and whether it has a lease to lose
         self.fencing = None  # the node that is being fenced, its key, the process, and when it began
@@ -117,18 +121,18 @@ class Manager:
         """Starts an executor, and takes over from its journal the results that this manager, or an earlier one, has not seen."""
         self.executor.start()
         self.record_results()
-        for name, results in self.executor.past.items():
-            for monitor in self.executor.ask(op="info", id=name)["recurring"]:
-                self.executor.ask(op="cancel", id=name, interval=monitor["interval"])
+        for name, results in self.executor.histories.items():
+            for monitor in self.executor.info(name).recurring:
+                self.executor.cancel(name, monitor.interval)
             for result in results:
-                self.record.add(name, result)
+                self.record.add(name, result.raw)
             self.services[name] = self.recovered(name)
         self.record.new.clear()
 
     def record_results(self):
         """Writes all results that have come into the record, before anything is done about them."""
-        for result in self.executor.take():
-            self.record.add(result.pop("id"), result)
+        for result in self.executor.results():
+            self.record.add(result.id, {key: value for key, value in result.raw.items() if key != "id"})
 
     def recovered(self, name):
         """The state after the last action. The report of the opening is sent once, so it is read from the record: the manager may have
@@ -147,8 +151,9 @@ class Manager:
         """Registers a service of the table, with its present parameters and the node's name."""
         table = self.table(name)
         params = {**table.get("params", {}), "node": self.node}
-        self.executor.ask("exists", op="register", id=name, provider=table["provider"], type=table["type"], params=params)
-        self.executor.ask(op="params", id=name, params=params)
+        register = {"op": "register", "id": name, "provider": table["provider"], "type": table["type"], "params": params}
+        self.executor.ask(register, allow=("exists",))
+        self.executor.params(name, params)
 
     # The tasks of a service: each yields the actions that it requests, and is sent their results
 
@@ -156,7 +161,7 @@ class Manager:
         code = (yield "monitor")["code"]
         service.state = {0: "up", NOT_RUNNING: "down"}.get(code, "doubtful")
         if service.state == "up":
-            self.executor.ask("exists", op="recur", id=service.name, interval=INTERVAL, timeout=TIMEOUT)
+            self.executor.ask({"op": "recur", "id": service.name, "interval": INTERVAL, "timeout": TIMEOUT}, allow=("exists",))
 
     def bring_up(self, service):
         self.register(service.name)
@@ -174,7 +179,7 @@ class Manager:
     def bring_down(self, service):
         """Stops it, and takes it as down when a probe says so; otherwise the node asks to be fenced, and leaves."""
         service.state = "doubtful"
-        self.executor.ask("no-such-recurring", op="cancel", id=service.name, interval=INTERVAL)
+        self.executor.ask({"op": "cancel", "id": service.name, "interval": INTERVAL}, allow=("no-such-recurring",))
         for _ in range(3):
             yield "stop"
             if (yield "monitor")["code"] == NOT_RUNNING:
@@ -283,13 +288,13 @@ class Manager:
         try:
             action = service.task.send(result)
             limit = TIMEOUT if self.lease.held() else int(self.lease.reserve * 1000)
-            service.call = self.executor.ask(op="exec", id=service.name, action=action, timeout=limit)["call"]
+            service.call = self.executor.exec(service.name, action, timeout=limit)
         except (StopIteration, Unreachable):  # what could not be written to etcd is tried again
             service.task = None
 
-    def hear(self):
+    def take_results(self):
         """Passes the results that have come to their services."""
-        self.executor.hear(0.05)
+        self.executor.wait(0.05)
         self.record_results()
         while self.record.new:
             name, result = self.record.new.pop(0)
@@ -316,7 +321,10 @@ class Manager:
             for service in self.services.values():
                 if not service.task:
                     self.begin(service)
-            self.hear()
+            self.take_results()
+            if now() > self.ask_at:
+                self.executor.version()
+                self.ask_at = now() + ASK_EVERY
 
     def run(self):
         while True:
@@ -325,9 +333,13 @@ class Manager:
                 self.manage()
             except Ended as ended:
                 self.say(str(ended))
-                if ended.wants_person:
+                if ended.needs_administrator:
                     return ended.status
                 time.sleep(0.1)
+            except Late as late:
+                self.say(f"the executor does not answer, and is killed: {late}")
+                with contextlib.suppress(Late):  # it may wait for a dead device
+                    self.executor.kill()
 
 
 def main():

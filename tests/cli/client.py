@@ -1,10 +1,14 @@
 #!/usr/bin/env python3
 """The client of examples/, which keeps the resources of a file: which resources it starts, which it finds running and keeps, what a change
-of the file does, what it gives up, how its signals end it, what it reports to systemd; and that no kill of its executor loses a result.
+of the file does, what it gives up, how its signals end it, what it reports to systemd; that no kill of its executor loses a result; that
+an executor that does not answer, a reader that does not read, a system without free files and a wrong file leave no service without a
+monitor; and what --check finds.
 Use: client.py PROGRAM"""
+import fcntl
 import json
 import os
 import random
+import resource as limits
 import signal
 import socket
 import subprocess
@@ -18,9 +22,23 @@ import schema  # noqa: E402
 from helper import PROGRAM  # noqa: E402
 
 sys.dont_write_bytecode = True
-sys.path.insert(1, os.path.join(helper.TOP, "examples"))
+sys.path[1:1] = [os.path.join(helper.TOP, "examples"), os.path.join(helper.TOP, "python")]
 import resources  # noqa: E402
 
+LONGEST = 100  # seconds after which no more executors are killed
+METADATA = """<?xml version="1.0"?>
+<!DOCTYPE resource-agent SYSTEM "ra-api-1.dtd">
+<resource-agent name="Told" version="1.0"><version>1.1</version><parameters>
+<parameter name="state"><content type="string"/></parameter><parameter name="configfile"><content type="string"/></parameter>
+</parameters><actions/></resource-agent>
+"""
+# an agent with metadata; the others of these checks say nothing about their parameters
+TOLD = """if [ "$1" = meta-data ]; then
+echo meta-data >> {here}/calls
+cat {here}/metadata
+exit
+fi
+"""
 CLIENT = os.path.join(helper.TOP, "examples/client.py")
 # an agent whose service is a file; it fails if the file `fails` beside it names its action, and its monitor ends with the code in the file
 # `code`
@@ -53,17 +71,20 @@ WRONG = (
      "resources.a.timeouts.start: expected a whole number"),
     ('{"resources": {"a": {"provider": "p", "type": "T", "timeouts": {"promote": 1}}}}', "resources.a.timeouts.promote: unknown key"),
     ('{"resources": {"a": {"provider": "p", "type": "T", "restarts": -1}}}', "resources.a.restarts: expected a whole number from 0"),
+    (json.dumps({"resources": {"a": {"provider": "p", "type": "T", "params": {f"p{n}": "x" * 1024 for n in range(16)}}}}),
+     "resources.a.params: with the names"),
 )
 # and valid content
 RIGHT = (
     '{"resources": {}}',
     '{"resources": {"a": {"provider": "p", "type": "T"}, "b:0": {"provider": ".p", "type": "T", "params": {"_x1": ""}, "interval": 1}}}',
     '{"resources": {"a": {"provider": "p", "type": "T", "timeouts": {"stop": 4294967295}, "restarts": 0, "within": 1}}}',
-    json.dumps({"resources": {str(n): {"provider": "p", "type": "T", "params": {f"p{n}": "x" * 1024 for n in range(64)}}
+    json.dumps({"resources": {str(n): {"provider": "p", "type": "T", "params": {f"p{n}": "x" * 1024 for n in range(15)}}
                               for n in range(256)}}),
+    json.dumps({"resources": {"a": {"provider": "p", "type": "T", "params": {f"p{n}": "x" * 200 for n in range(64)}}}}),
 )
-# content that is not JSON, or is hidden when it is read as JSON, so that no schema refuses it
-BEFORE = ("not JSON", "a: this key occurs twice")
+# content that is not JSON, or is hidden when it is read as JSON, or is too large as a whole, so that no schema refuses it
+BEFORE = ("not JSON", "a: this key occurs twice", "resources.a.params: with the names")
 
 
 class Kept(helper.Check):
@@ -71,6 +92,9 @@ class Kept(helper.Check):
         super().setUp()
         for kind in ("Dummy", "Other"):
             self.agent(kind, AGENT.format(here=self.here))
+        self.agent("Told", (TOLD + AGENT).format(here=self.here))
+        with open(self.place("metadata"), "w", encoding="ascii") as file:
+            file.write(METADATA)
         self.journal()
 
     def wants(self, **wanted):
@@ -82,9 +106,31 @@ class Kept(helper.Check):
     def dummy(self, name, kind="Dummy", **more):
         return {"provider": "test", "type": kind, "params": {"state": self.place(name)}, "interval": 100, **more}
 
-    def client(self, **how):
-        return self.heard("--file", self.place("resources.json"), PROGRAM, "serve", "--journal", self.place("journal"), "--root", self.here,
-                          program=CLIENT, err=self.place("err"), **how)
+    def words(self, *options):
+        return [*options, "--file", self.place("resources.json"), PROGRAM, "serve", "--journal", self.place("journal"), "--root", self.here]
+
+    def client(self, *options, **how):
+        return self.heard(*self.words(*options), program=CLIENT, err=self.place("err"), **how)
+
+    def unread(self, *options, **how):
+        """A client whose standard output is a pipe that nobody reads, as small as possible."""
+        with open(self.place("err"), "wb") as err:
+            run = subprocess.Popen([CLIENT, *self.words(*options)], stdout=subprocess.PIPE, stderr=err, **how)
+        fcntl.fcntl(run.stdout, fcntl.F_SETPIPE_SZ, 4096)
+        self.addCleanup(self.gone, run)
+        return run
+
+    def gone(self, run):
+        run.kill()
+        run.wait()
+        run.stdout.close()
+
+    def checked(self, *words):
+        """The status and the lines of --check."""
+        done = subprocess.run([CLIENT, "--file", self.place("resources.json"), "--check", *words], capture_output=True, text=True,
+                              timeout=helper.WHOLE)
+        prefix = f"{self.place('resources.json')}: "
+        return done.returncode, [line.removeprefix(prefix) for line in (done.stdout + done.stderr).splitlines()]
 
     def said(self):
         with open(self.place("err"), encoding="utf-8") as file:
@@ -93,22 +139,32 @@ class Kept(helper.Check):
     def waits(self, what, holds, seconds=helper.PATIENCE):
         until = time.monotonic() + seconds
         while not holds():
-            if time.monotonic() > until:
+            if time.monotonic() > until + helper.more_patience(seconds):
                 self.fail(f"no {what} within {seconds} s:\n{self.said()}")
             time.sleep(0.02)
+
+    def is_up(self, name):
+        return os.path.exists(self.place(name))
+
+    def stops(self, name):
+        """The service of a resource stops by itself."""
+        os.remove(self.place(name))
+
+    def called(self, *words):
+        """How often an agent was called with these words at the beginning of its line."""
+        with open(self.place("calls"), encoding="ascii") as file:
+            return [line.split()[:len(words)] for line in file].count([*words])
 
     def runs(self, *names):
         self.waits(f"running {names}", lambda: all(os.path.exists(self.place(name)) for name in names))
 
     def comes(self, client, after=0, **wanted):
-        found = client.hears(lambda value: helper.is_notice(value, **wanted), 15, after)[1]
-        self.assertIsNotNone(found, f"{wanted}:\n{self.said()}")
-        return found
+        return client.awaits(lambda value: helper.is_notice(value, **wanted), after=after)[1]
 
     def ended(self, client, number):
         """Sends a signal, which ends the client; returns its status."""
         os.kill(client.run.pid, number)
-        status = client.run.wait(helper.PATIENCE)
+        status = client.run.wait(4 * helper.PATIENCE)
         client.reader.join()
         return status
 
@@ -169,14 +225,14 @@ class Kept(helper.Check):
         client = self.client()
         self.comes(client, id="a", interval=100, code=0)
         for code, starts in ((190, 1), (8, 1), (191, 1), (9, 2)):
-            seen = len(client.values())
+            seen = len(client.lines)
             with open(self.place("a.code.new"), "w", encoding="ascii") as file:
                 file.write(str(code))
             os.rename(self.place("a.code.new"), self.place("a.code"))
             self.comes(client, seen, id="a", interval=100, code=code)
             if code == 9:
                 os.remove(self.place("a.code"))
-            seen = len(client.values())
+            seen = len(client.lines)
             self.comes(client, seen, id="a", interval=100, code=0 if code == 9 else code)
             self.waits(f"{starts} starts", lambda wanted=starts: self.starts() == wanted)
         self.assertEqual(self.ended(client, signal.SIGTERM), 0)
@@ -256,7 +312,7 @@ class Kept(helper.Check):
                 resources.read(self.place("resources.json"))
             self.assertTrue(str(wrong.exception).startswith(begins), f"{text}: {wrong.exception}")
         done = subprocess.run([CLIENT, "--file", self.place("resources.json"), PROGRAM, "serve", "--journal", self.place("journal")],
-                              capture_output=True, text=True, timeout=20)
+                              capture_output=True, text=True, timeout=helper.WHOLE)
         self.assertEqual((done.returncode, done.stdout, done.stderr.splitlines()),
                          (2, "", [f"client: {self.place('resources.json')}: {wrong.exception}"]))
         self.assertEqual(os.listdir(self.place("journal")), [])
@@ -301,7 +357,7 @@ class Kept(helper.Check):
         """systemd is notified when all resources run, of a reload, of their state, and of the end"""
         with socket.socket(socket.AF_UNIX, socket.SOCK_DGRAM) as told:
             told.bind(self.place("notify"))
-            told.settimeout(15)
+            told.settimeout(4 * helper.PATIENCE)
             self.wants(a=self.dummy("a"))
             client = self.client(env={**os.environ, "NOTIFY_SOCKET": self.place("notify")})
             for number, wanted in ((None, ["READY=1", "STATUS=running: a"]), (signal.SIGHUP, ["RELOADING=1"]),
@@ -312,7 +368,228 @@ class Kept(helper.Check):
                 while found[0] != wanted[0]:
                     found = told.recv(4096).decode().split("\n")
                 self.assertEqual(found[:len(wanted)], wanted)
-            self.assertEqual(client.run.wait(helper.PATIENCE), 0)
+            self.assertEqual(client.run.wait(4 * helper.PATIENCE), 0)
+
+    def test_watchdog(self):
+        """the watchdog is fed while the executor answers and while there is none, and not while the executor is stopped"""
+        with socket.socket(socket.AF_UNIX, socket.SOCK_DGRAM) as told:
+            told.bind(self.place("notify"))
+            told.settimeout(4 * helper.PATIENCE)
+            client = self.client("--patience", "200", env={**os.environ, "NOTIFY_SOCKET": self.place("notify"), "WATCHDOG_USEC": "1000000"})
+
+            def is_fed():
+                while told.recv(4096) != b"WATCHDOG=1":
+                    pass
+            is_fed()
+            is_fed()
+            self.wants(a=self.dummy("a"))
+            os.kill(client.run.pid, signal.SIGHUP)
+            self.comes(client, id="a", interval=100, code=0)
+            is_fed()
+            executor = self.child(client)
+            os.kill(executor, signal.SIGSTOP)
+            # what was sent before the executor stopped, and perhaps once more
+            self.eventually("it waits for an answer", lambda: self.is_silent(told, 3))
+            os.kill(executor, signal.SIGCONT)
+            is_fed()
+            self.assertEqual(self.ended(client, signal.SIGTERM), 0)
+
+    def is_silent(self, told, seconds):
+        """Whether no message to systemd comes for so long; those that have come are read."""
+        told.setblocking(False)
+        try:
+            while told.recv(4096):
+                pass
+        except BlockingIOError:
+            pass
+        told.settimeout(seconds)
+        try:
+            told.recv(4096)
+        except TimeoutError:
+            return True
+        finally:
+            told.settimeout(4 * helper.PATIENCE)
+        return False
+
+    def test_stuck(self):
+        """an executor that does not answer is killed, which is said, and a service that stopped meanwhile is started again"""
+        self.wants(a=self.dummy("a"))
+        client = self.client("--patience", "5")
+        self.comes(client, id="a", interval=100, code=0)
+        executor = self.child(client)
+        os.kill(executor, signal.SIGSTOP)
+        self.stops("a")
+        self.runs("a")
+        said = self.said()
+        for line in ("client: the reply to version did not come within 5 s",
+                     f"client: the executor, process {executor}, is killed, and the journal is opened again", "client: a runs"):
+            self.assertIn(line, said)
+        self.assertNotEqual(self.child(client), executor)
+        self.assertEqual(self.ended(client, signal.SIGTERM), 0)
+
+    def test_slow_opening(self):
+        """an opening that takes longer than the patience is said, and goes on; told to leave meanwhile, the client ends it"""
+        self.wants(a=self.dummy("a"))
+        with open(self.place("slow"), "w", encoding="ascii") as file:
+            file.write(f'#!/bin/sh\nuntil [ -e {self.here}/good ]; do sleep 0.05; done\nexec "$@"\n')
+        os.chmod(self.place("slow"), 0o755)
+        words = ("--patience", "2", "--file", self.place("resources.json"), self.place("slow"), PROGRAM, "serve", "--journal",
+                 self.place("journal"), "--root", self.here)
+        client = self.heard(*words, program=CLIENT, err=self.place("err"))
+        self.waits("word of it", lambda: "client: the executor has been opening its journal for " in self.said())
+        self.assertEqual(self.ended(client, signal.SIGUSR1), 0)
+        client = self.heard(*words, program=CLIENT, err=self.place("err"))
+        self.waits("word of it", lambda: "client: the executor has been opening its journal for " in self.said())
+        with open(self.place("good"), "w", encoding="ascii"):
+            pass
+        self.runs("a")
+        self.assertEqual(self.ended(client, signal.SIGTERM), 0)
+        self.assertFalse(self.is_up("a"), "its service is stopped")
+
+    def test_unread(self):
+        """a reader of its results that does not read stops no monitor; it is said, and what is read has whole lines"""
+        self.wants(a=self.dummy("a", interval=1))
+        client = self.unread()
+        self.runs("a")
+        # ten times what the pipe holds
+        self.waits("many monitors", lambda: self.called("Dummy", "monitor") > 200)
+        self.stops("a")
+        self.runs("a")
+        client.send_signal(signal.SIGUSR1)
+        found = client.communicate(timeout=4 * helper.PATIENCE)[0]
+        self.assertEqual(client.returncode, 0)
+        runs = [helper.value_of(line)["run"] for line in found.splitlines()]
+        self.assertEqual(runs, list(range(1, len(runs) + 1)))
+
+    def test_left_out(self):
+        """more results than wait for a reader are left out, which is said"""
+        script = "import sys; sys.path[:0] = sys.argv[1:]\nimport os, output\nout = output.Output()\noutput.MOST = 1000\n"
+        script += "for number in range(100000):\n    out.result(f'{number:09}')\n    if out.is_said:\n        break\n"
+        script += "sys.stdin.readline()\nout.results.end(60)\nout.result('again')\nout.end()\n"
+        run = subprocess.Popen([sys.executable, "-c", script, os.path.join(helper.TOP, "examples"), os.path.join(helper.TOP, "python")],
+                               stdin=subprocess.PIPE, stdout=subprocess.PIPE, stderr=subprocess.PIPE, text=True)
+        self.assertEqual(run.stderr.readline(), "client: results are not printed: their reader does not read\n")
+        out, err = run.communicate("\n", timeout=helper.WHOLE)
+        *numbers, last = out.splitlines()
+        self.assertEqual(([int(number) for number in numbers], last), (list(range(len(numbers))), "again"))
+        self.assertEqual(err, "client: 1 results were not printed while nobody read them\n")
+
+    def test_reader_gone(self):
+        """when the reader of its results has gone, that is said, and it goes on"""
+        self.wants(a=self.dummy("a"))
+        client = self.unread()
+        client.stdout.close()
+        self.runs("a")
+        self.waits("word of it", lambda: "client: results are not printed: their reader has gone" in self.said())
+        for _ in range(2):
+            self.stops("a")
+            self.runs("a")
+        client.send_signal(signal.SIGTERM)
+        self.assertEqual(client.wait(4 * helper.PATIENCE), 0)
+        self.assertFalse(self.is_up("a"), "its service is stopped")
+
+    def test_without_files(self):
+        """while the system refuses it another executor it says so and tries again, after growing pauses"""
+        self.wants(a=self.dummy("a"))
+        client = self.client()
+        self.comes(client, id="a", interval=100, code=0)
+        before = limits.prlimit(client.run.pid, limits.RLIMIT_NOFILE)
+        limits.prlimit(client.run.pid, limits.RLIMIT_NOFILE, (3, before[1]))
+        os.kill(self.child(client), signal.SIGKILL)
+        self.stops("a")
+        self.waits("two more tries", lambda: "client: it is tried again in 2 s" in self.said())
+        self.assertIn("client: [Errno 24] Too many open files", self.said())
+        self.assertIsNone(client.run.poll(), "it has not ended")
+        limits.prlimit(client.run.pid, limits.RLIMIT_NOFILE, before)
+        self.runs("a")
+        self.assertEqual(self.ended(client, signal.SIGTERM), 0)
+
+    def test_garbled(self):
+        """an executor that writes no lines of an executor is killed, and another one is started, after growing pauses"""
+        self.wants(a=self.dummy("a"))
+        with open(self.place("talks"), "w", encoding="ascii") as file:
+            file.write(f'#!/bin/sh\n[ -e {self.here}/good ] && exec "$@"\necho good morning\nread -r line\n')
+        os.chmod(self.place("talks"), 0o755)
+        client = self.heard("--file", self.place("resources.json"), self.place("talks"), PROGRAM, "serve", "--journal",
+                            self.place("journal"), "--root", self.here, program=CLIENT, err=self.place("err"))
+        self.waits("two tries", lambda: self.said().count("good morning") >= 2)
+        self.assertIn("client: it is tried again in 1 s\n", self.said())
+        with open(self.place("good"), "w", encoding="ascii"):
+            pass
+        self.runs("a")
+        self.assertEqual(self.ended(client, signal.SIGTERM), 0)
+
+    def test_no_program(self):
+        """a program that is missing or may not be run ends it with status 2, and is named"""
+        self.wants(a=self.dummy("a"))
+        with open(self.place("text"), "w", encoding="ascii") as file:
+            file.write("no program\n")
+        for name, why in (("none", "No such file or directory"), ("text", "Permission denied"), ("resources.json/x", "Not a directory")):
+            done = subprocess.run([CLIENT, "--file", self.place("resources.json"), self.place(name), "serve", "--memory"],
+                                  capture_output=True, text=True, timeout=helper.WHOLE)
+            self.assertEqual((done.returncode, done.stderr), (2, f"client: {self.place(name)}: {why}\n"))
+
+    def told(self, name, **params):
+        return {"provider": "test", "type": "Told", "params": {"state": self.place(name), **params}, "interval": 100}
+
+    def test_check(self):
+        """--check names unknown agents and parameters, and asks each agent once; --offline asks none"""
+        site = (PROGRAM, "serve", "--journal", self.place("journal"), f"--root={self.here}", "--meta-variables")
+        self.wants(a=self.told("a"), b=self.told("b", configfile="x"), c=self.told("c", trace_ra="1"))
+        self.assertEqual(self.checked(*site), (0, ["3 resources"]))
+        self.assertEqual(self.called("meta-data"), 1)
+        self.wants(a=self.told("a", confgfile="x"), b={**self.told("b"), "type": "Tld"}, c=self.told("c", x="y"), d=self.dummy("d"))
+        self.assertEqual(self.checked(*site), (1, ["resources.a.params.confgfile: test:Told has no such parameter; it has configfile",
+                                                   "resources.b.type: there is no agent test:Tld",
+                                                   "resources.c.params.x: test:Told has no such parameter"]))
+        self.assertEqual(self.called("meta-data"), 2)
+        self.assertEqual((self.checked("--offline", *site), self.called("meta-data")), ((0, ["4 resources"]), 2))
+        os.chmod(self.place("resource.d/test/Told"), 0o644)
+        self.wants(a=self.told("a"), d=self.dummy("d"))
+        self.assertEqual(self.checked(*site), (1, ["resources.a.type: the agent test:Told may not be run"]))
+        self.wants(d=self.dummy("d"))
+        self.assertEqual(self.checked(*site), (0, ["1 resources; no metadata, so parameters are not checked: test:Dummy"]))
+        self.assertEqual(os.listdir(self.place("journal")), [])
+
+    def test_sizes(self):
+        """the file may have a resource as large as the program registers, and none that is larger"""
+        site = (PROGRAM, "serve", "--memory", "--root", self.here)
+        for more, status in ((0, 0), (1, 1)):
+            # 1 + 8 bytes before the names, which have their length in one byte, as parameters' names; values have it in two
+            names = ("r" * 64, "test", "Dummy")
+            params = {f"p{number:02}": "\u00e9" * 512 for number in range(15)}
+            rest = 16384 - 9 - sum(1 + len(name) for name in names) - 1 - 15 * (1 + 3 + 2 + 1024)
+            params["last"] = "x" * (rest - 1 - 4 - 2 + more)
+            self.wants(**{names[0]: {"provider": names[1], "type": names[2], "params": params}})
+            self.assertEqual(self.checked("--offline")[0], status)
+            command = {"op": "register", "id": names[0], "provider": names[1], "type": names[2], "params": params}
+            reply = helper.replies(helper.run(*site[1:], told=helper.lines(command)).stdout)[0]
+            self.assertEqual(reply.get("error"), "too-large" if status else None)
+
+    def test_successor(self):
+        """a running resource is kept as it was while its successor cannot be run, and changed once it can"""
+        self.wants(a=self.told("a"), b=self.dummy("b"))
+        client = self.client()
+        self.comes(client, id="a", interval=100, code=0)
+        wrong = ({**self.told("a"), "type": "Tld"}, self.told("a", confgfile="x"))
+        for count, one in enumerate(wrong, 1):
+            self.wants(a=one, b=self.dummy("b"))
+            os.kill(client.run.pid, signal.SIGHUP)
+            self.waits("word of it", lambda wanted=count: self.said().count("client: a stays as it was: ") == wanted)
+            self.comes(client, len(client.lines), id="a", interval=100, code=0)
+        big = self.told("a", **{f"p{number}": "x" * 1024 for number in range(17)})
+        self.wants(a=big, b=self.dummy("b"))
+        os.kill(client.run.pid, signal.SIGHUP)
+        self.waits("word of it", lambda: "resources.a.params: with the names" in self.said())
+        self.stops("a")
+        self.runs("a")
+        self.assertEqual((self.called("Told", "stop"), self.called("Told", "start")), (0, 2), "no agent stopped it")
+        self.wants(a=self.told("a", configfile="x"), b=self.dummy("b"))
+        os.kill(client.run.pid, signal.SIGHUP)
+        self.waits("the change", lambda: self.called("Told", "start") == 3)
+        self.assertEqual(self.ended(client, signal.SIGTERM), 0)
+        [info] = [value for value in helper.replies(helper.shown(self.place("journal"))) if value.get("id") == "a"]
+        self.assertEqual(info["params"].get("configfile"), "x", self.said())
 
     def test_damaged(self):
         """a damaged journal ends it with that status, and so does a wrong argument"""
@@ -320,7 +597,7 @@ class Kept(helper.Check):
         self.spelled("damaged", b"\x01 no journal", b"")
         for words, status in ((("--journal", self.place("damaged")), 3), (("--journey", "x"), 2)):
             done = subprocess.run([CLIENT, "--file", self.place("resources.json"), PROGRAM, "serve", *words],
-                                  capture_output=True, timeout=20)
+                                  capture_output=True, timeout=helper.WHOLE)
             self.assertEqual(done.returncode, status, done.stderr)
 
     @helper.slow
@@ -328,19 +605,19 @@ class Kept(helper.Check):
         """no result is lost or reported twice when its executor is killed"""
         dice, kills = random.Random(helper.number("SEED", 20261127)), helper.number("KILLS", 100)
         self.wants(**{name: self.dummy(name, interval=50) for name in "abcd"})
-        client, killed = self.client(), None
+        client, killed, made, until = self.client(), None, 0, time.monotonic() + LONGEST
         self.runs("a", "b", "c", "d")
-        for _ in range(kills):
+        while made < kills and time.monotonic() < until:
             self.waits("executor", lambda: self.child(client) not in (None, killed))
-            self.comes(client, len(client.values()), outcome="done")
+            self.comes(client, len(client.lines), outcome="done")
             time.sleep(dice.uniform(0, 0.1))
-            killed = self.child(client)
+            killed, made = self.child(client), made + 1
             os.kill(killed, signal.SIGKILL)
-        self.comes(client, len(client.values()), outcome="done")
+        self.comes(client, len(client.lines), outcome="done")
         self.assertEqual(self.ended(client, signal.SIGTERM), 0)
         runs = sorted(value["run"] for value in client.told() if value["run"])
         self.assertEqual(runs, list(range(1, len(runs) + 1)), "each run once")
-        self.assertGreater(len(runs), kills)
+        self.assertGreater(len(runs), made)
         # an opening reports interrupted actions before dropped ones, which a history has in the other order; there is no notice of an
         # action that the client itself withdrew at its end
         told = {(value["call"], value["run"]): {**helper.result_of(value), "id": value["id"]} for value in client.told()}
@@ -351,4 +628,4 @@ class Kept(helper.Check):
 
 
 if __name__ == "__main__":
-    helper.main(in_memory=True)
+    helper.main(in_memory=True, parts=2)

@@ -43,8 +43,9 @@ same "the tags after what was refused" "" "$(git tag --list 'v[0-9]*' | grep -v 
 checked "a release that is not above the last one, or of a tree with changes, is refused"
 
 package/release.sh 99.0.10 > "$here/said" 2>&1 || differs "a release" "it is made" "$(cat "$here/said")"
-same "what it changes" "crates/exec_options/src/texts.rt docs/ocfexec.8 tests/cli/words.sh" "$(git diff --name-only "$before" | xargs)"
-same "the lines that it changes" "4 4" "$(git diff --numstat "$before" | awk '{ added += $1; taken += $2 } END { print added, taken }')"
+same "what it changes" "crates/exec_options/src/texts.rt docs/ocfexec.8 python/ocfexec/__init__.py tests/cli/words.sh" \
+    "$(git diff --name-only "$before" | xargs)"
+same "the lines that it changes" "5 5" "$(git diff --numstat "$before" | awk '{ added += $1; taken += $2 } END { print added, taken }')"
 same "the version" 99.0.10 "$(program_version v99.0.10)"
 same "the manual's version" 99.0.10 "$(manual_version .)"
 same "the check's versions" "99.0.10 99.0.10" "$(sed -n 's/^wrote \(--version\|-V\) "ocfexec \(.*\)"$/\2/p' tests/cli/words.sh | xargs)"

@@ -1,6 +1,6 @@
 #!/usr/bin/env bash
-# Builds the Debian package, in which lintian, if it is installed, finds nothing wrong; installs it into a directory of its own, runs its
-# programs, and removes it. Without a gate that passed on these programs, or without dpkg, it is skipped.
+# Builds the Debian packages, in which lintian, if it is installed, finds nothing wrong; installs them into a directory of their own, runs
+# the programs, imports the Python library, and removes both. Without a gate that passed on these programs, or without dpkg, it is skipped.
 # Use: package.sh PROGRAM
 set -u
 . "$(dirname "$0")/../lib/common.sh" "$@"
@@ -13,8 +13,9 @@ if [ ! -f "$top/crates/ocfexec/out/gate" ]; then
     exit 77
 fi
 deb=$("$top/package/deb.sh" "$here") || exit 1
+library=$(echo "$here"/python3-ocfexec_*_all.deb)
 if command -v lintian > /dev/null; then
-    same "what lintian finds" "" "$(lintian --allow-root --fail-on error,warning "$deb" 2>&1)"
+    same "what lintian finds" "" "$(lintian --allow-root --fail-on error,warning "$deb" "$library" 2>&1)"
 fi
 root=$here/root
 mkdir -p "$root/var/lib/dpkg/info" "$root/var/lib/dpkg/updates"
@@ -32,13 +33,23 @@ before=$("$program" --version | cut -d ' ' -f 2)+$before
 version=$(dpkg-deb -f "$deb" Version)
 dpkg --compare-versions "$version" gt "$before" || differs "the version" "above that of the commit before" "$version"
 same "the journal's folder" 700 "$(stat -c %a "$root/var/lib/ocfexec")"
-for file in README.md docs/GUIDE.md docs/FORMAT.md docs/CLUSTER.md examples/client.py examples/ocfexec-fifo.socket; do
+for file in README.md docs/GUIDE.md docs/CLIENTS.md docs/FORMAT.md docs/CLUSTER.md examples/client.py examples/ocfexec-fifo.socket; do
     [ -s "$root/usr/share/doc/ocfexec/$file" ] || differs "$file" "there" "not"
 done
 printf '{"resources": {}}\n' > "$here/resources.json"
 same "the client" "$here/resources.json: 0 resources" "$("$root/usr/libexec/ocfexec/client.py" --file "$here/resources.json" --check)"
+package -i "$library"
+packages=$root/usr/lib/python3/dist-packages
+found=$(cd / && PYTHONPATH=$packages python3 -c 'import ocfexec; print(ocfexec.__version__, ocfexec.__file__)' 2>&1)
+same "the library" "${version%%+*} $packages/ocfexec/__init__.py" "$found"
+same "the library's types" "" "$(cat "$packages/ocfexec/py.typed" 2>&1)"
 OCF_RESOURCE_TYPE=Stateful "$root/usr/lib/ocf/resource.d/ocfexec/Stateful" meta-data > "$here/meta"
 same "an agent's metadata" 0 $?
+if command -v cc > /dev/null; then
+    # (an open gate and the end of the pipe, in place of an executor's)
+    same "the launcher" ran "$(printf x | "$root/usr/bin/ocfexec-run-agent" echo ran)"
+    same "the launcher without an executor" "" "$("$root/usr/bin/ocfexec-run-agent" echo ran < /dev/null)"
+fi
 reply=$(printf '%s\n' '{"op":"register","id":"r1","provider":"ocfexec","type":"Dummy","params":{"state":"'"$here/state"'"}}' \
     '{"op":"exec","id":"r1","action":"start","timeout":5000}' '{"op":"drain"}' |
     "$root/usr/bin/ocfexec" run --memory --root "$root/usr/lib/ocf" | grep -c '"outcome":"done"')
@@ -53,9 +64,9 @@ for completions in bash-completion/completions/ocfexec zsh/vendor-completions/_o
     [ -s "$root/usr/share/$completions" ] || differs "$completions" "there" "not"
 done
 
-package -r ocfexec
+package -r ocfexec python3-ocfexec
 same "what is left" "$root/etc/default/ocfexec" "$(find "$root" -type f -not -path "$root/var/lib/dpkg/*")"
 touch "$root/var/lib/ocfexec/part-a"
-package -P ocfexec
+package -P ocfexec python3-ocfexec
 same "what is left of it" "$root/var/lib/ocfexec/part-a" "$(find "$root" -type f -not -path "$root/var/lib/dpkg/*")"
-finish "the installed package"
+finish "the installed packages"

@@ -43,6 +43,7 @@ chmod 755 "$here/played/rt"
 builds "$here/played" || differs "dpkg-buildpackage" "done" "$(tail -n 5 "$here/said")"
 deb=$(echo "$here"/ocfexec_*.deb)
 same "the package's version" "$(sed -n 's/^Version: //p' "$dsc")" "$(dpkg-deb -f "$deb" Version)"
+same "the library's version" "$(dpkg-deb -f "$deb" Version)" "$(dpkg-deb -f "$(echo "$here"/python3-ocfexec_*_all.deb)" Version)"
 dpkg-deb --extract "$deb" "$here/root"
 same "the program's version" "$("$program" --version)" "$("$here/root/usr/bin/ocfexec" --version)"
 grep -q "source package of commit $(git -C "$top" rev-parse HEAD)" "$here/root/usr/share/doc/ocfexec/README.gate" ||

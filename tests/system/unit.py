@@ -47,9 +47,9 @@ class Keeper(helper.Check):
         os.rename(self.place("new"), self.place("resources.json"))
 
     def called(self):
-        """The actions of the agent, without its monitors."""
+        """The actions of the agent, without its monitors and its metadata."""
         with open(self.place("calls"), encoding="ascii") as file:
-            return [word for word in file.read().split() if word != "monitor"]
+            return [word for word in file.read().split() if word not in ("monitor", "meta-data")]
 
     def says(self, wanted, seconds=helper.PATIENCE):
         until = time.monotonic() + seconds
@@ -72,6 +72,15 @@ class Keeper(helper.Check):
         self.assertEqual(self.called(), ["start", "start"])
         self.manager.stop()
         self.assertEqual((self.manager.read("ExecMainStatus"), self.called()), ("0", ["start", "start", "stop", "stop"]))
+
+    def test_refused(self):
+        """a reload fails if the file names an agent that does not exist, and changes nothing"""
+        self.manager.start()
+        with open(self.place("resources.json"), "w", encoding="ascii") as file:
+            json.dump({"resources": {"web": {"provider": "test", "type": "Dumy", "params": {"state": self.place("other")}}}}, file)
+        self.assertRaises(subprocess.CalledProcessError, self.manager.reload)
+        self.assertEqual((self.manager.read("StatusText"), self.called()), ("running: web", ["start"]))
+        self.assertNotIn("read again", self.manager.read("log"))
 
     def test_killed(self):
         """a killed client is started again, and keeps running services; told to leave, it is not started again, and they stay"""
