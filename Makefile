@@ -2,8 +2,10 @@
 PREFIX ?= /usr/local
 PROGRAM := crates/ocfexec/out/ocfexec
 AGENTS := crates/ocf_agents/out/ocf_agents
+# in C; it is missing where there is no C compiler
+LAUNCHER := crates/ocfexec/out/ocfexec-run-agent
 
-.PHONY: run test check mutants bench plots costs statement soak fuzz sanitize install deb source guide clean
+.PHONY: run test check mutants bench plots costs statement soak fuzz sanitize install install-python deb source guide clean
 
 # Compiles every crate without proving it, and answers the example's commands with the example's agent.
 run:
@@ -54,17 +56,23 @@ fuzz:
 sanitize:
 	@tests/sanitize.sh
 
-# Installs the programs that the gate proved and built, or proves and builds them first; also the manual page, README.md, the clients with
-# their library, and the units.
-install: $(PROGRAM) $(AGENTS)
+# Installs the programs that the gate proved and built, or proves and builds them first; also the launcher of agents beside the program, the
+# manual page, README.md, the clients with their library, and the units.
+install: $(PROGRAM) $(AGENTS) $(LAUNCHER) install-python
 	install -D $(PROGRAM) $(DESTDIR)$(PREFIX)/bin/ocfexec
+	[ ! -e $(LAUNCHER) ] || install -D $(LAUNCHER) $(DESTDIR)$(PREFIX)/bin/ocfexec-run-agent
 	install -D $(AGENTS) $(DESTDIR)$(PREFIX)/bin/ocf_agents
 	install -D -m 644 docs/ocfexec.8 $(DESTDIR)$(PREFIX)/share/man/man8/ocfexec.8
 	install -d $(DESTDIR)$(PREFIX)/share/doc/ocfexec
 	install examples/client.py examples/client.sh examples/with-executor.sh $(DESTDIR)$(PREFIX)/share/doc/ocfexec
-	install -m 644 README.md examples/ocfexec.py examples/resources.py examples/*.service examples/*.socket $(DESTDIR)$(PREFIX)/share/doc/ocfexec
+	install -m 644 README.md examples/*.service examples/*.socket $(DESTDIR)$(PREFIX)/share/doc/ocfexec
+	install -m 644 examples/agents.py examples/kept.py examples/output.py examples/resources.py $(DESTDIR)$(PREFIX)/share/doc/ocfexec
 
-# Builds a Debian package of the programs that the gate proved, and of no others.
+# Installs the Python package `ocfexec` alone, and makes the `python3` of PATH find it, if that looks for packages below PREFIX.
+install-python:
+	@package/python.sh "$(DESTDIR)" "$(PREFIX)"
+
+# Builds Debian packages of the programs that the gate proved, and of no others but the launcher of agents, and of the Python library.
 deb:
 	@package/deb.sh
 
@@ -83,6 +91,9 @@ $(PROGRAM): $(shell find crates -name out -prune -o -name README.md -o -type f -
 $(AGENTS): $(shell find crates/ocf_types crates/ocf_codes crates/ocf_agents -name out -prune -o -name README.md -o -type f -print)
 	cd crates/ocf_agents && OCF_RESOURCE_TYPE=Dummy rt run -- meta-data > /dev/null
 	touch $@
+
+$(LAUNCHER): launcher/run_agent.c launcher/build.sh
+	launcher/build.sh $@
 
 clean:
 	rm -rf crates/*/out tests/out tests/*/out tests/failed

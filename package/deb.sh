@@ -1,9 +1,10 @@
 #!/usr/bin/env bash
-# Builds a Debian package of the programs that the gate proved and built: out/gate has the commit at which it passed, and the sums of the
-# programs. It refuses other programs. In the tree of a source package (source.sh) it packs the programs that debian/rules proved and built.
-# Symbols are stripped if strip is installed: no instruction differs. It needs dpkg-deb, and makes the same package as root or not. The
-# package's version is the program's version and the number of commits up to the one that it is built from, so that a later commit is an
-# upgrade. Use: deb.sh [DIRECTORY], where the package is put
+# Builds the Debian packages: that of the programs that the gate proved and built, with the clients, and that of the Python library
+# (python_deb.sh). It prints the file of the first. out/gate has the commit at which the gate passed, and the sums of the programs; it
+# refuses other programs. In the tree of a source package (source.sh) it packs the programs that debian/rules proved and built. The launcher
+# of agents, which is C, is built here. Symbols are stripped if strip is installed: no instruction differs. It needs dpkg-deb, and makes the
+# same packages as root or not. The packages' version is the program's version and the number of commits up to the one that they are built
+# from, so that a later commit is an upgrade. Use: deb.sh [DIRECTORY], where the packages are put
 set -euo pipefail
 cd "$(dirname "$0")/.."
 into=${1:-.}
@@ -37,17 +38,21 @@ doc=$root/usr/share/doc/ocfexec
 
 install -D -m 755 "$program" "$root/usr/bin/ocfexec"
 install -D -m 755 "$agents" "$root/usr/lib/ocf/resource.d/ocfexec/Dummy"
+launcher/build.sh "$root/usr/bin/ocfexec-run-agent"
 if command -v strip > /dev/null; then
-    strip "$root/usr/bin/ocfexec" "$root/usr/lib/ocf/resource.d/ocfexec/Dummy"
+    strip "$root"/usr/bin/* "$root/usr/lib/ocf/resource.d/ocfexec/Dummy"
 fi
 ln -s Dummy "$root/usr/lib/ocf/resource.d/ocfexec/Stateful"
 install -D -m 644 docs/ocfexec.8 "$root/usr/share/man/man8/ocfexec.8"
 gzip -9n "$root/usr/share/man/man8/ocfexec.8"
 mkdir -p "$root/usr/libexec/ocfexec" "$doc/docs" "$doc/examples"
 install -m 755 examples/client.py examples/client.sh examples/with-executor.sh "$root/usr/libexec/ocfexec"
-install -m 644 examples/ocfexec.py examples/resources.py "$root/usr/libexec/ocfexec"
+install -m 644 examples/agents.py examples/kept.py examples/output.py examples/resources.py "$root/usr/libexec/ocfexec"
+# the client has a library of its own version beside it, whichever version of python3-ocfexec is installed, if any
+install -d "$root/usr/libexec/ocfexec/ocfexec"
+install -m 644 python/ocfexec/*.py python/ocfexec/py.typed "$root/usr/libexec/ocfexec/ocfexec"
 install -m 644 README.md "$doc"
-install -m 644 docs/GUIDE.md docs/FORMAT.md docs/protocol.schema.json docs/resources.schema.json docs/CLUSTER.md "$doc/docs"
+install -m 644 docs/GUIDE.md docs/CLIENTS.md docs/FORMAT.md docs/protocol.schema.json docs/resources.schema.json docs/CLUSTER.md "$doc/docs"
 cp -R examples/*.sh examples/*.py examples/*.jsonl examples/*.service examples/*.socket examples/resource.d examples/cluster "$doc/examples"
 # the units of this package: with its own paths, and the executor's options of the client from a file that an administrator keeps
 mkdir -p "$root/lib/systemd/system" "$root/etc/default" "$root/etc/ocfexec"
@@ -73,7 +78,10 @@ echo "$changelog" | gzip -9n > "$doc/changelog.gz"
 
 mkdir -p "$root/usr/share/lintian/overrides"
 printf '%s\n' "# a removal ends the unit by a signal that leaves services running, for which there is no deb-systemd-invoke" \
-    "ocfexec: maintainer-script-calls-systemctl *" > "$root/usr/share/lintian/overrides/ocfexec"
+    "ocfexec: maintainer-script-calls-systemctl *" \
+    "# a program that only ocfexec runs, with each agent; static, since that one starts sooner" \
+    "ocfexec: statically-linked-binary [usr/bin/ocfexec-run-agent]" "ocfexec: no-manual-page [usr/bin/ocfexec-run-agent]" \
+    > "$root/usr/share/lintian/overrides/ocfexec"
 mkdir "$root/DEBIAN" && install -m 755 package/postinst package/prerm package/postrm "$root/DEBIAN"
 echo /etc/default/ocfexec > "$root/DEBIAN/conffiles"
 (cd "$root" && find . -path ./DEBIAN -prune -o -type f -printf '%P\0' | sort -z | xargs -0 md5sum) > "$root/DEBIAN/md5sums"
@@ -81,11 +89,12 @@ echo /etc/default/ocfexec > "$root/DEBIAN/conffiles"
 {
     awk '!length { exit } /^(Maintainer|Section|Priority):/' "$debian/control"
     awk -v version="$version" -v size="$(du -sk "$root" | cut -f 1)" '
-        /^Package:/ { is_package = 1 }
-        /^Description:/ { print "Version: " version "\nInstalled-Size: " size }
-        is_package' "$debian/control" | sed 's/\${shlibs:Depends}/libc6 (>= 2.34)/'
+        /^Package:/ { is_package = $2 == "ocfexec" }
+        is_package && /^Description:/ { print "Version: " version "\nInstalled-Size: " size }
+        is_package && NF' "$debian/control" | sed 's/\${shlibs:Depends}/libc6 (>= 2.34)/'
 } > "$root/DEBIAN/control"
 find "$root" -type d -exec chmod 755 {} +
 file=$into/ocfexec_${version}_$(dpkg --print-architecture).deb
 dpkg-deb --root-owner-group --build "$root" "$file" > /dev/null
+package/python_deb.sh "$version" "$debian" "$into" <<< "$changelog" > /dev/null
 echo "$file"

@@ -163,8 +163,8 @@ through() {
         differs 'a start through cat' 'done with code 1' "$(cat "$here/out")"
 }
 
-# Agents that cannot be run: there is none, its directory is a file, it may not be run, it is a directory, it has no first line, and the
-# program that its first line names is missing.
+# Agents that cannot be run: there is none, its directory is a file, it may not be run, it is a directory; and, where agents are spawned
+# without groups, by the executor itself, it has no first line, and the program that its first line names is missing.
 refused() {
     printf '#!/bin/sh\nexit 0\n' > "$agents/Denied"
     chmod 644 "$agents/Denied"
@@ -181,7 +181,7 @@ refused() {
         printf '{"op":"meta","provider":"%s","type":"%s"}\n' "${agent%/*}" "${agent#*/}"
     done > "$here/lines"
     printf '{"op":"drain"}\n' >> "$here/lines"
-    "$program" run --memory --root "$here/root" < "$here/lines" > "$here/replies" 2> "$here/err"
+    "$program" run --memory --no-groups --root "$here/root" < "$here/lines" > "$here/replies" 2> "$here/err"
     grep '"end"' "$here/replies" > "$here/out"
     printf '{"end":"%s"}\n' missing other denied denied other missing idle > "$here/wanted"
     replied 'metadata of agents that cannot be started'
@@ -192,15 +192,26 @@ refused() {
         'meta-data of test:Bare' 'Exec format error (os error 8)' 'run 2 of r2' 'Not a directory (os error 20)' \
         'run 5 of r5' 'Exec format error (os error 8)' > "$here/wanted"
     is_wanted 'why agents cannot be started' "$here/err"
+    grep -v -e r5 -e r6 -e Bare -e Lost "$here/lines" > "$here/first"
+    "$program" run --memory --root "$here/root" < "$here/first" > "$here/replies" 2> "$here/err"
+    printf 'start not-started %s\n' 5 1 4 4 > "$here/wanted"
+    outcomes "$here/replies" > "$here/out"
+    replied 'agents with groups of their own that cannot be started'
+    printf 'ocfexec: %s was not started: %s\n' 'meta-data of file:Below' 'Not a directory (os error 20)' \
+        'run 2 of r2' 'Not a directory (os error 20)' > "$here/wanted"
+    is_wanted 'why agents with groups of their own cannot be started' "$here/err"
 }
 
-# An agent that ignores the signal to end is killed at its timeout, and its service stays.
+# An agent that ignores the signal to end is killed at its timeout, with what it started.
 stubborn() {
     printf 'trap "" TERM INT HUP\nsleep 60 & echo $! > "%s"\nwhile :; do :; done\n' "$here/left" > "$agents/Stubborn"
     { register r1 Stubborn; start r1 300; printf '{"op":"drain"}\n'; } > "$here/lines"
     play
     same 'an agent that ignores SIGTERM' 'start timed-out 1' "$(outcomes "$here/out")"
-    kill "$(cat "$here/left")" 2> /dev/null || differs 'what a killed agent has started' 'alive' 'gone'
+    # (a killed process may be there as a zombie, until it is waited for)
+    local state
+    state=$(sed -n 's/^State:[[:space:]]*\(.\).*/\1/p' "/proc/$(cat "$here/left")/status" 2> /dev/null)
+    same 'what a killed agent has started' '' "${state//[ZX]/}"
 }
 
 # The inheritance of an agent, from a program that has another descriptor, ignores SIGPIPE, blocks no signal and has a umask of 027.
@@ -252,10 +263,12 @@ SHOWN
 crowd() {
     printf 'exec sleep 60\n' > "$agents/Sleeps"
     feed "$here/out" run --memory --root "$here/root" --via sh
-    local descriptors
+    local descriptors first
     echo '{"op":"list"}' >&3
     awaits 1 '"ok"' "$here/out"
     descriptors=$(ls "/proc/$pid/fd" | wc -l)
+    # (a process that sends signals)
+    first=$(wc -w < "/proc/$pid/task/$pid/children")
     {
         for n in $(seq 1 256); do register "r$n" Sleeps; done
         for n in $(seq 1 256); do start "r$n" 4000; done
@@ -279,10 +292,9 @@ crowd() {
     exec 3>&-
     wait "$pid" || differs 'the status of a run of 256 agents' 0 $?
     echo "256 agents: $most at once, $resident KB resident"
-    # (a signal is sent by a process of its own)
-    [ "$most" -eq 256 ] || [ "$most" -eq 257 ] || differs 'agents at once' '256, and one that sends signals at most' "$most"
+    same 'agents at once' 256 $((most - first))
     [ "$resident" -le 40000 ] || differs 'resident KB' 'at most 40000' "$resident"
-    same 'processes left' 0 "$left"
+    same 'processes left' "$first" "$left"
     same 'descriptors left' "$descriptors" "$left_open"
     same 'timeouts' '257 start timed-out 1' "$(outcomes "$here/out" | sort | uniq -c | sed 's/^ *//')"
 }

@@ -109,12 +109,12 @@ class Clock(helper.Check):
         self.assertEqual((done.returncode, done.stderr), (0, b""))
         return re.sub(" +", " ", done.stdout.decode())
 
-    def copied(self, name, executor=None):
-        # only the parts, and the file of the executor with this text
-        shutil.copytree(self.place("journal"), self.place(name), ignore=shutil.ignore_patterns("executor*"))
-        if executor is not None:
-            with open(os.path.join(self.place(name), "executor"), "w", encoding="ascii") as file:
-                file.write(executor)
+    def copied(self, name, agents=None):
+        # only the parts, and the file of the agents with these bytes
+        shutil.copytree(self.place("journal"), self.place(name), ignore=shutil.ignore_patterns("agents*"))
+        if agents is not None:
+            with open(os.path.join(self.place(name), "agents"), "wb") as file:
+                file.write(agents)
         return name
 
     def is_true_to(self, table, seconds):
@@ -140,16 +140,29 @@ class Clock(helper.Check):
         run.run.wait()
         self.is_true_to(self.status(-3600), 5 + time.monotonic() - began)
 
+    def test_status_ahead(self):
+        """a status of a journal in use that is ten years ahead of the clock"""
+        began = time.monotonic()
+        self.set_ahead(YEARS)
+        run = self.monitored()
+        run.run.kill()
+        run.run.wait()
+        self.set_ahead(0)
+        run = self.shimmed("--journal", self.place("journal"), word="serve")
+        run.awaits(lambda value: helper.is_notice(value, action="monitor"))
+        self.is_true_to(self.status(0, "journal", "r2"), 5 + time.monotonic() - began)
+
     def test_status_alone(self):
         """a status of only the parts, the clock set back and forward"""
         began, run = time.monotonic(), self.monitored()
         run.run.kill()
         run.run.wait()
-        with open(os.path.join(self.place("journal"), "executor"), encoding="ascii") as file:
-            values = file.read().split()
-        files = [None, "", "no executor\n", " ".join(["0" * 36, *values[1:]]) + "\n", " ".join(values[:3]) + "\n"]
-        for place, executor in enumerate(files):
-            name = self.copied(f"copy{place}", executor)
+        with open(os.path.join(self.place("journal"), "agents"), "rb") as file:
+            text = file.read()
+        boot = text.split()[1]
+        files = [None, b"", b"no agents\n", text.replace(boot, b"0" * 36, 1), text.replace(boot, boot[1:], 1), text[:-1], text[1:]]
+        for place, agents in enumerate(files):
+            name = self.copied(f"copy{place}", agents)
             self.is_true_to(self.status(0, name), 5 + time.monotonic() - began)
             table = self.status(-3600, name)
             self.assertIn("r1 test:Sleeper never run start since a moment in the future by the clock\n", table)

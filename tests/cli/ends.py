@@ -1,6 +1,6 @@
 #!/usr/bin/env python3
 """Both ends of a session. A reader that goes away ends a drain, a watch, a waiting run and a serving one within a second, with its agents,
-and an opening that waits for orphans. Descriptors that do not block are waited for. Lines come a byte at a time, break off, or are a
+and a drain that waits for an orphan. Descriptors that do not block are waited for. Lines come a byte at a time, break off, or are a
 million at once. After a device fault a run waits, too. Starts with ignored signals name them. Starts are refused if SIGCHLD is ignored or
 the root is not absolute.
 Use: ends.py PROGRAM"""
@@ -22,13 +22,13 @@ class Ends(helper.Check):
     def pid_in(self, path):
         return self.numbers_in(path)[0]
 
-    def ends_unheard(self, run):
-        # its status and its first word, within a second after its reader has gone
+    def ends_unheard(self, run, before=""):
+        # its status and its last line, within a second after its reader has gone
         run.stdout.close()
         began = time.monotonic()
         self.assertEqual(run.wait(helper.PATIENCE), 7)
         self.took_less(1.5, time.monotonic() - began, "an end after the last reader")
-        self.assertEqual(run.stderr.read().decode(), "ocfexec: input or output\n")
+        self.assertRegex(run.stderr.read().decode(), rf"\A{before}ocfexec: input or output\n\Z")
         run.stderr.close()
         run.stdin.close()
 
@@ -64,24 +64,25 @@ class Ends(helper.Check):
         self.gone("run", {"op": "drain", "limit": 300}, until=b'{"end":"limit"}\n')
 
     def test_orphans(self):
-        """a reader that goes away while an opening waits for orphans: nothing is recorded, and the orphans live on"""
-        self.agent("Sleeper", 'echo $$ > "$OCF_RESKEY_pid"\nsleep 60\n')
+        """a reader that goes away while a drain waits for what an interrupted action left: that lives on"""
+        self.agent("Sleeper", 'echo $$ > "$OCF_RESKEY_pid"\nexec sleep 600\n')
         folder, pid_file = self.journal(), self.place("pid")
-        words = ["run", "--journal", folder, "--root", self.here, "--orphans"]
-        first = self.heard(*words, "0")
-        first.tell(helper.register("r1", "Sleeper", pid=pid_file), helper.action("r1", "start", timeout=60000), {"op": "drain"})
+        words = ["run", "--journal", folder, "--root", self.here, "--orphans", "600000"]
+        first = self.heard(*words)
+        first.tell(helper.register("r1", "Sleeper", pid=pid_file), helper.action("r1", "start", timeout=600_000), {"op": "drain"})
         pid = self.pid_in(pid_file)
+        self.addCleanup(lambda: helper.is_alive(pid) and os.kill(pid, 9))
         first.killed()
-        before = helper.parts(folder)
-        waiting = subprocess.Popen([PROGRAM, *words, "60000"], stdin=subprocess.PIPE, stdout=subprocess.PIPE, stderr=subprocess.PIPE)
+        waiting = subprocess.Popen([PROGRAM, *words], stdin=subprocess.PIPE, stdout=subprocess.PIPE, stderr=subprocess.PIPE)
         self.addCleanup(waiting.kill)
-        time.sleep(1)
-        self.ends_unheard(waiting)
-        self.assertEqual(helper.parts(folder), before)
+        waiting.stdin.write(helper.lines(helper.action("r1", "stop"), {"op": "drain"}))
+        waiting.stdin.flush()
+        found = [helper.value_of(waiting.stdout.readline()) for _ in range(2)]
+        self.assertEqual((found[0]["outcome"], found[1]["ok"]), ("interrupted", True))
+        self.ends_unheard(waiting, r"ocfexec: .*\br1\b.*\n")
         self.assertTrue(helper.is_alive(pid), "what is left goes on")
-        last = helper.run(*words, "0")
-        self.assertEqual([value["outcome"] for value in helper.replies(last.stdout)], ["interrupted"])
-        self.assertFalse(helper.is_alive(pid), "what is left is ended")
+        last = helper.run(*words)
+        self.assertEqual([value["outcome"] for value in helper.replies(last.stdout)], ["dropped"])
 
     def not_blocking(self, word):
         # two thousand lines come in pieces, and their replies are read late

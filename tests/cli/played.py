@@ -205,26 +205,26 @@ class Rows(Played):
 class Asked(Played):
     def test_run(self):
         """the requests of a run over a directory, in their order"""
-        words = "--journal /j --root /r --path /p --via v --meta-variables --orphans 7 --leave-orphans --any-owner --log l --logs d"
+        words = ("--journal /j --root /r --path /p --via v --meta-variables --no-groups --orphans 7 --leave-orphans --any-owner --log l "
+                 "--logs d")
         run = self.ends("0", [OK], "directory /j", "clock 500", *lines(REG), f"ocfexec run {words}")
         self.assertEqual(run.asked(), [
-            "ignored", "signals", "log l d", "files /j yes", "reader", "agents 768", "watch -", "orphans /j 7 yes 1", "site /r /p v yes",
-            "moment 500", "word /j 500", "source /r /p v yes", "writer -", "give-up", "ran well", "ended 0"])
+            "ignored", "signals", "log l d", "files /j yes", "reader", "agents /j 7 yes no 768", "watch -", "moment 500", "moment 500",
+            "source /r /p v yes", "groups no", "writer -", "give-up", "ran well", "ended 0"])
 
     def test_serve(self):
         """the requests of a serving run: its directory is watched; by default agents are where the manual page says"""
         run = self.ends("0", [OK], "directory /j", *lines(REG), "ocfexec serve --journal /j")
         self.assertEqual(run.asked(), [
-            "ignored", "signals", "log - -", "files /j no", "reader", "agents 768", "watch /j", "orphans /j 20000 no 1",
-            f"site {ROOT} {PATH} - no", "moment 0", "word /j 0", f"source {ROOT} {PATH} - no", "writer /j", "give-up", "ran well",
-            "ended 0"])
+            "ignored", "signals", "log - -", "files /j no", "reader", "agents /j 20000 no yes 768", "watch /j", "moment 0", "moment 0",
+            f"source {ROOT} {PATH} - no", "groups yes", "writer /j", "give-up", "ran well", "ended 0"])
         self.is_ready(run)
 
     def test_memory(self):
-        """a run in memory requests no directory, waits for nothing and writes nothing on standard error"""
+        """a run in memory requests no directory and writes nothing on standard error"""
         run = self.ends("0", [], "ocfexec serve --memory")
-        self.assertEqual(run.asked(), ["ignored", "signals", "log - -", "reader", "agents 768", "watch -", "moment 0",
-                                       f"source {ROOT} {PATH} - no", "writer -", "give-up", "ran well", "ended 0"])
+        self.assertEqual(run.asked(), ["ignored", "signals", "log - -", "reader", "agents - 20000 no yes 768", "watch -", "moment 0",
+                                       f"source {ROOT} {PATH} - no", "groups yes", "writer -", "give-up", "ran well", "ended 0"])
         self.is_ready(run, journal=None)
 
     def test_site(self):
@@ -253,7 +253,7 @@ class Asked(Played):
         self.assertEqual(run.asked(), ["once heartbeat:Dummy start", f"site /r {PATH} - no", "ended 77"])
 
     def test_left(self):
-        """serve names an orphan by its number, run does not; the wait for it comes before the moment of the opening"""
+        """serve names an orphan by its number, run does not; orphans are looked for before the moment of the opening"""
         running = part_a(registered(), executed(10, 1, START), begun(10, 1, 1))
         for word, keys in [("run", {}), ("serve", {"lives": 4711})]:
             run = self.play("directory /j", running, "left 1 4711", "clock 500", f"ocfexec {word} --journal /j --leave-orphans")[0]
@@ -264,7 +264,16 @@ class Asked(Played):
                 self.assertEqual(said[:2], [run.out[0], run.ready[0]], "it is ready behind the report")
                 self.is_ready(run, interrupted=1, resources=1)
             asked = run.asked()
-            self.assertLess(asked.index("orphans /j 20000 yes 2"), asked.index("moment 500"))
+            self.assertLess(asked.index("agents /j 20000 yes yes 768"), asked.index("moment 500"))
+
+    def test_ahead(self):
+        """a run over a journal that is ahead of the clock records what its own clock shows"""
+        once = ["poll exited 0", *lines(REG, action("r1", "start"), DRAIN), "ocfexec run --journal /j"]
+        before, after = self.play("directory /j", "clock 5000", *once, "clock 100", *lines(LIST), "ocfexec run --journal /j")
+        self.assertEqual([word for word in before.asked() if word.startswith("recorded")], [])
+        recorded = [word.split(" ") for word in after.asked() if word.startswith("recorded")]
+        self.assertEqual([words[:2] for words in recorded], [["recorded", "/j"]])
+        self.assertGreaterEqual(int(recorded[0][2]), 5000)
 
     def test_events(self):
         """--events: a line for each result, marked if standard error is the system's journal"""
@@ -289,13 +298,12 @@ class Fails(Played):
 
     def test_before(self):
         """each call before the opening fails in turn: no request follows, and nothing is written"""
-        run, before = "ocfexec run --journal /j --log l", ["ignored", "signals", "log l -", "files /j no", "reader", "agents 768"]
+        run, before = "ocfexec run --journal /j --log l", ["ignored", "signals", "log l -", "files /j no", "reader",
+                                                          "agents /j 20000 no yes 768"]
         for word, ended, count in [("ignored", "8 SIGCHLD is ignored", 1), ("log", "7 input or output", 3), ("files", "5 disk", 4),
                                    ("reader", "4 memory", 5), ("agents", "4 memory", 6)]:
             self.fails(ended, before[:count], "directory /j", f"fail {word}", *self.TOLD, run)
         self.fails("5 disk", before[:4], *self.TOLD, run)
-        unheard = ["watch -", "orphans /j 20000 no 1", f"site {ROOT} {PATH} - no", "unheard"]
-        self.fails("7 input or output", before + unheard, "directory /j", "fail orphans", *self.TOLD, run)
 
     def test_device(self):
         """each device call fails in turn: the run ends with 5, reports the fault, and everything acknowledged is found again"""

@@ -154,20 +154,19 @@ class Ready(Service):
         run = self.serves("--journal", folder)
         self.is_ready(run, journal=folder, resources=3)
 
-    def test_waits(self):
-        """it is not ready while its opening waits for orphans of an interrupted action"""
-        folder = self.journal()
-        run = self.serves("--journal", folder, start_new_session=True)
-        self.asked(run, register("a", "Ends", code="sleep"), action("a", "start", timeout=60_000))
-        self.eventually("it runs", lambda: self.asked(run, {"op": "info", "id": "a"})[0]["running"])
-        time.sleep(0.2)
+    def test_orphan(self):
+        """it is ready while an orphan of an interrupted action lives, whose number is in the report"""
+        folder, begun = self.journal(), self.place("begun")
+        self.agent("Notes", 'echo $$ > "$OCF_RESKEY_begun"\nexec sleep 600\n')
+        run = self.serves("--journal", folder)
+        self.asked(run, register("a", "Notes", begun=begun), action("a", "start", timeout=600_000))
+        [pid] = self.numbers_in(begun)
+        self.addCleanup(lambda: helper.is_alive(pid) and os.kill(pid, 9))
         run.killed()
-        began = time.monotonic()
-        run = self.serves("--journal", folder, "--orphans", "700", start_new_session=True)
-        run.tell(LIST)
+        run = self.serves("--journal", folder)
         self.is_ready(run, journal=folder, interrupted=1, resources=1)
-        self.assertGreaterEqual(time.monotonic() - began, 0.7)
-        self.assertEqual([value.get("outcome") for value in run.values()][0], "interrupted")
+        self.assertTrue(helper.is_alive(pid), "it lives")
+        self.assertEqual([helper.value_of(line)["lives"] for line in run.said[:-1]], [pid])
         self.assertEqual(run.ends(), 0)
 
     def test_not_opened(self):

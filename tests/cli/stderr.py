@@ -53,7 +53,7 @@ def taken(pipe):
 class StandardError(helper.Check):
     def setUp(self):
         super().setUp()
-        # the system does not start a file without a first line
+        # the system itself does not start a file without a first line
         self.agent("Bare", "")
         with open(self.place("resource.d/test/Bare"), "w", encoding="ascii") as script:
             script.write("exit 0\n")
@@ -87,21 +87,30 @@ class StandardError(helper.Check):
         os.chmod(self.place("resource.d/test/Denied"), 0o644)
         with open(self.place("resource.d/file"), "w", encoding="ascii"):
             pass
-        run = self.opened()
-        run.tell(helper.register("r1", "Bare"), helper.register("r2", "Loop"), helper.register("r3", "Below", provider="file"),
-                 helper.register("r4", "Missing"), helper.register("r5", "Denied"))
-        for name in ("r1", "r2", "r3", "r4", "r5"):
-            self.starts(run, 1, name)
-        self.assertEqual([end["code"] for end in run.told()], [1, 1, 1, 5, 4])
-        wanted = [refused(1, "r1", EXEC_FORMAT), refused(2, "r2", "Too many levels of symbolic links (os error 40)"),
-                  refused(3, "r3", "Not a directory (os error 20)")]
-        self.assertEqual(taken(self.reader), "".join(wanted))
+        for words in (["serve", "--memory"], ["serve", "--memory", "--no-groups"]):
+            with self.subTest(words):
+                run = self.opened(*words)
+                run.tell(helper.register("r2", "Loop"), helper.register("r3", "Below", provider="file"), helper.register("r4", "Missing"),
+                         helper.register("r5", "Denied"))
+                for name in ("r2", "r3", "r4", "r5"):
+                    self.starts(run, 1, name)
+                self.assertEqual([end["code"] for end in run.told()], [1, 1, 5, 4])
+                wanted = [refused(1, "r2", "Too many levels of symbolic links (os error 40)"),
+                          refused(2, "r3", "Not a directory (os error 20)")]
+                self.assertEqual(taken(self.reader), "".join(wanted))
+
+    def test_bare(self):
+        """so is one without a first line, if the executor runs it itself"""
+        run = self.opened("serve", "--memory", "--no-groups")
+        run.tell(helper.register("r1", "Bare"))
+        self.starts(run, 1)
+        self.assertEqual(taken(self.reader), refused(1, "r1", EXEC_FORMAT))
 
     def test_descriptors(self):
         """so is one for which no descriptor is left, with and without a log"""
         for words in ([], ["--log", self.place("log")]):
             with self.subTest(words):
-                run = self.opened("serve", "--memory", *words)
+                run = self.opened("serve", "--memory", "--no-groups", *words)
                 run.tell(helper.register("r1", "Bare"), {"op": "list"})
                 run.awaits(lambda value: "resources" in value)
                 hard = resource.prlimit(run.run.pid, resource.RLIMIT_NOFILE)[1]
@@ -111,7 +120,7 @@ class StandardError(helper.Check):
 
     def test_metadata(self):
         """so is a question for metadata"""
-        run = self.opened()
+        run = self.opened("serve", "--memory", "--no-groups")
         for kind in ("Bare", "Missing"):
             run.tell({"op": "meta", "provider": "test", "type": kind})
         run.awaits(lambda value: value == {"end": "missing"})
@@ -132,7 +141,7 @@ class StandardError(helper.Check):
     def test_full(self):
         """a full pipe delays no reply and no notice, and the next line that is written has the number of lines left out"""
         fill(self.writer)
-        run = self.opened()
+        run = self.opened("serve", "--memory", "--no-groups")
         run.tell(helper.register("r1", "Bare"))
         self.starts(run, 3)
         self.assertEqual(set(taken(self.reader)), {"x"})
@@ -161,7 +170,7 @@ class StandardError(helper.Check):
         run.tell(helper.register("r1", "Stuck"), helper.action("r1", "start", timeout=500))
         _, notice = run.awaits(helper.is_notice)
         self.assertEqual(notice["outcome"], "timed-out")
-        self.assertRegex(taken(self.reader), r"\Aocfexec: pid \d+ \(Stuck\) of run 1 is still alive after SIGKILL\n")
+        self.assertRegex(taken(self.reader), r"\Aocfexec: r1 waits for pid \d+ \(Stuck\) of start, which is still alive after SIGKILL\n")
 
     def test_cut(self):
         """a line is cut at 4,096 bytes, its newline among them"""
@@ -238,7 +247,7 @@ class StandardError(helper.Check):
 
     def test_gone(self):
         """a reader that goes away stops nothing"""
-        run = self.opened()
+        run = self.opened("serve", "--memory", "--no-groups")
         run.tell(helper.register("r1", "Bare"))
         os.close(self.reader)
         self.starts(run, 2)

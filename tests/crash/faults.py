@@ -49,7 +49,8 @@ class Faults(helper.Check):
         self.assertEqual(status, 5)
         self.assertEqual(run.values()[-1], LINE, "the last line")
         with open(self.err, encoding="utf-8") as file:
-            told = file.read().splitlines()
+            # (the entries of agents that are given up cannot be removed there either)
+            told = [line for line in file.read().splitlines() if not line.startswith("ocfexec: file agents: ")]
         self.assertTrue(told and told[0].startswith("ocfexec: disk"), told)
 
     def interrupted(self, journal):

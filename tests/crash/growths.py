@@ -178,10 +178,8 @@ class Growths(helper.Check):
             self.open_gate()
         played = Played()
         reader, writer = os.pipe()
-        # in a session of its own: a run ends the background jobs of its session that name its resource, and other runs go on at the same
-        # time
         run = subprocess.Popen([PROGRAM, *words], stdin=subprocess.PIPE, stdout=subprocess.PIPE, stderr=writer,
-                               env={**self.environment(refuse), **helper.journal_stream(writer)}, start_new_session=True)
+                               env={**self.environment(refuse), **helper.journal_stream(writer)})
         os.close(writer)
         guard = threading.Timer(15, run.kill)
         guard.start()

@@ -1,16 +1,14 @@
 #!/usr/bin/env python3
-"""Kills `PROGRAM run` with signal 9 while its agents run, and opens its journal again at once, from another session. Wanted: the
-interruption is recorded and reported only when the orphans of the action have ended, or were ended at the action's own timeout, or at the
-limit of `--orphans`, with everything that they started; also if the executor that waited for them was killed in turn. Orphans are found if
-the agent replaced itself by another program, and if only a child of it is left; a daemon lives on. With `--leave-orphans` they live on, are
-named, and in `serve` the notice has the number. An agent that dies with its executor is not waited for. A client that stops interrupted
-resources, probes them and starts them again, with many kills at random moments, never finds one up after a stop that succeeded, and never
-twice.
+"""Kills an executor with signal 9 while its agents run, and opens its journal again. Wanted: the opening reports the interruption and is
+ready at once, with the number of an orphan that lives. Until that has ended with its whole group, by itself or at the end of its time, its
+resource begins nothing, whatever the orphan has made of itself; commands for it are queued, `status` and standard error name what is waited
+for, and all other resources go on. The same if this executor is killed in turn. A daemon lives on; with `--leave-orphans` nothing is waited
+for and nothing is ended. A client that stops interrupted resources, probes them and starts them again, with many kills at random moments,
+never finds one up after a stop that succeeded, and never twice.
 Use: orphans.py PROGRAM, with ROUNDS and SEED in the environment"""
-import contextlib
-import glob
 import os
 import random
+import re
 import shutil
 import signal
 import sys
@@ -18,13 +16,46 @@ import time
 import unittest
 
 sys.path[0] += "/../lib"
+import acting  # noqa: E402
 import helper  # noqa: E402
 
+# An action of the resource whose start was interrupted, which notes each process of that start that still lives.
+BESIDE = """#!/bin/sh
+for note in {up}/orphan*; do
+    [ -e "$note" ] || continue
+    while read -r pid; do
+        read -r stat 2> /dev/null < "/proc/$pid/stat" || continue
+        case ${{stat##*) }} in [ZX]*) ;; *) echo "$pid" >> {up}/beside ;; esac
+    done < "$note"
+done
+echo $$ >> {up}/stops
+"""
+# A start whose agent waits for a process at the gate; each notes its number.
+START = "echo $$ > UP/orphan-agent; WAITS orphan; :"
+# What an agent may make of itself, so that neither its arguments nor its environment tell what it is; it is at the gate, too.
+FORMS = {
+    "another program": "echo $$ > UP/orphan-agent; exec sh -c 'HERE/waits orphan; :'",
+    "exec env -i": "echo $$ > UP/orphan-agent; exec env -i /bin/sh HERE/waits orphan",
+    "exec setsid": "echo $$ > UP/orphan-agent; exec env -i setsid -w HERE/waits orphan",
+}
+# a user with another environment, and in a session of its own
+FORMS_OF_ROOT = {
+    "su -c": "echo $$ > UP/orphan-agent; exec su -s /bin/sh -c 'HERE/waits orphan' USER",
+    "su -l": "echo $$ > UP/orphan-agent; exec su -l -s /bin/sh -c 'HERE/waits orphan' USER",
+}
+# A process in the agent's group whose parent has ended; the agent waits for something else.
+LEFT = "echo $$ > UP/agent; (HERE/waits orphan < /dev/null > /dev/null 2>&1 &); exec sleep 600"
+# A start whose service becomes a daemon, in a session of its own, as soon as the gate was opened.
+DAEMON = """#!/bin/sh
+echo $$ > {up}/daemon
+exec sleep 600
+"""
+DETACHES = "(setsid HERE/daemon < /dev/null > /dev/null 2>&1 &); until [ -s UP/daemon ]; do sleep 0.05; done"
+BECOMES = f"echo $$ > UP/orphan-agent; WAITS orphan; {DETACHES}"
+# An agent with a service that notes how many of it are up.
 SLOW = """case $1 in
 start)
-    : > "$OCF_RESKEY_begun"
     sleep "$OCF_RESKEY_time"
-    # how many of it are up, with this one
     : > "$OCF_RESKEY_up/$$"
     ls "$OCF_RESKEY_up" | wc -l >> "$OCF_RESKEY_log"
     ;;
@@ -38,237 +69,454 @@ def does(action):
     return [helper.action("r1", action, timeout=10000), {"op": "drain"}]
 
 
-def ended(values):
-    return [(value["action"], value["outcome"], value["code"]) for value in values if helper.is_notice(value)]
-
-
-class Orphans(helper.Check):
+class Orphans(acting.Acting):
     def setUp(self):
         super().setUp()
-        self.agent("Slow", SLOW)
-        self.begun, self.up, self.log, self.err = (self.place(name) for name in ("begun", "up", "log", "err"))
-        os.mkdir(self.up)
         self.folder = self.journal()
+        for name, text in (("beside", BESIDE), ("daemon", DAEMON)):
+            self.script(name, text.format(up=self.up))
 
-    def register(self, seconds):
-        return helper.register("r1", "Slow", begun=self.begun, log=self.log, time=str(seconds), up=self.up)
+    def serves(self, *words, way="serve", **how):
+        # (on a busy machine a check may take longer than an orphan has by default)
+        words = words if "--orphans" in words else ("--orphans", "600000", *words)
+        return self.opened("--journal", self.folder, *words, way=way, **how)
 
-    def opened(self, *words, via="sh", way="run", **how):
-        # each executor has a session of its own, as under systemd
-        words = [way, "--journal", self.folder, "--root", self.here, *(["--via", via] if via else []), *words]
-        return self.heard(*words, err=self.err, start_new_session=True, **how)
+    def left(self, start=START, timeout=600_000, names=("orphan-agent", "orphan"), words=(), end=signal.SIGKILL):
+        """Leaves a journal whose executor was ended during a start, with a second resource; returns the numbers of what it left."""
+        run = self.serves(*words)
+        start = start.replace("USER", acting.user() or "")
+        run.tell(self.register(start=start, stop="HERE/beside", monitor=acting.MONITOR), self.register("r2", start="exit 0"),
+                 helper.action("r1", "start", timeout=timeout))
+        pids = [self.pid(name) for name in names]
+        run.run.send_signal(end)
+        run.run.wait()
+        self.assertEqual([pid for pid in pids if not helper.is_alive(pid)], [], f"the start goes on without its executor; {self.seen()}")
+        return pids
 
-    def said(self):
-        with open(self.err, encoding="utf-8") as err:
-            return err.read()
+    def reports(self, run, pid=None):
+        """The executor is ready, and its report is the interruption of the start, with this number."""
+        run.ready()
+        [value] = [helper.value_of(line) for line in run.said[:-1]]
+        self.assertEqual((value["id"], value["action"], value["outcome"]), ("r1", "start", "interrupted"))
+        self.assertEqual(value.get("lives"), pid, self.seen())
 
-    def left(self, via="sh", timeout=10000, seconds=3):
-        """Leaves a journal whose executor was killed during a start of this many seconds, and returns the moment of the kill."""
-        running = self.opened(via=via)
-        running.tell(self.register(seconds), helper.action("r1", "start", timeout=timeout), {"op": "drain"})
-        self.eventually("the start is under way", lambda: os.path.exists(self.begun))
-        # (the agent, and the process that it waits for)
-        self.eventually("it waits for its child", lambda: len(self.living()) > 1)
-        running.killed()
-        return time.monotonic()
+    def reports_nothing(self, run):
+        run.ready()
+        self.assertEqual(run.said[:-1], [])
 
-    def reported(self, running):
-        # the first line of an opening is the report
-        _, first = running.awaits(lambda value: True)
-        self.assertIsNotNone(first, "a first line")
-        self.assertEqual(first.get("outcome"), "interrupted", first)
+    def goes_elsewhere(self, run):
+        """Another resource runs its actions."""
+        for what, code in (("start", 0), ("stop", 0), ("monitor", 7)):
+            end = self.done(run, "r2", what)
+            self.assertEqual((end["outcome"], end["code"]), ("done", code), self.seen())
 
-    def test_report_waits(self):
-        """a report comes after the end of the old start"""
-        self.left()
-        second = self.opened()
-        self.reported(second)
-        self.assertTrue(os.path.exists(self.log), "the old start has ended")
-        self.assertEqual((second.ends(), self.said()), (0, ""))
+    def is_held(self, run, pids):
+        """A command for the resource is accepted and waits while others run, as long as what the start left lives."""
+        reply = self.answered(run, helper.action("r1", "stop"))
+        self.assertIn("call", reply, "the command is accepted")
+        self.goes_elsewhere(run)
+        found = self.answered(run, {"op": "info", "id": "r1"})
+        self.assertEqual((found["queued"], found["running"]), ([reply["call"]], None), self.seen())
+        self.assertEqual(self.noted("stops"), [], "no stop has begun")
+        self.assertEqual([pid for pid in pids if not helper.is_alive(pid)], [], f"what is left goes on; {self.seen()}")
 
-    def test_waits_again(self):
-        """an executor that is killed as it waits has recorded nothing, and the next one reports everything"""
-        self.left()
-        before = helper.parts(self.folder)
-        self.opened().killed()
-        waiting = self.opened()
-        time.sleep(0.7)
-        self.assertFalse(os.path.exists(self.log), "the old start is under way")
-        waiting.killed()
-        self.assertEqual(waiting.values(), [], "no report before the old start has ended")
-        self.assertEqual(helper.parts(self.folder), before, "nothing is recorded before the old start has ended")
-        third = self.opened()
-        third.tell(*does("stop"))
-        self.reported(third)
-        self.assertTrue(os.path.exists(self.log), "no report before the old start has ended")
-        third.tell(*does("monitor"))
-        self.assertEqual(third.ends(), 0)
-        self.assertEqual(ended(third.values())[1:], [("stop", "done", 0), ("monitor", "done", 7)], "down after its stop")
+    def is_released(self, run):
+        """The stop runs, and found nothing of the start alive."""
+        [stop] = self.ends_of(run, "r1", "stop")
+        self.assertEqual((stop["outcome"], stop["code"]), ("done", 0), self.seen())
+        self.assertEqual(len(self.noted("stops")), 1, "one stop")
+        self.assertEqual(self.noted("beside"), [], f"what the start left had ended when the stop began; {self.seen()}")
 
-    def living(self):
-        """The processes that have the directory of the running services among their arguments."""
-        found = []
-        for path in glob.glob("/proc/[0-9]*/environ"):
-            with contextlib.suppress(OSError), open(path, "rb") as environ:
-                if f"OCF_RESKEY_up={self.up}".encode() in environ.read().split(b"\0"):
-                    found.append(path)
-        return found
+    def came_up(self):
+        self.assertEqual(len(self.noted("service")), 1, f"the service came up once; {self.seen()}")
 
-    def within(self, since, least, most):
-        took = time.monotonic() - since
-        self.assertGreaterEqual(took, least, "seconds to the report")
-        self.took_less(most, took, "waiting for the report")
+    def stays_down(self, pids):
+        """What the start left was ended, so that it never comes up."""
+        self.assertEqual([pid for pid in pids if helper.is_alive(pid)], [], self.seen())
+        self.assertFalse(self.opens_gate(), "nobody waits at the gate")
+        self.assertEqual(self.noted("service"), [], "the service never came up")
 
-    def named(self, milliseconds):
-        # what lives on past the limit; a process that the agent has just forked has the agent's command line, and is named too
-        since = self.left(seconds=10)
-        second = self.opened("--leave-orphans", "--orphans", str(milliseconds))
-        self.reported(second)
-        self.within(since, milliseconds / 1000, milliseconds / 1000 + 1.5)
-        self.assertNotEqual(self.living(), [], "the old start lives on")
-        self.assertEqual(second.ends(), 0)
-        err = self.said()
-        self.assertRegex(err, r"\A(ocfexec: pid \d+ of the interrupted start of r1 is left running\n)+\Z")
-        with open(f"/proc/{err.split()[2]}/cmdline", encoding="utf-8") as words:
-            self.assertEqual(words.read().split("\0")[1:3], [self.place("resource.d/test/Slow"), "start"], "the old start's pid")
+    def test_held(self):
+        """an orphan is reported at once, holds its resource and no other, and releases it when it has ended by itself"""
+        agent, orphan = self.left()
+        run = self.serves()
+        self.reports(run, agent)
+        self.is_held(run, [agent, orphan])
+        self.goes_on()
+        self.is_released(run)
+        self.came_up()
+        self.assertEqual(run.ends(), 0)
 
-    def test_named_at_once(self):
-        """an orphan is named at once and lives on, if it is neither waited for nor ended"""
-        self.named(0)
+    def test_ready(self):
+        """an opening with an orphan is ready within 0.2 s of the time that one without takes"""
+        pids = self.left()
+        other = self.journal("other")
+        done = helper.run("serve", "--journal", other, "--root", self.here, told=helper.lines(self.register("r1"), self.register("r2")))
+        self.assertEqual(done.returncode, 0)
+        took = {self.folder: [], other: []}
+        for _ in range(5):
+            for folder, times in took.items():
+                began = time.monotonic()
+                run = self.opened("--journal", folder)
+                run.ready()
+                times.append(time.monotonic() - began)
+                run.killed()
+        self.assertEqual([pid for pid in pids if not helper.is_alive(pid)], [], "the orphan lives in all of them")
+        with_orphan, without = min(took[self.folder]), min(took[other])
+        self.took_less(without + 0.2, with_orphan, f"an opening with an orphan, beside {without:.3f} s of one without")
 
-    def test_named_late(self):
-        """an orphan past the limit is named and lives on, if it is not ended"""
-        self.named(700)
+    def holds_form(self, start, names=("orphan-agent", "orphan")):
+        agent, orphan = self.left(start, names=names)
+        run = self.serves()
+        self.reports(run, agent)
+        self.is_held(run, [agent, orphan])
+        self.goes_on()
+        self.is_released(run)
+        self.came_up()
 
-    def test_lives(self):
-        """in serve the notice has the number of the orphan"""
-        self.left()
-        second = self.opened("--leave-orphans", "--orphans", "0", way="serve")
-        _, first = second.awaits(lambda value: True)
-        self.assertEqual(first["outcome"], "interrupted")
-        self.assertTrue(helper.is_alive(first["lives"]), "what is told as alive is")
-        self.assertIn(f"pid {first['lives']} of the interrupted start of r1", self.said())
+    def ends_form(self, start):
+        agent, orphan = self.left(start)
+        run = self.serves("--orphans", "1500")
+        self.reports(run, agent)
+        run.tell(helper.action("r1", "stop"))
+        self.is_released(run)
+        self.stays_down([agent, orphan])
 
-    def test_ended_at_the_limit(self):
-        """orphans past the limit are ended, with the processes that they wait for"""
-        since = self.left(seconds=30)
-        second = self.opened("--orphans", "700")
-        self.reported(second)
-        self.within(since, 0.7, 2.2)
-        second.tell(*does("stop"))
-        self.assertEqual(second.ends(), 0)
-        self.assertRegex(self.said(), r"\A(ocfexec: pid \d+ of the interrupted start of r1 is killed\n)+\Z")
-        self.assertEqual(self.living(), [], "nothing of the old start lives, so it never comes up")
-        self.assertFalse(os.path.exists(self.log), "the old start never came up")
+    def test_env(self):
+        """an agent that replaced itself by a program without an environment holds its resource"""
+        self.holds_form(FORMS["exec env -i"])
 
-    def test_ended_at_its_timeout(self):
-        """an orphan is ended at its own timeout, and a start stays down after the stop"""
-        since = self.left(timeout=1200, seconds=30)
-        second = self.opened()
-        self.reported(second)
-        self.within(since, 0, 2.5)
-        second.tell(*does("stop"), *does("monitor"))
-        self.assertEqual(second.ends(), 0)
-        self.assertEqual(ended(second.values())[1:], [("stop", "done", 0), ("monitor", "done", 7)])
-        self.assertEqual(self.living(), [], "nothing of the old start lives, so it never comes up")
-        self.assertFalse(os.path.exists(self.log), "the old start never came up")
-
-    def starts(self, text, name):
-        """Kills an executor during a start by an agent with this text, which leaves its process's number in a file; returns the number."""
-        self.agent("Other", text)
-        running = self.opened(via="")
-        file = self.place(name)
-        running.tell(helper.register("r1", "Other", file=file), helper.action("r1", "start", timeout=1500), {"op": "drain"})
-        pid = self.numbers_in(file)[0]
-        running.killed()
-        self.addCleanup(lambda: helper.is_alive(pid) and os.kill(pid, 9))
-        return pid
+    def test_env_ended(self):
+        """an agent without an environment is ended past its time"""
+        self.ends_form(FORMS["exec env -i"])
 
     def test_replaced(self):
-        """an agent that replaced itself by another program is found, and ended at its timeout"""
-        pid = self.starts("exec sh -c 'echo $$ > $OCF_RESKEY_file; sleep 30; :'\n", "pid")
-        second = self.opened(via="")
-        self.reported(second)
-        self.assertFalse(helper.is_alive(pid), "it has ended before the report")
+        """an agent that replaced itself by another program is ended past its time, with what it started"""
+        self.ends_form(FORMS["another program"])
 
-    def test_child_alone(self):
-        """the process that an agent waited for is found after the agent itself has ended"""
-        agent = self.place("agent")
-        pid = self.starts(f"echo $$ > {agent}\nsh -c 'echo $$ > $OCF_RESKEY_file; sleep 30; :'\n:\n", "pid")
-        with open(agent, encoding="ascii") as number:
-            os.kill(int(number.read()), 9)
-        self.assertTrue(helper.is_alive(pid), "what the agent started outlives it")
-        second = self.opened(via="")
-        self.reported(second)
-        self.assertFalse(helper.is_alive(pid), "it has ended before the report")
+    @unittest.skipUnless(shutil.which("setsid"), "install util-linux")
+    def test_setsid(self):
+        """an agent that waits for a process in another session holds its resource"""
+        self.holds_form(FORMS["exec setsid"])
 
-    def slow(self, way, signal_sent):
-        # the agent that comes up after the stop if what it started is not ended
-        self.agent("Late", "case $1 in start) echo $$ > $OCF_RESKEY_file; sh -c 'sleep 30; : > $OCF_RESKEY_up/late'; : ;; esac\n")
-        running = self.opened(via="", way=way)
-        file = self.place("pid")
-        running.tell(helper.register("r1", "Late", file=file, up=self.up), helper.action("r1", "start", timeout=1000), {"op": "drain"})
-        self.numbers_in(file)
-        running.run.send_signal(signal_sent)
-        running.run.wait()
-        second = self.opened(via="", way=way)
-        self.reported(second)
-        second.tell(helper.action("r1", "stop"), {"op": "drain"})
-        self.assertEqual(second.ends(), 0)
-        self.assertIn(("stop", "done", 0), ended(second.values()))
-        self.assertEqual(self.living(), [], "nothing of the old start lives, so the service stays down")
-        self.assertFalse(os.path.exists(os.path.join(self.up, "late")), "the service stayed down")
+    @unittest.skipUnless(shutil.which("setsid"), "install util-linux")
+    def test_setsid_ended(self):
+        """an agent that waits for a process in another session is ended past its time, with that process"""
+        self.ends_form(FORMS["exec setsid"])
 
-    @helper.slow
-    def test_slow_killed(self):
-        """a start whose executor was killed does not come up after the stop, in run and in serve"""
-        for way in ("run", "serve"):
-            with self.subTest(way):
-                self.slow(way, signal.SIGKILL)
-                shutil.rmtree(self.folder)
-                os.mkdir(self.folder)
-                os.remove(self.place("pid"))
+    @unittest.skipUnless(os.getuid() == 0 and acting.can("su", "-s", "/bin/sh", acting.user() or "-", "-c", "true"), "run as root, with su")
+    def test_su(self):
+        """an agent that replaced itself by su holds its resource"""
+        self.holds_form(FORMS_OF_ROOT["su -c"])
 
-    def test_slow_terminated(self):
-        """a start whose executor was ended by SIGTERM does not come up after the stop"""
-        self.slow("serve", signal.SIGTERM)
+    @unittest.skipUnless(os.getuid() == 0 and acting.can("su", "-s", "/bin/sh", acting.user() or "-", "-c", "true"), "run as root, with su")
+    def test_su_ended(self):
+        """an agent that replaced itself by su is ended past its time, with the other user's process"""
+        self.ends_form(FORMS_OF_ROOT["su -c"])
 
-    def test_own_environment(self):
-        """an executor whose own environment names the resource is not taken for an orphan of it"""
-        self.left()
-        second = self.opened("--orphans", "300", env={**os.environ, "OCF_RESOURCE_INSTANCE": "r1"})
-        self.reported(second)
-        self.assertEqual(second.ends(), 0)
-        self.assertEqual(self.said().count("is killed"), 1)
+    @unittest.skipUnless(os.getuid() == 0 and acting.can("su", "-l", "-s", "/bin/sh", acting.user() or "-", "-c", "true"),
+                         "run as root, with su")
+    def test_su_login(self):
+        """an agent that replaced itself by su -l is ended past its time, with the other user's process"""
+        self.ends_form(FORMS_OF_ROOT["su -l"])
 
-    def test_daemon(self):
-        """a daemon of an interrupted start lives on"""
-        daemon = self.place("daemon")
-        pid = self.starts(f"(setsid sh -c 'echo $$ > {daemon}; sleep 30' &)\nwhile ! [ -s {daemon} ]; do sleep 0.01; done\n"
-                          "echo $$ > $OCF_RESKEY_file\nsleep 30\n", "pid")
-        with open(daemon, encoding="ascii") as number:
-            other = int(number.read())
-        self.addCleanup(lambda: helper.is_alive(other) and os.kill(other, 9))
-        second = self.opened(via="")
-        self.reported(second)
-        self.assertFalse(helper.is_alive(pid), "the start has ended before the report")
-        self.assertTrue(helper.is_alive(other), "the daemon lives")
+    def test_double_fork(self):
+        """a process in the agent's group whose parent has ended holds the resource, also when the agent has ended"""
+        agent, orphan = self.left(LEFT, names=("agent", "orphan"))
+        os.kill(agent, signal.SIGKILL)
+        self.eventually("the agent is gone", lambda: acting.stat_of(agent) is None or not helper.is_alive(agent))
+        run = self.serves()
+        self.reports(run, agent)
+        self.is_held(run, [orphan])
+        self.goes_on()
+        self.is_released(run)
+        self.came_up()
+
+    def test_double_fork_ended(self):
+        """a process that an agent left in its group is ended past its time"""
+        agent, orphan = self.left(LEFT, names=("agent", "orphan"))
+        os.kill(agent, signal.SIGKILL)
+        run = self.serves("--orphans", "1500")
+        run.ready()
+        run.tell(helper.action("r1", "stop"))
+        self.is_released(run)
+        self.stays_down([agent, orphan])
+
+    @unittest.skipUnless(shutil.which("setsid"), "install util-linux")
+    def test_becomes_daemon(self):
+        """a service that becomes a daemon while its executor is dead is not waited for, and lives on"""
+        agent, orphan = self.left(BECOMES)
+        run = self.serves()
+        self.reports(run, agent)
+        self.is_held(run, [agent, orphan])
+        self.goes_on()
+        daemon = self.pid("daemon")
+        self.is_released(run)
+        self.came_up()
+        self.assertTrue(helper.is_alive(daemon), "the daemon lives")
+        self.assertEqual(self.done(run, "r1", "monitor")["code"], 0, "it is up")
+        self.assertEqual(run.ends(), 0)
+        self.assertTrue(helper.is_alive(daemon), "it lives on behind the end of the executor")
+
+    @unittest.skipUnless(shutil.which("setsid"), "install util-linux")
+    def test_became_daemon(self):
+        """a service that became a daemon before the opening holds nothing"""
+        agent, _ = self.left(BECOMES)
+        self.goes_on()
+        daemon = self.pid("daemon")
+        self.eventually("its agent ends", lambda: not helper.is_alive(agent))
+        run = self.serves()
+        self.reports(run)
+        run.tell(helper.action("r1", "stop"))
+        self.is_released(run)
+        self.assertTrue(helper.is_alive(daemon), "the daemon lives")
+
+    @unittest.skipUnless(shutil.which("setsid"), "install util-linux")
+    def test_daemon_past_its_time(self):
+        """a daemon of an interrupted start lives on when what is left of that start is ended"""
+        agent, orphan = self.left(f"echo $$ > UP/orphan-agent; {DETACHES}; WAITS orphan; :")
+        daemon = self.pid("daemon")
+        run = self.serves("--orphans", "1500")
+        self.reports(run, agent)
+        run.tell(helper.action("r1", "stop"))
+        self.is_released(run)
+        self.stays_down([agent, orphan])
+        self.assertTrue(helper.is_alive(daemon), "the daemon lives")
+
+    def test_past_its_time(self):
+        """an orphan past the timeout of its own action is ended, and its start stays down"""
+        agent, orphan = self.left(timeout=8000)
+        run = self.serves()
+        self.reports(run, agent)
+        run.tell(helper.action("r1", "stop"))
+        self.is_released(run)
+        self.stays_down([agent, orphan])
+        self.assertEqual(self.done(run, "r1", "monitor")["code"], 7)
+
+    def test_orphans_0(self):
+        """with --orphans 0 an orphan is ended soon, and its start stays down"""
+        agent, orphan = self.left()
+        run = self.serves("--orphans", "0")
+        run.ready()
+        run.tell(helper.action("r1", "stop"))
+        self.is_released(run)
+        self.stays_down([agent, orphan])
+        self.goes_elsewhere(run)
+
+    def test_orphans_0_later(self):
+        """an orphan that one executor waited for is ended by the next one with --orphans 0"""
+        agent, orphan = self.left()
+        run = self.serves()
+        self.is_held(run, [agent, orphan])
+        run.killed()
+        run = self.serves("--orphans", "0")
+        run.ready()
+        run.tell(helper.action("r1", "stop"))
+        self.is_released(run)
+        self.stays_down([agent, orphan])
+
+    def test_leave(self):
+        """with --leave-orphans an orphan is reported with its number, holds nothing and is not ended"""
+        agent, orphan = self.left()
+        run = self.serves("--leave-orphans")
+        self.reports(run, agent)
+        stop = self.done(run, "r1", "stop")
+        self.assertEqual((stop["outcome"], stop["code"]), ("done", 0))
+        self.assertEqual(set(self.noted("beside")), {agent, orphan}, "the stop ran beside it")
+        self.assertEqual(run.ends(), 0)
+        self.assertTrue(helper.is_alive(agent) and helper.is_alive(orphan), "it lives on")
+        # and it is forgotten
+        run = self.serves()
+        self.reports_nothing(run)
+        stop = self.done(run, "r1", "stop")
+        self.assertEqual((stop["outcome"], stop["code"]), ("done", 0))
+        self.goes_on()
+
+    def test_run(self):
+        """in run the report has no number, and a drain waits for the orphan while another resource goes on"""
+        agent, orphan = self.left()
+        run = self.serves(way="run")
+        run.tell(helper.action("r1", "stop"), helper.action("r2", "start"), {"op": "drain"})
+        _, first = run.awaits(lambda value: True)
+        self.assertEqual((first["outcome"], first.get("lives")), ("interrupted", None))
+        [end] = self.ends_of(run, "r2", "start")
+        self.assertEqual((end["outcome"], end["code"]), ("done", 0))
+        self.assertEqual((self.noted("stops"), helper.is_alive(agent), helper.is_alive(orphan)), ([], True, True), self.seen())
+        self.goes_on()
+        self.is_released(run)
+        self.came_up()
+        run.awaits(lambda value: value.get("end") == "idle")
+        self.assertEqual(run.ends(), 0)
+
+    def test_killed_twice(self):
+        """an executor that is killed while it holds a resource has reported the interruption, and the next ones hold it again"""
+        agent, orphan = self.left()
+        run = self.serves()
+        self.reports(run, agent)
+        self.is_held(run, [agent, orphan])
+        run.killed()
+        for _ in range(2):
+            run = self.serves()
+            run.ready()
+            self.assertEqual([helper.value_of(line)["outcome"] for line in run.said[:-1]], ["dropped"], "the queued stop")
+            self.is_held(run, [agent, orphan])
+            run.killed()
+        run = self.serves()
+        self.is_held(run, [agent, orphan])
+        self.goes_on()
+        self.is_released(run)
+        self.came_up()
+
+    def test_killed_at_once(self):
+        """executors that are killed at random moments of their openings lose no orphan"""
+        random.seed(helper.number("SEED", 20261128))
+        agent, orphan = self.left()
+        for _ in range(helper.number("OPENINGS", 12)):
+            run = self.serves()
+            time.sleep(random.uniform(0, 0.08))
+            run.killed()
+        run = self.serves()
+        run.ready()
+        self.is_held(run, [agent, orphan])
+        self.goes_on()
+        self.is_released(run)
+        self.came_up()
+
+    def statuses(self, *words):
+        done = helper.run("status", "--journal", self.folder, *words)
+        self.assertEqual((done.returncode, done.stderr), (0, b""))
+        return re.sub(" +", " ", done.stdout.decode())
+
+    def test_status(self):
+        """status names the process that a resource waits for, and how much longer at most, and nothing when that is over"""
+        agent, orphan = self.left()
+        run = self.serves()
+        self.is_held(run, [agent, orphan])
+        for words in ((), ("r1",)):
+            table = self.statuses(*words)
+            self.assertRegex(table, rf"(?m)^.*\b{agent}\b.*\bstart\b.*\b\d+ (s|ms|min)\b.*$")
+        self.goes_on()
+        self.is_released(run)
+        self.assertNotRegex(self.statuses(), rf"\b{agent}\b")
+
+    def test_standard_error(self):
+        """standard error names the resource and the process when the wait begins, and the resource when it is over, once each"""
+        agent, orphan = self.left()
+        run = self.serves()
+        self.is_held(run, [agent, orphan])
+        begin = self.says(r"\br1\b")
+        self.assertRegex(begin, rf"^ocfexec: .*\b{agent}\b")
+        self.assertEqual(len(self.said().splitlines()), 1, self.said())
+        self.goes_on()
+        self.is_released(run)
+        self.eventually("a second line", lambda: len(self.said().splitlines()) > 1)
+        self.assertEqual(run.ends(), 0)
+        self.assertEqual(len(self.said().splitlines()), 2, self.said())
+        self.assertRegex(self.said().splitlines()[1], r"^ocfexec: .*\br1\b")
+
+    def test_leaves(self):
+        """leave ends an executor that holds a resource, and leaves the orphan to the next one"""
+        agent, orphan = self.left()
+        run = self.serves()
+        self.is_held(run, [agent, orphan])
+        run.tell({"op": "leave"})
+        run.awaits(lambda value: value.get("end") == "left")
+        self.assertEqual(run.ends(), 0)
+        self.assertEqual(self.noted("stops"), [], "the stop has not begun")
+        run = self.serves()
+        run.ready()
+        self.is_held(run, [agent, orphan])
+        self.goes_on()
+        self.is_released(run)
+
+    def test_recurring(self):
+        """a recurring monitor of a held resource does not run, and one of another resource does"""
+        run = self.serves()
+        run.tell(self.register(monitor="echo $$ >> UP/stops; [ -e UP/service ] || exit 7"),
+                 self.register("r2", monitor="echo $$ >> UP/others"))
+        for name in ("r1", "r2"):
+            run.tell({"op": "recur", "id": name, "interval": 50})
+        self.pid("stops"), self.pid("others")
+        run.tell({"op": "params", "id": "r1", "params": self.register(start=START, monitor="HERE/beside")["params"]},
+                 helper.action("r1", "start", timeout=600_000))
+        pids = [self.pid("orphan-agent"), self.pid("orphan")]
+        run.killed()
+        os.remove(os.path.join(self.up, "stops"))
+        run = self.serves()
+        run.ready()
+        before = len(self.noted("others"))
+        self.eventually("ten monitors of the other resource", lambda: len(self.noted("others")) >= before + 10)
+        self.assertEqual(self.noted("stops"), [], f"no monitor beside the start; {self.seen()}")
+        self.assertEqual([pid for pid in pids if not helper.is_alive(pid)], [], "the orphan goes on")
+        self.goes_on()
+        self.pid("stops")
+        self.assertEqual(self.noted("beside"), [], "the first monitor found nothing of the start alive")
+
+    def test_terminated(self):
+        """a start whose executor was ended by SIGTERM holds its resource"""
+        agent, orphan = self.left(end=signal.SIGTERM)
+        run = self.serves()
+        self.reports(run, agent)
+        self.is_held(run, [agent, orphan])
+        self.goes_on()
+        self.is_released(run)
+
+    def test_many(self):
+        """forty orphans hold their forty resources, and each is released by its own end"""
+        names = [f"m{n}" for n in range(40)]
+        run = self.serves()
+        run.tell(*[self.register(name, start=f"echo $$ > UP/orphan-{name}; exec sleep 600", stop="HERE/beside") for name in names],
+                 self.register("r2", start="exit 0"), *[helper.action(name, "start", timeout=600_000) for name in names])
+        pids = {name: self.pid(f"orphan-{name}") for name in names}
+        run.killed()
+        run = self.serves()
+        run.ready()
+        found = {value["id"]: value.get("lives") for value in map(helper.value_of, run.said[:-1])}
+        self.assertEqual(found, pids)
+        run.tell(*[helper.action(name, "stop") for name in names])
+        self.goes_elsewhere(run)
+        self.assertEqual(self.noted("stops"), [], "no stop has begun")
+        for count, (name, pid) in enumerate(pids.items(), 1):
+            os.kill(pid, signal.SIGKILL)
+            os.remove(os.path.join(self.up, f"orphan-{name}"))
+            [stop] = self.ends_of(run, name, "stop")
+            self.assertEqual((stop["outcome"], stop["code"]), ("done", 0))
+            self.assertEqual(len(self.noted("stops")), count, "no other stop has begun")
 
     @unittest.skipUnless(shutil.which("setpriv"), "install util-linux")
     def test_dies_along(self):
         """an agent that dies with its executor leaves only its child to be waited for"""
-        since = self.left(via=os.path.join(helper.TOP, "examples/with-executor.sh"))
-        second = self.opened()
-        self.reported(second)
-        self.within(since, 2, 4.5)
-        self.assertEqual((second.ends(), self.said()), (0, ""))
-        self.assertFalse(os.path.exists(self.log), "the agent ended with its executor")
+        run = self.serves("--via", os.path.join(helper.TOP, "examples/with-executor.sh"))
+        run.tell(self.register(start="echo $$ > UP/agent; WAITS orphan; echo $$ >> UP/service", stop="HERE/beside"),
+                 self.register("r2", start="exit 0"), helper.action("r1", "start", timeout=600_000))
+        agent, orphan = self.pid("agent"), self.pid("orphan")
+        run.killed()
+        self.eventually("the agent dies with its executor", lambda: not helper.is_alive(agent))
+        run = self.serves()
+        self.is_held(run, [orphan])
+        self.goes_on()
+        self.is_released(run)
+        self.came_up()
+
+
+class Rounds(helper.Check):
+    """Many kills at random moments, of executors whose client stops, probes and starts one resource."""
+
+    def setUp(self):
+        super().setUp()
+        self.agent("Slow", SLOW)
+        self.up, self.log = self.place("up"), self.place("log")
+        os.mkdir(self.up)
+        self.folder = self.journal()
+
+    def opened(self):
+        return self.heard("run", "--journal", self.folder, "--root", self.here, start_new_session=True)
 
     def round(self):
         # stops, probes and starts, up to a kill at a random moment; returns the number of probes
         running = self.opened()
         running.tell(*does("stop"), *does("monitor"), *does("start"))
-        time.sleep(random.uniform(0, 0.2))
+        time.sleep(random.uniform(0, 0.3))
         running.killed()
         codes = [value["code"] for value in running.told() if value["action"] == "monitor" and value["outcome"] == "done"]
         self.assertEqual(set(codes) - {7}, set(), "down behind its stop")
@@ -280,14 +528,19 @@ class Orphans(helper.Check):
         random.seed(helper.number("SEED", 20261124))
         rounds, kills, probes, later = helper.number("ROUNDS", 100), 0, 0, time.monotonic() + 35
         first = self.opened()
-        first.tell(self.register(0.05))
+        first.tell(helper.register("r1", "Slow", log=self.log, time="0.05", up=self.up))
         self.assertEqual(first.ends(), 0)
         while kills < rounds and time.monotonic() < later:
             probes += self.round()
             kills += 1
+        # (on a busy machine no round may have come so far)
+        last = self.opened()
+        last.tell(*does("stop"), *does("monitor"), *does("start"))
+        self.assertEqual(last.ends(), 0)
+        ends = [(value["action"], value["code"]) for value in last.told() if value["outcome"] == "done"]
+        self.assertEqual(ends, [("stop", 0), ("monitor", 7), ("start", 0)])
         with open(self.log, encoding="ascii") as text:
             counts = [int(count) for count in text.read().split()]
-        self.assertTrue(probes and counts, "probes and starts")
         self.assertEqual(max(counts), 1, "one service that is up at a time")
         print(f"orphans: {kills} kills: {probes} probes, {len(counts)} starts that ended", flush=True)
 

@@ -8,7 +8,7 @@ WORDS = [
     ["run", "--memory", "--root", "/usr/lib/ocf", "--path", "/bin:/usr/bin", "--via", "/bin/sh"],
     ["serve", "--journal=/j", "--tidy-at", "4194304", "--log", "-", "--meta-variables", "--orphans", "30000"],
     ["run", "--journal", "/j", "--timed", "--tidy-at", "0"],
-    ["serve", "--memory", "--orphans=0", "--leave-orphans"],
+    ["serve", "--memory", "--orphans=0", "--leave-orphans", "--no-groups"],
     ["--help"],
     ["--version"],
     ["help", "run"],

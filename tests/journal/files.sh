@@ -115,7 +115,7 @@ same "two empty files" '{"ok":true,"resources":[]}' "$(cat out)"
 mkdir half && : > half/part-b
 run half '{"op":"list"}'
 same "one empty file" '{"ok":true,"resources":[]}' "$(cat out)"
-same "what is made" "half/executor half/part-a half/part-b" "$(echo half/*)"
+same "what is made" "half/agents half/part-a half/part-b" "$(echo half/*)"
 checked "what is made, and what is found again"
 
 # Files that cannot be opened
@@ -149,7 +149,7 @@ same "a lost part" "$before" "$(inside lost)"
 run lost_a '{"op":"tidy"}'
 rm lost_a/part-a
 refused lost_a 5 "ocfexec: disk" "lost_a/part-a: gone, while part-b holds a journal"
-same "a lost part A" "lost_a/executor lost_a/part-b" "$(echo lost_a/*)"
+same "a lost part A" "lost_a/agents lost_a/part-b" "$(echo lost_a/*)"
 checked "a part that is gone beside one that holds a journal"
 
 # Beside a file that holds no journal, a missing one is not reported
@@ -211,6 +211,19 @@ loses "a folder in another's place" "swapped/part-a: replaced while in use" "$ex
 run swapped "$exec_start"
 same "the folder in its place" '{"call":1,"key":"r1_start_0","ok":true}' "$(cat out)"
 checked "files and folders that are replaced, renamed or removed under an executor"
+
+# Parts that are cut, or grow, while an executor runs: nothing is acknowledged after that
+journal cut
+hold cut
+: > cut/part-a
+loses "an emptied part" "cut/part-a: cut or grown while in use" "$exec_start" "$disk_error"
+journal grown
+hold grown
+printf x >> grown/part-a
+loses "a part that grew" "grown/part-a: cut or grown while in use" "$exec_start" "$disk_error"
+run grown '{"op":"list"}'
+same "the journal that grew" '{"ok":true,"resources":["r1"]}' "$(cat out)"
+checked "parts that are cut or grow under an executor"
 
 # A mount over the directory
 if [ "$(id -u)" -eq 0 ]; then apart="unshare --mount"; else apart="unshare --user --map-root-user --mount"; fi
@@ -321,7 +334,7 @@ printf '%s\n' "$register" > line
 cp -r made streams
 "$program" run --journal streams < line >&- 2>&-
 same "standard output closed, status" 7 $?
-diff -r -x executor made streams || differs "standard output closed" "the same bytes" "others"
+diff -r -x agents made streams || differs "standard output closed" "the same bytes" "others"
 checked "standard output that is closed"
 
 # A full device: no file grows past 64 KiB
@@ -368,7 +381,6 @@ echo "$? $(stat -c %s device/reserved/part-a)" > status
 : > other_err
 JOURNAL_STREAM=$(stat -c %d:%i other_err) "$1" run --journal device/other < lines > other_out 2> other_err
 FILLS
-    unknown="cannot be written, so the next executor may miss processes that this one leaves: No space left on device (os error 28)"
     $apart sh fills "$program"
     read -r ended size < status
     same "reserved room, status" 0 "$ended"
@@ -376,12 +388,11 @@ FILLS
     within=no
     if [ "$size" -ge 4615291 ] && [ "$size" -le 4616041 ]; then within=yes; fi
     same "reserved room, part A of $size bytes is as long as its records" yes "$within"
-    same "reserved room, standard error" "ocfexec: device/reserved/executor $unknown" "$(cat err)"
+    same "reserved room, standard error" "" "$(cat err)"
     same "reserved room, accepted" 300 "$(grep -c '^{"ok":true}$' out)"
     same "reserved room, last replies" '{"end":"done"}
 {"ok":true,"resources":["r1"]}' "$(tail -n 2 out)"
-    same "no room" "ocfexec: device/other/executor $unknown
-ocfexec: disk
+    same "no room" "ocfexec: disk
 device/other/part-a: No space left on device (os error 28)
 $check_device" "$(cat other_err)"
 else

@@ -86,7 +86,6 @@ def crowded():
 
 class Journals(helper.Check):
     def words(self, folder):
-        # its own root: an opening ends the orphans of a start, by the path of the agent and the name of the resource
         return ["run", "--journal", folder, "--root", self.here]
 
     def shows(self, folder):

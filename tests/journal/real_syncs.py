@@ -426,8 +426,7 @@ class RealSyncs(helper.Check):
                 yield found.exception.rule
 
     def made(self):
-        """The parts of a journal that was created before. The program opens a journal twice, so neither of two syncs after its creation
-        is needed alone."""
+        """The parts of a journal that was created before."""
         journal = self.begun("made")
         self.opened(journal, "run", [])
         for path in journal.parts:

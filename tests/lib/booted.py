@@ -113,6 +113,7 @@ class Units(helper.Check):
     def setUpClass(cls):
         """Installs as `make install` does, and the units as their comments say."""
         shutil.copytree(EXAMPLES, "/usr/local/share/doc/ocfexec")
+        subprocess.run([f"{helper.TOP}/package/python.sh", "", "/usr/local"], check=True)
         shutil.copy(PROGRAM, "/usr/local/bin/ocfexec")
         for unit in glob.glob(f"{EXAMPLES}/*.service") + glob.glob(f"{EXAMPLES}/*.socket"):
             shutil.copy(unit, "/etc/systemd/system")

@@ -33,8 +33,12 @@ FAILED = os.path.join(TOP, "tests/failed")
 LAST, PATIENCE, SLOWER = 10, 60, 4
 # how many seconds a whole run may take, which is less than a script of checks may
 WHOLE = 280
-# the line about a process that has not ended a tenth of a second after it was killed: on a busy machine that is no fault of the program
-STILL_ALIVE = re.compile(r"ocfexec: pid (\d+) \([^\n]*\)(?:, started by an action,| of [^\n]*) is still alive after SIGKILL\n")
+# the lines about a process that has not ended a tenth of a second after it was killed, and about its end: on a busy machine that is no
+# fault of the program
+STILL_ALIVE = re.compile(r"ocfexec: (?:\S+ waits for )?pid \d+ \([^\n]*\)[^\n]* is still alive after SIGKILL\n"
+                         r"|ocfexec: \S+ waits no longer: pid \d+ of [^\n]* has ended\n")
+# the lines about what an interrupted action left: an opening has them if that lives, or has just ended
+HOLDS = re.compile(r"ocfexec: \S+ waits (?:for pid \d+ of [a-z-]+, at most \d+ s more|no longer: pid \d+ of [a-z-]+ has ended)\n")
 # how this module is called again, and the numbers that the current test asked for
 CALL, numbers = [sys.argv[0], *([PROGRAM] if PROGRAM else [])], {}
 

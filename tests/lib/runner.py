@@ -116,7 +116,7 @@ class Runner:
 
     def call(self, words, limit):
         """The status of a command, which is ended after this many seconds, and its output."""
-        # in a session of its own: with an action the program ends the background jobs of its session that name the same resource
+        # in a session and a group of its own: so a script that takes too long is ended with what it started
         with tempfile.TemporaryFile() as output:
             try:
                 running = subprocess.Popen(words, stdin=subprocess.DEVNULL, stdout=output, stderr=output, cwd=TOP, start_new_session=True)

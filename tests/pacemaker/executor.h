@@ -6,8 +6,7 @@
 #include <stdbool.h>
 
 /* Starts the child with these arguments, and again whenever a signal ends it; if it ends otherwise, the bridge does too. `notice` gets
-   the line of each result. `opened` is called when a child has opened the journal, after the notices of interrupted and dropped actions:
-   before them it waits for orphans of interrupted actions. */
+   the line of each result. `opened` is called when a child has opened the journal, after the notices of interrupted and dropped actions. */
 void executor_start(char **words, void (*notice)(const char *line), void (*opened)(void));
 
 /* Whether a child has opened the journal, so that it takes commands. */

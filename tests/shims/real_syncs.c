@@ -7,7 +7,8 @@
      `eio` fails it, a write in its middle and a sync before it is made. `short` makes half of a write. `eintr` interrupts the call
      before anything is made.
    - $SHIM, a lie about syncs: see `lie`.
-   Children get none of these variables, so they are left alone. */
+   The file of the running agents is no part of a journal: a write of it at an offset is neither noted nor counted. The shell that sends
+   signals is no agent: its start is not noted. Children get none of these variables, so they are left alone. */
 #define _GNU_SOURCE
 #include <dlfcn.h>
 #include <errno.h>
@@ -108,7 +109,14 @@ static int device_sync(const char *call, int file) {
     return answer;
 }
 
+static int ends_with(const char *path, const char *end) {
+    size_t length = strlen(path), last = strlen(end);
+    return length >= last && strcmp(path + length - last, end) == 0;
+}
+
 static ssize_t device_write(int file, const void *bytes, size_t size, off_t at) {
+    if (ends_with(path_of(file), "/agents"))
+        return syscall(SYS_pwrite64, file, bytes, size, at);
     calls++;
     int is_cut = meets("kill") || meets("eio") || (meets("short") && size > 1);
     ssize_t made = meets("eintr") ? 0 : syscall(SYS_pwrite64, file, bytes, is_cut ? size / 2 : size, at), answer = made;
@@ -235,12 +243,21 @@ int openat64(int directory, const char *path, int flags, ...) {
     OPEN_BY_MODE(directory, path, flags);
 }
 
+/* Whether these are the arguments of a shell with its script, and not those of an agent. */
+static int is_shell(char *const arguments[]) {
+    int count = 0;
+    while (arguments[count] != NULL && strcmp(arguments[count], "-c") != 0)
+        count++;
+    return arguments[count] != NULL;
+}
+
 int posix_spawn(pid_t *child, const char *path, const posix_spawn_file_actions_t *actions, const posix_spawnattr_t *how,
                 char *const arguments[], char *const variables[]) {
     __typeof__(&posix_spawn) real = (__typeof__(&posix_spawn))dlsym(RTLD_NEXT, "posix_spawn");
     int status = real(child, path, actions, how, arguments, variables), before = errno;
     errno = status;
-    note("spawn", path, 0, 0, status == 0 ? 0 : -1, 0, NULL);
+    if (!is_shell(arguments))
+        note("spawn", path, 0, 0, status == 0 ? 0 : -1, 0, NULL);
     errno = before;
     return status;
 }

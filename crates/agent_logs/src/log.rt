@@ -1,14 +1,15 @@
 //! The destinations of agents' output.
+use crate::copier::Copier;
 use crate::directory::LogDirectory;
 use crate::lines::{Begun, Ended, Stamp, begun_line, ended_line};
+use crate::streams::{Streams, Uncopied};
+use crate::unnamed::{temporary_directory, unnamed};
 use exec_lines::moment_now;
 use ocf_types::RscId;
 use std::alloc::Global;
 use std::cell::Cell;
 use std::fs::File;
 use std::io::{self, Eprint, Write};
-use std::os::fd::{AsFd, OwnedFd};
-use std::process::Stdio;
 use std::rt::Clock;
 use std::str;
 use std::time::Duration;
@@ -16,11 +17,20 @@ use std::time::Duration;
 // For how many seconds a failing log is not reported again.
 const SILENCE: u64 = 60;
 
+// Standard error, to which agents' output is copied when they have ended, and where it is until then.
+#[derive(Drop)]
+struct Errors {
+    rt: HostRuntime,
+    copier: Copier,
+    // The directory of the files that agents write to.
+    directory: String,
+}
+
 // A destination of agents' output.
 #[derive(Drop)]
 enum Destination {
     // The standard error of this program.
-    Errors(OwnedFd),
+    Errors(Errors),
     // A file for all resources.
     File(File),
     // A file for each resource.
@@ -37,7 +47,8 @@ struct Kept {
 }
 
 /// Where the standard output and error of agents go. The output of each is appended, between a line of its begin and one of its end,
-/// or it is discarded. It does not pass through a pipe of this program, so a descendant that outlives the executor can go on writing.
+/// or it is discarded. An agent writes to a file and never to a pipe, so no reader that goes can end it: to standard error the output is
+/// copied from a file without a name, when the agent has ended.
 ///
 /// A log that cannot be written hinders no action: it is reported on standard error, once in a minute at most.
 #[derive(Drop)]
@@ -45,36 +56,20 @@ pub struct Log {
     kept: Option<Kept>,
 }
 
-/// The standard output and error of an agent.
+/// What an agent is given: its streams, and what is to be copied at its end.
 #[derive(Drop)]
-pub struct Streams {
-    pub output: Stdio,
-    pub errors: Stdio,
+pub struct Outlet {
+    pub streams: Streams,
+    pub uncopied: Uncopied,
 }
 
-impl Streams {
-    // Streams that discard what is written.
-    fn none() -> Streams {
-        Streams {
-            output: Stdio::null(),
-            errors: Stdio::null(),
+impl Outlet {
+    // Streams of which nothing is to be copied.
+    fn to(streams: Streams) -> Outlet {
+        Outlet {
+            streams,
+            uncopied: Uncopied::none(),
         }
-    }
-
-    // Both write to this stream. It fails if this process may open no more descriptors.
-    fn of_stream(stream: &OwnedFd) -> io::Result<Streams> {
-        Ok(Streams {
-            output: Stdio::from(stream.try_clone()?),
-            errors: Stdio::from(stream.try_clone()?),
-        })
-    }
-
-    // Both write to this file. It fails if this process may open no more descriptors.
-    fn of_file(file: &File) -> io::Result<Streams> {
-        Ok(Streams {
-            output: Stdio::from(file.try_clone()?),
-            errors: Stdio::from(file.try_clone()?),
-        })
     }
 }
 
@@ -165,28 +160,60 @@ impl Kept {
         }
     }
 
-    // Writes the line of a begin, and returns the streams of the agent.
-    fn begin<R: Clock + Eprint>(&self, rt: &R, id: &RscId, line: &[u8]) -> io::Result<Streams> {
+    // Opens a file without a name for an agent. A failure is reported.
+    fn unnamed<R: Clock + Eprint>(
+        &self,
+        rt: &R,
+        errors: &Errors,
+        id: &RscId,
+    ) -> io::Result<Outlet> {
+        match unnamed(&errors.rt, errors.directory.as_str()) {
+            Ok(file) => Ok(Outlet {
+                streams: Streams::of_file(&file)?,
+                uncopied: Uncopied::of_file(file),
+            }),
+            Err(error) => {
+                self.report(rt, id, &error);
+                Ok(Outlet::to(Streams::none()))
+            }
+        }
+    }
+
+    // Copies what an agent wrote to standard error. A failure is reported.
+    fn copy<R: Clock + Eprint>(&self, rt: &R, errors: &Errors, id: &RscId, uncopied: &Uncopied) {
+        let Some(file) = uncopied.file() else {
+            return;
+        };
+        if let Err(error) = errors.copier.copy(rt, file) {
+            self.report(rt, id, &error);
+        }
+    }
+
+    // Writes the line of a begin, and returns what the agent is given.
+    fn begin<R: Clock + Eprint>(&self, rt: &R, id: &RscId, line: &[u8]) -> io::Result<Outlet> {
         match &self.destination {
-            Destination::Errors(stream) => {
+            Destination::Errors(errors) => {
                 self.say(rt, line);
-                Streams::of_stream(stream)
+                self.unnamed(rt, errors, id)
             }
             Destination::File(file) => {
                 self.write(rt, id, file, line);
-                Streams::of_file(file)
+                Ok(Outlet::to(Streams::of_file(file)?))
             }
             Destination::Directory(directory) => match self.open(rt, directory, id, line) {
-                Some(file) => Streams::of_file(&file),
-                None => Ok(Streams::none()),
+                Some(file) => Ok(Outlet::to(Streams::of_file(&file)?)),
+                None => Ok(Outlet::to(Streams::none())),
             },
         }
     }
 
-    // Writes the line of an end.
-    fn end<R: Clock + Eprint>(&self, rt: &R, id: &RscId, line: &[u8]) {
+    // Copies what is to be copied, and writes the line of an end.
+    fn end<R: Clock + Eprint>(&self, rt: &R, id: &RscId, uncopied: &Uncopied, line: &[u8]) {
         match &self.destination {
-            Destination::Errors(_) => self.say(rt, line),
+            Destination::Errors(errors) => {
+                self.copy(rt, errors, id, uncopied);
+                self.say(rt, line);
+            }
             Destination::File(file) => self.write(rt, id, file, line),
             Destination::Directory(directory) => drop(self.open(rt, directory, id, line)),
         }
@@ -205,12 +232,16 @@ impl Log {
         }
     }
 
-    /// Agents write to this stream, the standard error of this program, by another descriptor, above those of the standard streams: so
-    /// output that was meant for a closed stream does not land there. It fails if the stream is closed, or if this process may open no
-    /// more descriptors.
-    pub fn to_errors(alloc: Global, stream: &impl AsFd) -> io::Result<Log> {
-        let stream = stream.as_fd().try_clone_to_owned()?;
-        Ok(Log::at(alloc, Destination::Errors(stream)))
+    /// What agents write is copied to standard error when they have ended, by another descriptor, above those of the standard streams: so
+    /// output that was meant for a closed stream does not land there. Until then it is in a file without a name in the directory of
+    /// temporary files. It fails if standard error is closed, if this process may open no more descriptors, or for lack of memory.
+    pub fn to_errors(rt: HostRuntime) -> io::Result<Log> {
+        let errors = Errors {
+            rt,
+            copier: Copier::new(&rt.stderr())?,
+            directory: temporary_directory(&rt)?,
+        };
+        Ok(Log::at(rt.alloc(), Destination::Errors(errors)))
     }
 
     /// All agents write to this file, by a descriptor above those of the standard streams.
@@ -223,29 +254,29 @@ impl Log {
         Log::at(alloc, Destination::Directory(directory))
     }
 
-    /// Writes the line of a run that begins, and returns the streams of its agent. If the log of a resource cannot be opened, that is
-    /// reported, and the agent's output is discarded. It fails only if this process may open no more descriptors, or there is no memory for
-    /// the line.
+    /// Writes the line of a run that begins, and returns what its agent is given. If the log of a resource, or a file without a name,
+    /// cannot be opened, that is reported, and the agent's output is discarded. It fails only if this process may open no more
+    /// descriptors, or there is no memory for the line.
     pub fn begin<R: Clock + Eprint>(
         &self,
         rt: &R,
         id: &RscId,
         begun: &Begun<'_>,
-    ) -> io::Result<Streams> {
+    ) -> io::Result<Outlet> {
         let Some(kept) = &self.kept else {
-            return Ok(Streams::none());
+            return Ok(Outlet::to(Streams::none()));
         };
         let line = begun_line(kept.alloc, &kept.stamp(rt, id), begun)?;
         kept.begin(rt, id, line.as_slice())
     }
 
-    /// Writes the line of a run that has ended. Without memory for the line there is none.
-    pub fn end<R: Clock + Eprint>(&self, rt: &R, id: &RscId, ended: Ended) {
+    /// Writes the line of a run that has ended, after what is to be copied of its output. Without memory for the line there is none.
+    pub fn end<R: Clock + Eprint>(&self, rt: &R, id: &RscId, uncopied: &Uncopied, ended: Ended) {
         let Some(kept) = &self.kept else {
             return;
         };
         if let Ok(line) = ended_line(kept.alloc, &kept.stamp(rt, id), ended) {
-            kept.end(rt, id, line.as_slice());
+            kept.end(rt, id, uncopied, line.as_slice());
         }
     }
 }

@@ -1,3 +1,4 @@
 pub mod AgentLemmas
 pub mod CommandLemmas
 pub mod MetaLemmas
+pub mod WaitLemmas

@@ -5,5 +5,6 @@ pub mod Commands
 pub mod Ends
 pub mod Codes
 pub mod Processes
+pub mod Waits
 pub mod MetaOutputs
 pub mod MetaChildren

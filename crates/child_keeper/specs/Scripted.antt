@@ -20,4 +20,4 @@ script_of c = planned_in c.fault_in (script_view c.script)
 
 -- what the trait `Children` shows of them; they name no site, so agents may be at any
 abbrev pub children_of : {M : Type 0} → Scripted M → ChildrenView
-children_of c = record { book = c.book.entries.items; log = c.book.log.items; room = c.book.room; last_run = c.last_run; live = c.live.runs.items; site = None }
+children_of c = record { book = c.book.entries.items; log = c.book.log.items; room = c.book.room; last_run = c.last_run; live = c.live.runs.items; given_up = c.live.given_up.items; held = deque_items c.script.holds; site = None }

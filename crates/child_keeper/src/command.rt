@@ -2,10 +2,11 @@
 ghost use Rattle.std.specs.Prelude.{◌≡◌, ◌++◌, ◌∷◌, [], ℕ, List, IfOk, IsTrue, OnErr, OnOk, None, Some, bytes_eq, codes, if◌then◌else◌, true};
 ghost use Rattle.std.specs.Process.{SameDir, SameEnv, SameProgramAndArgs, clears_env, command_args, command_dir, command_program};
 ghost use Rattle.std.specs.Process.{command_var, var_after};
-ghost use Rattle.child_keeper.specs.Commands.{Asks};
+ghost use Rattle.child_keeper.specs.Commands.{Asks, AsksBy, leader_of};
 
 use growth::Grows;
 use ocf_env::{Invocation, Text};
+use process_ends::Leading;
 use std::alloc::{AllocError, Allocator};
 use std::process::{Command, Stdio};
 
@@ -116,6 +117,28 @@ fn silence<A: Grows>(command: &mut Command<A>)
     command.stderr(Stdio::null());
 }
 
+// Completes a command with the arguments of an invocation, its variables and no others, and standard streams that are connected to
+// `/dev/null`.
+fn complete<A: Grows, L: Allocator>(
+    command: &mut Command<A>,
+    invocation: &Invocation<L>,
+) -> Result<(), AllocError>
+    ensures program { OnOk result (command_program command.new ≡ command_program command.old) }
+    ensures arguments { OnOk result (command_args command.new
+        ≡ command_args command.old ++ invocation.now.arguments) }
+    ensures variables { OnOk result ((name : List ℕ)
+        → command_var command.new name
+        ≡ var_after Some Some name (command_var command.old name) invocation.now.environment) }
+    ensures cleared { OnOk result (clears_env command.new ≡ clears_env command.old) }
+    ensures directory { OnOk result (SameDir command.old command.new) }
+    ensures memory { OnErr result (IsTrue A.refuses) }
+{
+    push_arguments(command, invocation.arguments())?;
+    push_variables(command, invocation.environment())?;
+    silence(command);
+    Ok(())
+}
+
 /// The command of an invocation: its program with its arguments, its variables and no others, in the root directory, with its
 /// standard streams connected to `/dev/null`.
 pub fn command_of<A: Grows, L: Allocator>(
@@ -126,8 +149,42 @@ pub fn command_of<A: Grows, L: Allocator>(
     ensures memory { OnErr result (IsTrue A.refuses) }
 {
     let mut command = bare(alloc, invocation.program())?;
-    push_arguments(&mut command, invocation.arguments())?;
-    push_variables(&mut command, invocation.environment())?;
-    silence(&mut command);
+    complete(&mut command, invocation)?;
     Ok(command)
+}
+
+// The command of an invocation that this leader makes.
+fn led<A: Grows, L: Allocator>(
+    alloc: A,
+    leader: &str,
+    invocation: &Invocation<L>,
+) -> Result<Command<A>, AllocError>
+    ensures asks { IfOk result (λ c. AsksBy (Some leader.now) c invocation.now) }
+    ensures memory { OnErr result (IsTrue A.refuses) }
+{
+    let mut command = bare(alloc, leader)?;
+    push_argument(&mut command, invocation.program())?;
+    complete(&mut command, invocation)?;
+    Ok(command)
+}
+
+/// The command of an invocation, made by a leader, if there is one. The standard input of the launcher is a pipe, on which it waits for
+/// a byte; the other streams are connected to `/dev/null`.
+pub fn command_by<A: Grows, B: Allocator, L: Allocator>(
+    alloc: A,
+    leading: &Leading<B>,
+    invocation: &Invocation<L>,
+) -> Result<Command<A>, AllocError>
+    ensures asks { IfOk result (λ c. AsksBy (leader_of leading.now) c invocation.now) }
+    ensures memory { OnErr result (IsTrue A.refuses) }
+{
+    match leading {
+        Leading::Nothing => command_of(alloc, invocation),
+        Leading::Setsid(path) => led(alloc, path.as_str(), invocation),
+        Leading::Launcher(path) => {
+            let mut command = led(alloc, path.as_str(), invocation)?;
+            command.stdin(Stdio::piped());
+            Ok(command)
+        }
+    }
 }

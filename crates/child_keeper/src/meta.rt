@@ -3,13 +3,12 @@ ghost use Rattle.std.specs.Prelude.{◌≡◌, ◌≢◌, ◌≤◌, IfErr, IfOk
 ghost use Rattle.ocf_types.specs.Limits.{metadata_limit};
 ghost use Rattle.ocf_types.specs.declared.outcome.MetaFault.TheVariants.{Failed};
 
-use crate::meta_child::{MetaChild, MetaPoll};
+use crate::meta_child::{MetaCall, MetaChild, MetaPoll};
 use crate::waited::Waited;
 use growth::Grows;
-use ocf_env::Site;
-use ocf_types::{AgentType, MetaFault, Provider};
+use ocf_types::MetaFault;
 use proc_files::ProcFiles;
-use process_ends::Pauses;
+use process_ends::{Pauses, Programs, Signals};
 use std::alloc::Allocator;
 use std::io::Eprint;
 use std::process::{OpenProcess, Processes};
@@ -22,24 +21,17 @@ use std::rt::Clock;
 /// come in this order: those of [`MetaChild::start`]; those of [`MetaChild::poll`].
 pub fn run_meta<
     P: OpenProcess + Drop,
-    R: Processes<Started = P> + Clock + Eprint + ProcFiles,
+    R: Processes<Started = P> + Clock + Eprint + ProcFiles + Signals + Programs,
     A: Grows,
     S: Allocator,
->(
-    rt: &R,
-    alloc: A,
-    site: &Site<S>,
-    provider: &Provider,
-    agent: &AgentType,
-    limit: Option<u32>,
-) -> Result<Vec<u8, A>, MetaFault>
+>(rt: &R, alloc: A, call: &MetaCall<'_, S>, limit: Option<u32>) -> Result<Vec<u8, A>, MetaFault>
 where
     P::Stdout: Waited,
     ensures length { IfOk result (λ metadata. vec_len metadata ≤ metadata_limit) }
     ensures failed { IfErr result (λ fault. fault ≢ Failed 0) }
     ensures memory { IfErr result (λ fault. fault ≡ MetaFault.Memory → IsTrue A.refuses) }
 {
-    let mut child = MetaChild::start(rt, alloc, site, provider, agent, limit)?;
+    let mut child = MetaChild::start(rt, alloc, call, limit)?;
     let mut pauses = Pauses::within(limit.unwrap_or(u32::MAX));
     for _ in 0..u64::MAX {
         match child.poll(rt, alloc) {

@@ -5,20 +5,22 @@ ghost use Rattle.std.specs.Process.{child_status};
 ghost use Rattle.ocf_types.specs.Limits.{metadata_limit};
 ghost use Rattle.ocf_types.specs.declared.outcome.MetaFault.TheVariants.{Failed, TooLong};
 ghost use Rattle.child_keeper.specs.Codes.{CountsAs, EndedWith};
+ghost use Rattle.child_keeper.specs.Commands.{AsksBy, leader_of};
 ghost use Rattle.child_keeper.specs.MetaChildren.{IfAnswered, PollsTo, asked_of, left_of};
 ghost use Rattle.child_keeper.specs.MetaOutputs.{KeepsAll};
 
 use crate::Poll;
-use crate::command::command_of;
+use crate::command::command_by;
 use crate::ends::end_of;
+use crate::gate::{check_program, open_gate};
 use crate::meta_output::{MetaOutput, Progress};
 use crate::refused::{name_text, refused};
 use crate::waited::Waited;
 use growth::Grows;
-use ocf_env::{Site, launch_meta};
+use ocf_env::{Invocation, Site, launch_meta};
 use ocf_types::{AgentType, MetaFault, Provider, StartFault};
 use proc_files::ProcFiles;
-use process_ends::{Deadline, Pauses, end_child, report_alive};
+use process_ends::{Deadline, Leading, Pauses, Programs, Signals, end_child, report_alive};
 use std::alloc::{AllocError, Allocator};
 use std::io::{self, Eprint, Read};
 use std::process::{Child, Command, ExitStatus, OpenProcess, Processes, Stdio};
@@ -43,29 +45,50 @@ pub enum MetaPoll<P: OpenProcess, A: Allocator> {
     Answered(Result<Vec<u8, A>, MetaFault>),
 }
 
-// The command that asks an agent for its metadata, with a pipe for its output.
-fn meta_command<A: Grows, S: Allocator>(
+/// The agent that is asked for its metadata, and how it is spawned.
+#[derive(Drop)]
+pub struct MetaCall<'a, S: Allocator> {
+    pub site: &'a Site<S>,
+    pub provider: &'a Provider,
+    pub agent: &'a AgentType,
+    pub leading: &'a Leading,
+}
+
+// The command of an invocation that asks an agent for its metadata, with a pipe for its output.
+fn meta_command<A: Grows>(
     alloc: A,
-    site: &Site<S>,
-    provider: &Provider,
-    agent: &AgentType,
+    leading: &Leading,
+    invocation: &Invocation<A>,
 ) -> Result<Command<A>, AllocError>
+    ensures asks { IfOk result (λ c. AsksBy (leader_of leading.now) c invocation.now) }
     ensures memory { OnErr result (IsTrue A.refuses) }
 {
-    let invocation = launch_meta(alloc, site, provider, agent)?;
-    let mut command = command_of(alloc, &invocation)?;
+    let mut command = command_by(alloc, leading, invocation)?;
     command.stdout(Stdio::piped());
     Ok(command)
 }
 
-// Why the agent was not spawned.
-fn refused_meta<R: Eprint>(
+// Spawns the agent and lets it run. The launcher ends by itself if it is not let run.
+fn spawned<R: Processes + Programs, A: Grows>(
     rt: &R,
-    provider: &Provider,
-    agent: &AgentType,
+    leading: &Leading,
+    program: &str,
+    command: &mut Command<A>,
+) -> io::Result<Child<R::Started>> {
+    check_program(rt, leading, program)?;
+    let mut child = command.spawn(rt)?;
+    open_gate(&mut child)?;
+    Ok(child)
+}
+
+// Why the agent was not spawned.
+fn refused_meta<R: Eprint, S: Allocator>(
+    rt: &R,
+    call: &MetaCall<'_, S>,
     error: &io::Error,
 ) -> StartFault {
-    let (provider, agent) = (name_text(provider.as_bytes()), name_text(agent.as_bytes()));
+    let provider = name_text(call.provider.as_bytes());
+    let agent = name_text(call.agent.as_bytes());
     refused(rt, format_args!("meta-data of {provider}:{agent}"), error)
 }
 
@@ -154,12 +177,10 @@ where
     /// Asks an agent for its metadata. It has `limit` milliseconds, or as long as it takes where there is no limit. All memory for
     /// the metadata is taken here. Errors come in this order: memory is refused, for the metadata or for the command; the system
     /// does not spawn the agent.
-    pub fn start<R: Processes<Started = P> + Clock + Eprint, S: Allocator>(
+    pub fn start<R: Processes<Started = P> + Clock + Eprint + Programs, S: Allocator>(
         rt: &R,
         alloc: A,
-        site: &Site<S>,
-        provider: &Provider,
-        agent: &AgentType,
+        call: &MetaCall<'_, S>,
         limit: Option<u32>,
     ) -> Result<MetaChild<P, A>, MetaFault>
         ensures none { IfOk result (λ child. (asked_of P.Stdout.remaining child).kept ≡ []) }
@@ -170,11 +191,14 @@ where
         let Ok(output) = MetaOutput::new(alloc) else {
             return Err(MetaFault::Memory);
         };
-        let Ok(mut command) = meta_command(alloc, site, provider, agent) else {
+        let Ok(invocation) = launch_meta(alloc, call.site, call.provider, call.agent) else {
+            return Err(MetaFault::Memory);
+        };
+        let Ok(mut command) = meta_command(alloc, call.leading, &invocation) else {
             return Err(MetaFault::Memory);
         };
         let deadline = limit.map(|millis| Deadline::after(rt, millis));
-        match command.spawn(rt) {
+        match spawned(rt, call.leading, invocation.program(), &mut command) {
             Ok(mut child) => Ok(MetaChild {
                 stdout: child.stdout.take(),
                 child,
@@ -182,14 +206,14 @@ where
                 progress: Progress::Open,
                 deadline,
             }),
-            Err(error) => Err(MetaFault::NotStarted(refused_meta(rt, provider, agent, &error))),
+            Err(error) => Err(MetaFault::NotStarted(refused_meta(rt, call, &error))),
         }
     }
 
     /// Returns the answer if there is one, without waiting for it. The agent has answered once it has ended and no other process
     /// holds its output. Errors come in this order: its output or its end cannot be read, or does not come in time, and then the
     /// agent was ended with all its descendants; its exit code was not 0; it wrote too much.
-    pub fn poll<R: Processes + Clock + Eprint + ProcFiles>(
+    pub fn poll<R: Clock + Eprint + ProcFiles + Signals>(
         mut self,
         rt: &R,
         alloc: A,
@@ -248,7 +272,7 @@ where
     }
 
     /// Gives the agent up and ends it with all its descendants. An agent that lives on is named on standard error.
-    pub fn give_up<R: Processes + Clock + Eprint + ProcFiles>(mut self, rt: &R, alloc: A) {
+    pub fn give_up<R: Clock + Eprint + ProcFiles + Signals>(mut self, rt: &R, alloc: A) {
         if end_child(rt, alloc, &mut self.child) {
             report_alive(rt, &self.child, "meta-data");
         }

@@ -1,223 +1,96 @@
 //! Agents as processes of the system.
-ghost use Rattle.std.specs.Prelude.{◌≡◌, ◌<◌, ◌≤◌, [], Contains, IfOk, IsTrue, None, OnErr};
+ghost use Rattle.std.specs.Prelude.{◌≡◌, ◌<◌, ◌≤◌, ◌++◌, [], ◌∷◌, ℕ, List, Contains, IfOk, IsTrue, None, OnErr};
 ghost use Rattle.child_keeper.specs.Agents.{runs_of};
-ghost use Rattle.child_model.specs.Children.{without_run};
+ghost use Rattle.child_keeper.specs.Processes.{fresh_processes};
+ghost use Rattle.child_keeper.specs.Waits.{ids_of};
+ghost use Rattle.child_model.specs.Children.{after_ends, without_run};
 
 use crate::agents::{Agent, Agents};
 use crate::book::Book;
-use crate::command::{command_of, write_to};
-use crate::ending::end_agents;
+use crate::command::{command_by, write_to};
 use crate::ends::poll_of;
-use crate::live::LIVE_LIMIT;
+use crate::gate::{check_program, open_gate};
+use crate::logging::{action_of, begun_of, log_end, log_killed, log_refused, report_signaled};
+use crate::moments::{millis_of, monotonic};
+use crate::open_record::OpenRecord;
+use crate::opening::{Upkeep, find_orphans, leading};
+use crate::record::Record;
 use crate::refused::{name_text, refused};
-use crate::survivors::Survivors;
+use crate::wait::Wait;
+use crate::waits::Waits;
 use crate::{Answer, Children, Entry, KillFault, Poll};
-use agent_logs::{Begun, Ended, Log, LoggedEnd};
+use agent_logs::{Log, LoggedEnd, Uncopied};
+use agents_file::AgentEntry;
 use disk_model::Disk;
+use exec_commands::Left;
 use exec_journal::Journal;
 use growth::{GROWTH_LIMIT, Grows};
-use ocf_env::{Invocation, Launch};
-use ocf_types::{RunId, StartFault};
+use ocf_env::Launch;
+use ocf_types::{Action, RscId, RunId, StartFault};
 use proc_files::ProcFiles;
-use process_ends::report_alive;
+use process_ends::{Leading, Programs, Signals, end_child};
 use std::alloc::{AllocError, Allocator, Global};
-use std::io::{self, Eprint};
-use std::process::{Child, OpenProcess};
+use std::io::{self, Eprint, ErrorKind};
+use std::process::{self, Child, OpenProcess};
 use std::rt::Clock;
 use std::time::Duration;
-use std::{mem, process};
 
 /// Agents as processes of the system. Each runs in the root directory with exactly the variables of its launch, reads nothing and
 /// writes where the log says. It has no descriptor but 0, 1 and 2, blocks no signal, is ended by SIGPIPE, and has the umask of
-/// this process. OCF Resource Agent API 1.1, actions.
+/// this process. It leads a session and a process group of its own, if a program is found that does this. OCF Resource Agent API 1.1,
+/// actions; POSIX, setsid.
 ///
-/// `kill` only gives an agent up; `end_killed` ends all given up, each with its descendants and its background jobs in the
-/// executor's session of setsid(2). All get SIGSTOP before SIGKILL, so that none spawns others unseen. It waits for their end a
-/// tenth of a second at most, and names each process that lives on by its number and its command on standard error. While such
-/// an agent lives on, the next actions of its resource except a stop are refused as [`StartFault::Other`].
+/// Each agent is entered into the record of who runs before the launcher runs it; without the launcher, just after it was spawned. The
+/// entry goes when its processes have ended. An agent that cannot be entered is not run.
 ///
-/// A spawn takes memory from the allocator; so does the search of `end_killed`, which without it kills the agents and what it
-/// found before. A spawn is refused as [`StartFault::Other`] if memory or descriptors have run out, or for any cause but a
+/// `kill` only gives an agent up; `end_killed` ends all given up, each with its process group and the descendants of both. It waits for
+/// their end a tenth of a second at most. Whatever lives on holds its resource, and is killed again each second.
+/// An agent that an earlier executor left running holds its resource until it ends, or is killed when its time is over. Both are
+/// reported on standard error when they begin and when they are over.
+///
+/// A spawn takes memory from the allocator; so does the search of `end_killed`, which without it kills the groups, the agents and what
+/// it found before. A spawn is refused as [`StartFault::Other`] if memory or descriptors have run out, or for any cause but a
 /// missing file or permission; the error is then reported on standard error. So is the signal that ended an agent.
 #[derive(Drop)]
 pub struct Processes<R: process::Processes + Drop, A: Allocator + Copy = Global> {
     rt: R,
     alloc: A,
     log: Log,
+    leading: Leading<A>,
+    roster: Record,
     book: Book<A>,
-    live: Agents<R::Started, A>,
-    given_up: Agents<R::Started, A>,
-    survivors: Survivors<R::Started, A>,
+    agents: Agents<R::Started, A>,
+    waits: Waits<R::Started, A>,
     last_run: u64,
 }
 
-impl<R: process::Processes + Clock + Eprint + ProcFiles + Drop, A: Grows> Processes<R, A> {
-    ghost use Rattle.child_keeper.specs.Processes.{processes_of};
-
-    /// No agent processes yet; they will write to this log. The book has the capacity for this many entries. Its memory and that for
-    /// all processes that may live are taken here. It fails where memory is refused, and for a book of more than [`GROWTH_LIMIT`]
-    /// entries.
-    pub fn new(rt: R, alloc: A, log: Log, book: usize) -> Result<Processes<R, A>, AllocError>
-        ensures children { IfOk result
-            (λ p. processes_of p ≡ record { book = []; log = []; room = book; last_run = 0; live = []; site = None }) }
-        ensures memory { OnErr result (book ≤ GROWTH_LIMIT → IsTrue A.refuses) }
-    {
-        Ok(Processes {
-            rt,
-            alloc,
-            log,
-            book: Book::new(alloc, book)?,
-            live: Agents::new(alloc)?,
-            given_up: Agents::new(alloc)?,
-            survivors: Survivors::new(alloc)?,
-            last_run: 0,
-        })
-    }
-
-    // Ends the agents that were given up.
-    fn end_given_up(&mut self)
-        ensures same { processes_of self.new ≡ processes_of self.old }
-        ensures none { runs_of self.new.given_up.agents.items ≡ [] }
-    {
-        end_all(
-            &self.rt,
-            self.alloc,
-            &mut self.given_up,
-            &mut self.survivors,
-        );
-    }
-
-    // Spawns an agent; while an agent of its resource outlives its SIGKILL, only that of a stop. A refusal by the system is
-    // written to the log.
-    fn spawned<L: Allocator>(&mut self, launch: &Launch<L>) -> Result<Child<R::Started>, StartFault>
-        ensures same { processes_of self.new ≡ processes_of self.old }
-        ensures live { self.new.live ≡ self.old.live }
-    {
-        self.survivors.reap();
-        if self.survivors.has(&launch.id) && !is_stop(launch) {
-            return Err(StartFault::Other);
-        }
-        match spawn(&self.rt, self.alloc, &self.log, launch) {
-            Ok(child) => Ok(child),
-            Err(error) => {
-                let fault = refused_run(&self.rt, launch, &error);
-                log_refused(&self.rt, &self.log, launch, fault);
-                Err(fault)
-            }
-        }
-    }
-
-    // Gives an agent up, to be ended later, and writes that to the log.
-    fn give_up(&mut self, run: RunId, end: LoggedEnd)
-        requires lives { Contains (processes_of self.old).live run }
-        ensures gone { processes_of self.new
-            ≡ record (processes_of self.old) {
-              live = without_run run
-                  (processes_of self.old).live;
-            } }
-    {
-        let agent = self.live.take(run);
-        log_end(&self.rt, &self.log, &agent, end);
-        if self.given_up.len() >= LIVE_LIMIT {
-            self.end_given_up();
-        }
-        self.given_up.add(agent);
-    }
+// An agent's process that was spawned, and what is to be copied of its output.
+#[derive(Drop)]
+struct Spawned<P: OpenProcess + Drop> {
+    child: Child<P>,
+    uncopied: Uncopied,
 }
 
-// A reading of the monotonic clock, zero where it fails.
-fn monotonic(rt: &impl Clock) -> Duration {
-    rt.monotonic().unwrap_or(Duration::ZERO)
+// What is written down of an agent's process: its start and its slot in the record.
+#[derive(Clone, Copy)]
+struct Entered {
+    start: Option<u64>,
+    slot: Option<usize>,
 }
 
-// How many milliseconds have passed since a reading of the monotonic clock.
-fn millis_since(rt: &impl Clock, spawned_at: Duration) -> u64 {
-    let passed = monotonic(rt).saturating_sub(spawned_at);
-    u64::try_from(passed.as_millis()).unwrap_or(u64::MAX)
-}
-
-// Writes to the log that an agent has ended.
-fn log_end<R: Clock + Eprint, P: OpenProcess + Drop>(
+// Has a wait begin for each agent that was given up.
+fn begin_waits<R: Eprint, P: OpenProcess + Drop, A: Allocator + Copy>(
     rt: &R,
-    log: &Log,
-    agent: &Agent<P>,
-    end: LoggedEnd,
-) {
-    let ended = Ended {
-        run: agent.run,
-        end,
-        millis: millis_since(rt, agent.spawned_at),
-    };
-    log.end(rt, &agent.id, ended);
-}
-
-// Writes to the log that all these agents are given up: the executor ends, or another one is opened with these children.
-fn log_killed<R: Clock + Eprint, P: OpenProcess + Drop>(rt: &R, log: &Log, agents: &[Agent<P>]) {
-    for agent in agents {
-        log_end(rt, log, agent, LoggedEnd::Killed);
-    }
-}
-
-// Writes to the log that an agent was not spawned.
-fn log_refused<R: Clock + Eprint, L: Allocator>(
-    rt: &R,
-    log: &Log,
-    launch: &Launch<L>,
-    fault: StartFault,
-) {
-    let ended = Ended {
-        run: launch.run,
-        end: LoggedEnd::Refused(fault),
-        millis: 0,
-    };
-    log.end(rt, &launch.id, ended);
-}
-
-// Ends agents that were given up. Those that live on are named on standard error and reaped later.
-fn end_all<
-    R: process::Processes + Clock + Eprint + ProcFiles,
-    P: OpenProcess + Drop,
-    A: Allocator + Copy,
->(rt: &R, alloc: A, given_up: &mut Agents<P, A>, survivors: &mut Survivors<P, A>)
-    ensures none { runs_of given_up.new.agents.items ≡ [] }
+    alloc: A,
+    agents: &mut Agents<P, A>,
+    waits: &mut Waits<P, A>,
+)
+    ensures none { runs_of agents.new.given_up.items ≡ [] }
+    ensures live { agents.new.agents ≡ agents.old.agents }
 {
-    if !given_up.agents.is_empty() {
-        end_agents(rt, alloc, given_up);
+    while let Some(agent) = agents.pop_given_up() {
+        waits.add(rt, Wait::of_agent(alloc, agent));
     }
-    while let Some(agent) = given_up.pop() {
-        report_survivor(rt, &agent);
-        survivors.add(agent);
-    }
-}
-
-// Reports on standard error that an agent that was given up lives on, and that it delays the actions of its resource.
-fn report_survivor<R: Eprint + ProcFiles, P: OpenProcess + Drop>(rt: &R, agent: &Agent<P>) {
-    let run = agent.run.get();
-    report_alive(rt, &agent.child, format_args!("run {run}"));
-    let id = name_text(agent.id.as_bytes());
-    let _ = rt.eprintln(format_args!(
-        "ocfexec: until it ends, no action of {id} except stop is started"
-    ));
-}
-
-// Reports on standard error which signal ended an agent, since its result does not record that.
-fn report_signaled<R: Eprint, P: OpenProcess + Drop>(rt: &R, agent: &Agent<P>, signal: u8) {
-    let (run, id) = (agent.run.get(), name_text(agent.id.as_bytes()));
-    let _ = rt.eprintln(format_args!("ocfexec: run {run} of {id} was ended by signal {signal}"));
-}
-
-// The name of the action of an invocation: its last argument.
-fn action_of<L: Allocator>(invocation: &Invocation<L>) -> &str {
-    match invocation.arguments().last() {
-        Some(action) => action.as_str(),
-        None => "",
-    }
-}
-
-// Whether a launch is that of a stop, which is spawned even while an agent of its resource that was given up lives on. OCF Resource Agent
-// API 1.1, stop.
-fn is_stop<L: Allocator>(launch: &Launch<L>) -> bool {
-    action_of(&launch.invocation) == "stop"
 }
 
 // Why an agent was not spawned.
@@ -230,27 +103,192 @@ fn refused_run<R: Eprint, L: Allocator>(
     refused(rt, format_args!("run {run} of {id}"), error)
 }
 
-// Writes to the log that a launch begins, and spawns its agent.
-fn spawn<R: process::Processes + Clock + Eprint, A: Allocator + Copy, L: Allocator>(
-    rt: &R,
-    alloc: A,
-    log: &Log,
-    launch: &Launch<L>,
-) -> io::Result<Child<R::Started>> {
-    let begun = Begun {
-        call: launch.call,
-        run: launch.run,
-        action: action_of(&launch.invocation),
-        timeout: launch.timeout,
-    };
-    let streams = log.begin(rt, &launch.id, &begun)?;
-    let mut command = command_of(alloc, &launch.invocation)?;
-    write_to(&mut command, streams.output, streams.errors);
-    command.spawn(rt)
+// The action of a launch.
+fn named<L: Allocator>(launch: &Launch<L>) -> io::Result<Action> {
+    match Action::named(action_of(&launch.invocation)) {
+        Some(action) => Ok(action),
+        None => Err(io::Error::from(ErrorKind::InvalidInput)),
+    }
 }
 
-impl<R: process::Processes + Clock + Eprint + ProcFiles + Drop, A: Allocator + Copy> Children
-    for Processes<R, A> {
+impl<
+    R: process::Processes + Clock + Eprint + ProcFiles + Signals + Programs + OpenRecord + Drop,
+    A: Grows,
+> Processes<R, A> {
+    ghost use Rattle.child_keeper.specs.Processes.{processes_of};
+
+    /// No agent processes yet; they will write to this log. The book has the capacity for this many entries. Its memory and that for
+    /// all processes that may live are taken here. What an earlier executor left running is found by the record of who runs, and
+    /// returned: their resources are held, unless the options say otherwise. It fails where memory is refused, and for a book of more
+    /// than [`GROWTH_LIMIT`] entries.
+    pub fn new(
+        rt: R,
+        alloc: A,
+        log: Log,
+        book: usize,
+        upkeep: Upkeep<'_>,
+    ) -> Result<(Processes<R, A>, Vec<Left, A>), AllocError>
+        ensures children { IfOk result (λ made. (held : List (List ℕ))
+            × (processes_of made.0 ≡ fresh_processes book held)) }
+        ensures memory { OnErr result (book ≤ GROWTH_LIMIT → IsTrue A.refuses) }
+    {
+        let book = Book::new(alloc, book)?;
+        let agents = Agents::new(alloc)?;
+        let leading = leading(&rt, alloc, upkeep.groups)?;
+        let orphans = find_orphans(&rt, alloc, upkeep)?;
+        let processes = Processes {
+            rt,
+            alloc,
+            log,
+            leading,
+            roster: orphans.roster,
+            book,
+            agents,
+            waits: orphans.waits,
+            last_run: 0,
+        };
+        Ok((processes, orphans.left))
+    }
+
+    // Ends the agents that were given up, and goes on with the waits.
+    fn end_given_up(&mut self)
+        ensures ended { processes_of self.new
+            ≡ after_ends (processes_of self.old) (ids_of self.new.waits.waits.items) }
+    {
+        begin_waits(&self.rt, self.alloc, &mut self.agents, &mut self.waits);
+        if !self.waits.waits.is_empty() {
+            self.waits.go_on(&self.rt, self.alloc, &mut self.roster);
+        }
+    }
+
+    // Writes to the log that a launch begins, and spawns its agent, or the launcher, which waits.
+    fn spawn<L: Allocator>(&self, launch: &Launch<L>) -> io::Result<Spawned<R::Started>> {
+        let outlet = self.log.begin(&self.rt, &launch.id, &begun_of(launch))?;
+        check_program(&self.rt, &self.leading, launch.invocation.program())?;
+        let mut command = command_by(self.alloc, &self.leading, &launch.invocation)?;
+        write_to(&mut command, outlet.streams.output, outlet.streams.errors);
+        Ok(Spawned {
+            child: command.spawn(&self.rt)?,
+            uncopied: outlet.uncopied,
+        })
+    }
+
+    // When a process started, if that is needed for the record and can be read.
+    fn start_of(&self, pid: u32) -> Option<u64> {
+        if !self.roster.is_kept() {
+            return None;
+        }
+        match self.rt.process_of(pid) {
+            Ok(Some(process)) => Some(process.start),
+            _ => None,
+        }
+    }
+
+    // Enters the process of a launch into the record, and then lets it run.
+    fn enter<L: Allocator>(
+        &mut self,
+        launch: &Launch<L>,
+        spawned_at: Duration,
+        child: &mut Child<R::Started>,
+    ) -> io::Result<Entered>
+        ensures same { processes_of self.new ≡ processes_of self.old }
+        ensures agents { self.new.agents ≡ self.old.agents }
+    {
+        let pid = child.id();
+        let start = self.start_of(pid);
+        let entry = AgentEntry {
+            run: launch.run,
+            id: launch.id.copied(),
+            action: named(launch)?,
+            pid,
+            start: start.unwrap_or(0),
+            began: millis_of(spawned_at),
+            timeout: launch.timeout.get(),
+        };
+        let slot = self.roster.put(&entry)?;
+        if let Err(error) = open_gate(child) {
+            self.roster.clear(&self.rt, slot);
+            return Err(error);
+        }
+        Ok(Entered { start, slot })
+    }
+
+    // Spawns the agent of a launch and enters it into the record. If it cannot be entered, it is ended.
+    fn begun<L: Allocator>(&mut self, launch: &Launch<L>) -> io::Result<Agent<R::Started>>
+        ensures same { processes_of self.new ≡ processes_of self.old }
+        ensures agents { self.new.agents ≡ self.old.agents }
+        ensures run { IfOk result (λ agent. agent.run ≡ launch.now.run) }
+    {
+        let spawned_at = monotonic(&self.rt);
+        let action = named(launch)?;
+        let mut spawned = self.spawn(launch)?;
+        match self.enter(launch, spawned_at, &mut spawned.child) {
+            Ok(entered) => Ok(Agent {
+                run: launch.run,
+                id: launch.id.copied(),
+                action,
+                spawned_at,
+                child: spawned.child,
+                start: entered.start,
+                slot: entered.slot,
+                uncopied: spawned.uncopied,
+            }),
+            Err(error) => {
+                end_child(&self.rt, self.alloc, &mut spawned.child);
+                Err(error)
+            }
+        }
+    }
+
+    // Spawns the agent of a launch, unless its resource is held. A refusal is written to the log.
+    fn spawned<L: Allocator>(&mut self, launch: &Launch<L>) -> Result<Agent<R::Started>, StartFault>
+        ensures same { processes_of self.new ≡ processes_of self.old }
+        ensures agents { self.new.agents ≡ self.old.agents }
+        ensures run { IfOk result (λ agent. agent.run ≡ launch.now.run) }
+    {
+        if self.waits.holds(&launch.id) {
+            return Err(StartFault::Other);
+        }
+        match self.begun(launch) {
+            Ok(agent) => Ok(agent),
+            Err(error) => {
+                let fault = refused_run(&self.rt, launch, &error);
+                log_refused(&self.rt, &self.log, launch, fault);
+                Err(fault)
+            }
+        }
+    }
+
+    // Removes an agent that has ended, frees its entry, and writes that to the log.
+    fn reaped(&mut self, run: RunId, end: LoggedEnd) -> Agent<R::Started>
+        requires lives { Contains (processes_of self.old).live run }
+        ensures gone { processes_of self.new
+            ≡ record (processes_of self.old) { live = without_run run (processes_of self.old).live } }
+    {
+        let agent = self.agents.take(run);
+        self.roster.clear(&self.rt, agent.slot);
+        log_end(&self.rt, &self.log, &agent, end);
+        agent
+    }
+
+    // Gives an agent up, to be ended later, and writes that to the log.
+    fn give_up(&mut self, run: RunId, end: LoggedEnd)
+        requires lives { Contains (processes_of self.old).live run }
+        ensures gone { processes_of self.new
+            ≡ record (processes_of self.old) {
+              live = without_run run (processes_of self.old).live;
+              given_up = (processes_of self.old).given_up ++ run ∷ [];
+            } }
+    {
+        log_end(&self.rt, &self.log, self.agents.of_run(run), end);
+        self.agents.give_up(run);
+    }
+}
+
+impl<
+    R: process::Processes + Clock + Eprint + ProcFiles + Signals + Programs + OpenRecord + Drop,
+    A: Allocator + Copy,
+> Children for Processes<R, A> {
     ghost use Rattle.child_keeper.specs.Processes.{processes_of};
 
     ghost view = { processes_of };
@@ -261,16 +299,9 @@ impl<R: process::Processes + Clock + Eprint + ProcFiles + Drop, A: Allocator + C
         launch: &Launch<L>,
     ) -> Result<(), StartFault> {
         let run = launch.run;
-        let spawned_at = monotonic(&self.rt);
         let answer = match self.spawned(launch) {
-            Ok(child) => {
-                let id = launch.id.copied();
-                self.live.add(Agent {
-                    run,
-                    id,
-                    spawned_at,
-                    child,
-                });
+            Ok(agent) => {
+                self.agents.add(agent);
                 Ok(())
             }
             Err(fault) => Err(fault),
@@ -285,7 +316,7 @@ impl<R: process::Processes + Clock + Eprint + ProcFiles + Drop, A: Allocator + C
     }
 
     fn poll(&mut self, run: RunId) -> Poll {
-        let answer = poll_of(&self.live.ask(run));
+        let answer = poll_of(&self.agents.ask(run));
         self.book.note(Entry {
             run,
             at: 0,
@@ -294,12 +325,10 @@ impl<R: process::Processes + Clock + Eprint + ProcFiles + Drop, A: Allocator + C
         match answer {
             Poll::Running => {}
             Poll::Exited(code) => {
-                let agent = self.live.take(run);
-                log_end(&self.rt, &self.log, &agent, LoggedEnd::Exited(code));
+                let _ = self.reaped(run, LoggedEnd::Exited(code));
             }
             Poll::Signaled(signal) => {
-                let agent = self.live.take(run);
-                log_end(&self.rt, &self.log, &agent, LoggedEnd::Signaled(signal));
+                let agent = self.reaped(run, LoggedEnd::Signaled(signal));
                 report_signaled(&self.rt, &agent, signal);
             }
             Poll::Fault => self.give_up(run, LoggedEnd::Lost),
@@ -322,15 +351,12 @@ impl<R: process::Processes + Clock + Eprint + ProcFiles + Drop, A: Allocator + C
     }
 
     fn give_up_all(&mut self) {
+        log_killed(&self.rt, &self.log, self.agents.agents.as_slice());
+        self.agents.give_up_all();
         self.end_given_up();
-        log_killed(&self.rt, &self.log, self.live.agents.as_slice());
-        mem::swap(&mut self.live, &mut self.given_up);
-        self.end_given_up();
-        self.survivors.reap();
     }
 
     fn clear_book(&mut self) {
-        self.survivors.reap();
         self.book.clear();
     }
 
@@ -346,11 +372,15 @@ impl<R: process::Processes + Clock + Eprint + ProcFiles + Drop, A: Allocator + C
         self.book.room
     }
 
+    fn holds(&self, id: &RscId) -> bool {
+        self.waits.holds(id)
+    }
+
     fn is_live(&self, run: RunId) -> bool {
-        self.live.contains(run)
+        self.agents.contains(run)
     }
 
     fn live_count(&self) -> usize {
-        self.live.len()
+        self.agents.len()
     }
 }

@@ -2,7 +2,7 @@
 ghost use Rattle.std.specs.Prelude.{◌≡◌, ◌-◌, ◌<◌, ◌==◌, ◌≤◌, [], Contains, IfOk, IsTrue, None, OnErr, drop, length};
 ghost use Rattle.std.specs.VecDeque.{deque_items};
 ghost use Rattle.exec_journal.specs.Journal.{journal_disk};
-ghost use Rattle.child_model.specs.Children.{after_kill, after_poll, after_start, live_limit};
+ghost use Rattle.child_model.specs.Children.{AllEnded, Ended, after_ends, after_kill, after_poll, after_start, all_ended, live_limit};
 ghost use Rattle.child_model.specs.MayStart.{MayStart};
 ghost use Rattle.child_keeper.specs.Scripts.{head_or, killed_on, next_kill, next_poll, next_start, polled_on, started_on};
 
@@ -13,7 +13,7 @@ use disk_model::Disk;
 use exec_journal::Journal;
 use growth::{GROWTH_LIMIT, Grows};
 use ocf_env::Launch;
-use ocf_types::{RunId, StartFault};
+use ocf_types::{RscId, RunId, StartFault};
 use std::alloc::{AllocError, Allocator, Global};
 use std::collections::VecDeque;
 
@@ -34,7 +34,7 @@ impl<A: Grows> Scripted<A> {
     /// of more than [`GROWTH_LIMIT`] entries.
     pub fn new(alloc: A, script: Script<A>, book: usize) -> Result<Scripted<A>, AllocError>
         ensures children { IfOk result
-            (λ c. children_of c ≡ record { book = []; log = []; room = book; last_run = 0; live = []; site = None }) }
+            (λ c. children_of c ≡ record { book = []; log = []; room = book; last_run = 0; live = []; given_up = []; held = deque_items script.holds; site = None }) }
         ensures script { IfOk result (λ c. script_of c ≡ script_view script) }
         ensures memory { OnErr result (book ≤ GROWTH_LIMIT → IsTrue A.refuses) }
     {
@@ -88,6 +88,7 @@ impl<A: Allocator + Copy> Children for Scripted<A> {
         requires room { 0 < (children_of self.old).room }
         requires few { length (children_of self.old).live < live_limit }
         requires rising { (children_of self.old).last_run < launch.now.run }
+        requires ended { (children_of self.old).given_up ≡ [] }
         requires may_start { MayStart (children_of self.old).site journal.now
             (D.view (journal_disk journal.now)) launch.now }
         ensures started { children_of self.new
@@ -133,6 +134,7 @@ impl<A: Allocator + Copy> Children for Scripted<A> {
         });
         match answer {
             Poll::Running => {}
+            Poll::Fault => self.live.give_up(run),
             _ => self.live.remove(run),
         }
         answer
@@ -153,13 +155,26 @@ impl<A: Allocator + Copy> Children for Scripted<A> {
             at: 0,
             answer: Answer::Kill(answer),
         });
-        self.live.remove(run);
+        self.live.give_up(run);
         answer
     }
 
-    fn end_killed(&mut self) {}
+    fn end_killed(&mut self)
+        ensures ended { Ended (children_of self.old) (children_of self.new) }
+        ensures released { children_of self.new
+            ≡ after_ends (children_of self.old) (drop 1 (children_of self.old).held) }
+        ensures script { script_of self.new ≡ script_of self.old }
+    {
+        self.live.forget_given_up();
+        let _ = self.script.holds.pop_front();
+    }
 
-    fn give_up_all(&mut self) {
+    fn give_up_all(&mut self)
+        ensures ended { AllEnded (children_of self.old) (children_of self.new) }
+        ensures held { children_of self.new
+            ≡ all_ended (children_of self.old) (children_of self.old).held }
+        ensures script { script_of self.new ≡ script_of self.old }
+    {
         self.live.clear();
     }
 
@@ -177,6 +192,10 @@ impl<A: Allocator + Copy> Children for Scripted<A> {
 
     fn room(&self) -> usize {
         self.book.room
+    }
+
+    fn holds(&self, id: &RscId) -> bool {
+        self.script.holds.iter().any(|held| held == id)
     }
 
     fn is_live(&self, run: RunId) -> bool {

@@ -1,6 +1,8 @@
 -- The view of agent processes, and how each call changes it.
-use Rattle.std.specs.Prelude.{◌≡◌, ℕ, ◌+◌, ◌-◌, ◌==◌, ⊤, List, [], ◌∷◌, ◌++◌, filter, length, not, Option, Some, None, Result, Ok, Err, All}
+use Rattle.std.specs.Prelude.{◌≡◌, ℕ, Bool, ◌+◌, ◌-◌, ◌==◌, ⊤, List, [], ◌∷◌, ◌++◌, filter, length, not, Option, Some, None, Result, Ok, Err, All}
 use Rattle.std.specs.Prelude.{Contains}
+use Rattle.std.specs.List.{list_any}
+use Rattle.std.specs.Str.{bytes_eq}
 use Rattle.ocf_env.specs.Locations.{SiteView}
 use Rattle.ocf_types.specs.Limits.{resources_limit}
 use Rattle.ocf_types.specs.declared.outcome.StartFault.{StartFault}
@@ -17,13 +19,16 @@ live_limit = resources_limit
 
 -- the children as the executor sees them: the book of answers and how many more entries fit, the log of all answers, which exists
 -- only in contracts, the greatest run for which a start was called (0 if none was), the live runs in the order of their starts,
--- and the only site at which they start agents, if they name one
+-- the runs that were given up and not ended yet, the ids of the resources that are held because processes of an earlier action of
+-- theirs live, and the only site at which they start agents, if they name one
 pub record ChildrenView : Type 0 where
   pub book : List Entry
   pub log : List Entry
   pub room : ℕ
   pub last_run : ℕ
   pub live : List ℕ
+  pub given_up : List ℕ
+  pub held : List (List ℕ)
   pub site : Option SiteView
 
 -- these children start agents at this site: at any, if they name none, or at the one that they name
@@ -63,21 +68,43 @@ abbrev pub live_polled : Poll → ℕ → List ℕ → List ℕ
 live_polled poll.Running run live = live
 live_polled _ run live = without_run run live
 
+-- the runs that were given up after a poll: this run too, if the system failed to answer
+abbrev pub given_up_polled : Poll → ℕ → List ℕ → List ℕ
+given_up_polled poll.Fault run given_up = given_up ++ run ∷ []
+given_up_polled _ run given_up = given_up
+
 -- the view after a start of a run, called when the journal's disk had had this many device calls
 abbrev pub after_start : ChildrenView → ℕ → ℕ → Result Unit StartFault → ChildrenView
 after_start v run at answer = record (with_entry v run at (start_answer answer)) { last_run = run; live = live_started answer run v.live }
 
 -- the view after a poll of a run
 abbrev pub after_poll : ChildrenView → ℕ → Poll → ChildrenView
-after_poll v run answer = record (with_entry v run 0 (poll_answer answer)) { live = live_polled answer run v.live }
+after_poll v run answer =
+    record (with_entry v run 0 (poll_answer answer)) { live = live_polled answer run v.live; given_up = given_up_polled answer run v.given_up }
 
--- the view after a kill of a run: it no longer lives, whatever the kill answered
+-- the view after a kill of a run: it no longer lives and is given up, whatever the kill answered
 abbrev pub after_kill : ChildrenView → ℕ → Result Unit KillFault → ChildrenView
-after_kill v run answer = record (with_entry v run 0 (kill_answer answer)) { live = without_run run v.live }
+after_kill v run answer = record (with_entry v run 0 (kill_answer answer)) { live = without_run run v.live; given_up = v.given_up ++ run ∷ [] }
 
--- the view after all agent processes were given up
-abbrev pub given_up : ChildrenView → ChildrenView
-given_up v = record v { live = [] }
+-- the view after all that were given up were ended, with these resources held
+abbrev pub after_ends : ChildrenView → List (List ℕ) → ChildrenView
+after_ends v held = record v { given_up = []; held = held }
+
+-- the view after all agent processes were given up and ended, with these resources held
+abbrev pub all_ended : ChildrenView → List (List ℕ) → ChildrenView
+all_ended v held = record (after_ends v held) { live = [] }
+
+-- all that were given up were ended, and any resources are held after it
+abbrev pub Ended : ChildrenView → ChildrenView → Type 0
+Ended old new = (held : List (List ℕ)) × (new ≡ after_ends old held)
+
+-- all agent processes were given up and ended, and any resources are held after it
+abbrev pub AllEnded : ChildrenView → ChildrenView → Type 0
+AllEnded old new = (held : List (List ℕ)) × (new ≡ all_ended old held)
+
+-- whether a resource is one of those held
+abbrev pub is_held : List (List ℕ) → List ℕ → Bool
+is_held held id = list_any (bytes_eq id) held
 
 -- the view after the book was cleared: the capacity of its entries is free again, and the log has not changed
 abbrev pub emptied : ChildrenView → ChildrenView

@@ -3,14 +3,14 @@ ghost use Rattle.std.specs.Prelude.{◌≡◌, ◌≢◌, ◌↔◌, ◌⊎◌, 
 ghost use Rattle.std.specs.Prelude.{cond, is_ok, length};
 ghost use Rattle.ocf_types.specs.declared.outcome.StartFault.{StartFault};
 ghost use Rattle.child_model.specs.Children.{Adds, Asked, AsksNothing, ChildrenView, after_kill, after_poll, after_start, emptied};
-ghost use Rattle.child_model.specs.Children.{given_up, kill_answer, poll_answer, start_answer};
+ghost use Rattle.child_model.specs.Children.{all_ended, after_ends, kill_answer, poll_answer, start_answer};
 ghost use Rattle.child_model.specs.declared.answer.Entry.{Entry};
 ghost use Rattle.child_model.specs.declared.answer.KillFault.{KillFault};
 ghost use Rattle.child_model.specs.declared.answer.Poll.{Poll};
 ghost use Rattle.child_model.specs.declared.answer.Poll.TheVariants.{Running};
 
 /// A call appends one entry to the book and to the log, with its run and the answer that it returned. The log of all answers
-/// does not change when the book is cleared or all agent processes are given up.
+/// does not change when the book is cleared or agent processes are ended.
 pub fn lemma_one_entry()
     ensures start { (v : ChildrenView) (run at : ℕ) (answer : Result Unit StartFault)
         → Adds v (after_start v run at answer)
@@ -21,7 +21,9 @@ pub fn lemma_one_entry()
     ensures kill { (v : ChildrenView) (run : ℕ) (answer : Result Unit KillFault)
         → Adds v (after_kill v run answer)
         (record { run = run; at = 0; answer = kill_answer answer }) }
-    ensures stays { (v : ChildrenView) → ((emptied v).log ≡ v.log) × ((given_up v).log ≡ v.log) }
+    ensures stays { (v : ChildrenView) (held : List (List ℕ))
+        → ((emptied v).log ≡ v.log) × ((all_ended v held).log ≡ v.log)
+        × ((after_ends v held).log ≡ v.log) }
 {}
 
 /// An entry determines the answer of its call: different answers to a start have different entries, and so for a poll and a kill.

@@ -144,36 +144,36 @@ module _ (book : List Entry) where
   moved reported sent2 es es2 same same2 b =
       subst (λ (ns : List Notice). BackedBy (map (noticed_by book) ns) es) (sym same) (subst (λ (fs : List Event). BackedBy (map (noticed_by book) sent2) fs) (sym same2) b)
 
-  whole_after : (end : TurnEnd) (x : BatchStart) (did : Effects) (reported : List Notice) → Whole end x did reported
+  whole_after : (held : List (List ℕ)) (end : TurnEnd) (x : BatchStart) (did : Effects) (reported : List Notice) → Whole held end x did reported
       → BackedBy (map (noticed_by book) reported) did.events
-  whole_after end x did reported (t, is, ns) =
+  whole_after held end x did reported (t, is, ns) =
       moved reported _ did.events _ ns (same_events is)
       (subst (λ (ss : List SentItem). BackedBy ss (results x.at t.polled ++ begins x.at t.begun ++ refusals x.at t.started))
       (sym (map-append (noticed_by book) (result_notices x.at t.polled) (refusal_notices x.at t.started)))
       (both_after _ _ _ _ (begun_after x.at t.polled t.begun) (refusals_after x.at t.started)))
 
   -- a turn
-  pub turn_after : (end : TurnEnd) (x : BatchStart) (did : Effects) (reported : List Notice) → IsTurn end x did reported
+  pub turn_after : (held : List (List ℕ)) (end : TurnEnd) (x : BatchStart) (did : Effects) (reported : List Notice) → IsTurn held end x did reported
       → BackedBy (map (noticed_by book) reported) did.events
-  turn_after turn_end.Closed x did reported none = absurd none
-  turn_after turn_end.BookFull x did reported (is, ns) = moved reported [] did.events [] ns (same_events is) nothing
-  turn_after turn_end.Done x did reported whole = whole_after turn_end.Done x did reported whole
-  turn_after turn_end.RunsSpent x did reported whole = whole_after turn_end.RunsSpent x did reported whole
-  turn_after turn_end.Full x did reported whole = whole_after turn_end.Full x did reported whole
-  turn_after turn_end.Memory x did reported whole = whole_after turn_end.Memory x did reported whole
-  turn_after turn_end.Disk x did reported (inl (ps, _, is, ns)) = moved reported [] did.events [] ns (same_events is) nothing
-  turn_after turn_end.Disk x did reported (inr (inl (ps, end, bs, _, _, is, ns))) =
+  turn_after held turn_end.Closed x did reported none = absurd none
+  turn_after held turn_end.BookFull x did reported (is, ns) = moved reported [] did.events [] ns (same_events is) nothing
+  turn_after held turn_end.Done x did reported whole = whole_after held turn_end.Done x did reported whole
+  turn_after held turn_end.RunsSpent x did reported whole = whole_after held turn_end.RunsSpent x did reported whole
+  turn_after held turn_end.Full x did reported whole = whole_after held turn_end.Full x did reported whole
+  turn_after held turn_end.Memory x did reported whole = whole_after held turn_end.Memory x did reported whole
+  turn_after held turn_end.Disk x did reported (inl (ps, _, is, ns)) = moved reported [] did.events [] ns (same_events is) nothing
+  turn_after held turn_end.Disk x did reported (inr (inl (ps, end, bs, _, _, is, ns))) =
       moved reported _ did.events _ ns (same_events is) (results_after x.at ps)
-  turn_after turn_end.Disk x did reported (inr (inr (end, t, is, ns))) =
+  turn_after held turn_end.Disk x did reported (inr (inr (end, t, is, ns))) =
       moved reported _ did.events _ ns (same_events is) (begun_after x.at t.polled t.begun)
 
   -- a turn that begins nothing
-  pub finish_after : (end : TurnEnd) (x : BatchStart) (did : Effects) (reported : List Notice) → IsFinish end x did reported
+  pub finish_after : (held : List (List ℕ)) (end : TurnEnd) (x : BatchStart) (did : Effects) (reported : List Notice) → IsFinish held end x did reported
       → BackedBy (map (noticed_by book) reported) did.events
-  finish_after turn_end.Done x did reported (ps, _, is, ns) = moved reported _ did.events _ ns (same_events is) (results_after x.at ps)
-  finish_after turn_end.BookFull x did reported (is, ns) = moved reported [] did.events [] ns (same_events is) nothing
-  finish_after turn_end.Disk x did reported (ps, _, is, ns) = moved reported [] did.events [] ns (same_events is) nothing
-  finish_after turn_end.Closed x did reported none = absurd none
-  finish_after turn_end.RunsSpent x did reported none = absurd none
-  finish_after turn_end.Full x did reported none = absurd none
-  finish_after turn_end.Memory x did reported none = absurd none
+  finish_after held turn_end.Done x did reported (ps, _, is, ns) = moved reported _ did.events _ ns (same_events is) (results_after x.at ps)
+  finish_after held turn_end.BookFull x did reported (is, ns) = moved reported [] did.events [] ns (same_events is) nothing
+  finish_after held turn_end.Disk x did reported (ps, _, is, ns) = moved reported [] did.events [] ns (same_events is) nothing
+  finish_after held turn_end.Closed x did reported none = absurd none
+  finish_after held turn_end.RunsSpent x did reported none = absurd none
+  finish_after held turn_end.Full x did reported none = absurd none
+  finish_after held turn_end.Memory x did reported none = absurd none

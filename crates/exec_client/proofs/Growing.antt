@@ -24,7 +24,7 @@ use Rattle.exec_ledger.specs.Pieces.{Effects, followed_by, no_effects, batch_eff
 use Rattle.executor.specs.Sessions.{TakesWhile, command_effects}
 use Rattle.executor.specs.ExecutorView.{ExecutorView, ledger_of}
 use Rattle.executor.specs.TidyCalls.{Tidies, TidiesWhile}
-use Rattle.executor.specs.TurnCalls.{FinishesTurn, TakesTurn, abandoned, with_empty_book}
+use Rattle.executor.specs.TurnCalls.{Abandons, FinishesTurn, TakesTurn, with_empty_book}
 use Rattle.executor.specs.declared.session.InputOf.TheVariants as input
 use Rattle.exec_ledger.proofs.Keeping.{command_keeps}
 use Rattle.exec_client.specs.BackedBy.{BackedBy, claims, nothing}
@@ -174,13 +174,13 @@ module _ {D : Type 0} (view : D → DiskView) where
   turn_holds now x y end is_open takes =
       one_holds x y (Took (input.Turn now) (reply.Turn end)) takes.turns.effects (noticed y)
       (while_open _ is_open (record { end = end; takes = takes; replies = refl; does = refl })) refl
-      (turn_after y.children.book end _ takes.turns.effects y.reported takes.turns.does)
+      (turn_after y.children.book y.children.held end _ takes.turns.effects y.reported takes.turns.does)
 
   pub finish_holds : (now : ℕ) (x y : ExecutorView D) (end : TurnEnd) → x.is_open ≡ true → FinishesTurn view now x y end
       → IsBacked view x y (noticed y)
   finish_holds now x y end is_open takes =
       one_holds x y (Finished now end) takes.turns.effects (noticed y) (while_open _ is_open (takes, refl)) refl
-      (finish_after y.children.book end _ takes.turns.effects y.reported takes.turns.does)
+      (finish_after y.children.book y.children.held end _ takes.turns.effects y.reported takes.turns.does)
 
   pub tidied_holds : (x y : ExecutorView D) (end : TidyEnd) → TidiesWhile x.is_open view x y end → IsBacked view x y []
   tidied_holds x y end tidies = one_holds x y (Tidied end) no_effects [] (tidies, refl) refl nothing
@@ -214,5 +214,5 @@ module _ {D : Type 0} (view : D → DiskView) where
       may_reply client_view x x given holds (none_holds x x (Answered given ∷ []) refl (states_nothing (Answered given) none)) says
 
   -- all agent processes are given up
-  pub abandoned_holds : (x y : ExecutorView D) → y ≡ abandoned x → IsBacked view x y []
+  pub abandoned_holds : (x y : ExecutorView D) → Abandons x y → IsBacked view x y []
   abandoned_holds x y given_up = one_holds x y Abandoned no_effects [] (given_up, refl) refl nothing

@@ -1,12 +1,12 @@
 -- The call of the agent of an action that is run once.
-use Rattle.std.specs.Prelude.{◌≡◌, ◌↔◌, ℕ, List, Contains, IsTrue, codes}
+use Rattle.std.specs.Prelude.{◌≡◌, ◌↔◌, ℕ, List, Contains, IsTrue, Option, codes}
 use Rattle.std.specs.declared.process.command.Command.{Command}
 use Rattle.ocf_types.specs.Kinds.{Registration}
 use Rattle.ocf_env.specs.Invocations.{IsInvocation}
 use Rattle.ocf_env.specs.Locations.{Call, SiteView}
 use Rattle.ocf_env.specs.Programs.{agent_path, arguments_at, program_at}
 use Rattle.ocf_env.specs.Variables.{IsAgentVariable, are_ascending}
-use Rattle.child_keeper.specs.Commands.{Asks}
+use Rattle.child_keeper.specs.Commands.{AsksBy}
 use Rattle.exec_once.specs.declared.call.OnceCall.{OnceCall}
 use Rattle.exec_once.specs.declared.call.What.{What}
 use Rattle.exec_once.specs.declared.call.What.TheVariants.{MetaData, Action}
@@ -31,6 +31,6 @@ IsCallOf site c (Action running) call = IsInvocation site (registration_of c) ru
 abbrev pub IsCallFor : SiteView → OnceCall → Call → Type 0
 IsCallFor site c call = IsCallOf site c c.what call
 
--- a command asks for exactly that call of the agent
-abbrev pub AsksForCall : {M : Type 0} → SiteView → OnceCall → Command M → Type 0
-AsksForCall site c command = (call : Call) × IsCallFor site c call × Asks command call
+-- a command asks for exactly that call of the agent, made by a leader, if there is one
+abbrev pub AsksForCall : {M : Type 0} → Option (List ℕ) → SiteView → OnceCall → Command M → Type 0
+AsksForCall leader site c command = (call : Call) × IsCallFor site c call × AsksBy leader command call

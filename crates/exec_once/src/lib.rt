@@ -9,4 +9,4 @@ mod run;
 pub use call::{OnceCall, What};
 pub use ending::OnceEnd;
 pub use parse::{OnceFault, read_agent, read_parameters, read_what};
-pub use run::run_once;
+pub use run::{OnceSite, run_once};

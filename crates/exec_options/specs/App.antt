@@ -62,16 +62,18 @@ with_journal_app a =
     let a₂ = with_rule a₁ (flag_rule (codes "any-owner")) in
     with_rule a₂ (text_rule_or (codes "tidy-at") default_tidy_at)
 
--- the options for where the agents are, what they are run with, and whether they get Pacemaker's own variables
+-- the options for where the agents are, what they are run with, whether they get Pacemaker's own variables, and whether they run in the
+-- process group of the program
 abbrev pub with_site_app : App → App
 with_site_app a =
     let a₁ = with_rule a (text_rule_or (codes "root") default_root) in
     let a₂ = with_rule a₁ (text_rule (codes "via")) in
     let a₃ = with_rule a₂ (text_rule_or (codes "path") default_path) in
-    with_rule a₃ (flag_rule (codes "meta-variables"))
+    let a₄ = with_rule a₃ (flag_rule (codes "meta-variables")) in
+    with_rule a₄ (flag_rule (codes "no-groups"))
 
--- the options for the output of agents and the lines of results, for the wait for agents that a killed executor left running, and
--- whether these are left alone after the wait
+-- the options for the output of agents and the lines of results, for how long a resource waits for what an interrupted action left, and
+-- whether that is left alone
 abbrev pub with_agent_app : App → App
 with_agent_app a =
     let a₁ = with_rule a (text_rule (codes "log")) in

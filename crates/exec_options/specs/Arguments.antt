@@ -97,6 +97,7 @@ pub record IsReadFrom (rows : List Row) (o : Options) : Type 0 where
   pub via : option_map (λ s. s.now) o.via ≡ first_of (codes "via") rows
   pub path : o.path.now ≡ unwrap_or (first_of (codes "path") rows) default_path
   pub meta_variables : o.meta_variables ≡ is_true_text (first_of (codes "meta-variables") rows)
+  pub no_groups : o.no_groups ≡ is_true_text (first_of (codes "no-groups") rows)
   pub log : option_map (λ s. s.now) o.log ≡ first_of (codes "log") rows
   pub logs : option_map (λ s. s.now) o.logs ≡ first_of (codes "logs") rows
   pub events : o.events ≡ is_true_text (first_of (codes "events") rows)
@@ -120,6 +121,7 @@ pub record IsOnceFrom (rows : List Row) (o : OnceOptions) : Type 0 where
   pub via : option_map (λ s. s.now) o.via ≡ first_of (codes "via") rows
   pub path : o.path.now ≡ unwrap_or (first_of (codes "path") rows) default_path
   pub meta_variables : o.meta_variables ≡ is_true_text (first_of (codes "meta-variables") rows)
+  pub no_groups : o.no_groups ≡ is_true_text (first_of (codes "no-groups") rows)
 
 -- a subcommand with these rows gives these options
 abbrev pub IsJournalWanted : Subcommand → Option Text → List Row → Wanted → Type 0

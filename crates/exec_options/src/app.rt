@@ -28,8 +28,8 @@ pub const PATH: &str = "/usr/sbin:/usr/bin:/sbin:/bin";
 /// The default number of bytes of the journal's part above which it is tidied: three quarters of a part's limit.
 pub const TIDY_AT: &str = "6291456";
 
-/// The default limit of an opening's wait for agents that a killed executor left running, in milliseconds: the default timeout
-/// of an action.
+/// The default limit of a resource's wait for what an interrupted action left running, in milliseconds: the default timeout of an
+/// action.
 pub const ORPHANS: &str = "20000";
 
 fn text_option<'a>(alloc: Global, id: &'a str, value: &'a str, help: &'a str) -> Arg<'a>
@@ -148,10 +148,15 @@ fn with_site_options<'a>(alloc: Global, command: Command<'a>) -> Result<Command<
         PATH,
         "The PATH in the environment of the agents",
     ))?;
-    command.arg(flag(
+    let command = command.arg(flag(
         alloc,
         "meta-variables",
         "Give agents Pacemaker's OCF_RESKEY_CRM_meta_interval, _name and _timeout too, as Debian's agents want them",
+    ))?;
+    command.arg(flag(
+        alloc,
+        "no-groups",
+        "Do not run each agent in a process group of its own: a signal that an agent sends to its group then reaches all of them",
     ))
 }
 
@@ -182,12 +187,12 @@ fn with_agent_options<'a>(alloc: Global, command: Command<'a>) -> Result<Command
         "orphans",
         "MS",
         ORPHANS,
-        "How long an opening waits for agents that a killed executor left running, at most up to their timeouts, before it kills them; 0 for no wait",
+        "How long a resource waits for what its action left running when its executor was killed, at most up to the action's timeout, before that is killed; an opening itself waits for nobody",
     ))?;
     command.arg(flag(
         alloc,
         "leave-orphans",
-        "Do not kill such agents after that wait; report their processes on standard error",
+        "Leave alone what such an action left running: its resource does not wait for it",
     ))
 }
 

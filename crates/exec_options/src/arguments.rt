@@ -212,6 +212,7 @@ fn once_of<'a>(alloc: Global, matches: &ArgMatches<'a>) -> Result<Wanted<'a>, Ar
         via: text_of(matches, "via"),
         path: text_of(matches, "path").unwrap_or(PATH),
         meta_variables: is_set(matches, "meta-variables"),
+        no_groups: is_set(matches, "no-groups"),
     }))
 }
 
@@ -240,6 +241,7 @@ fn options_of<'a>(
         via: text_of(matches, "via"),
         path: text_of(matches, "path").unwrap_or(PATH),
         meta_variables: is_set(matches, "meta-variables"),
+        no_groups: is_set(matches, "no-groups"),
         log: text_of(matches, "log"),
         logs: text_of(matches, "logs"),
         events: is_set(matches, "events"),

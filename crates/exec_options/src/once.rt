@@ -20,4 +20,6 @@ pub struct OnceOptions<'a> {
     pub path: &'a str,
     /// Whether the agent gets Pacemaker's own variables too.
     pub meta_variables: bool,
+    /// Whether the agent runs in the process group of the program, instead of one of its own. POSIX, setsid.
+    pub no_groups: bool,
 }

@@ -77,17 +77,19 @@ pub struct Options<'a> {
     pub tidy_at: u64,
     /// Whether agents get Pacemaker's own variables too.
     pub meta_variables: bool,
+    /// Whether agents run in the process group of the program, instead of one of their own each. POSIX, setsid.
+    pub no_groups: bool,
     /// The file to which the output of agents is appended, `-` for the program's standard error; `None` discards it.
     pub log: Option<&'a str>,
     /// The directory of the files to which the output of agents is appended, one for each resource, or `None`.
     pub logs: Option<&'a str>,
     /// Whether a line for each result is written to standard error.
     pub events: bool,
-    /// The limit of an opening's wait for the processes of an interrupted action, in milliseconds, at most a day; 0 for no wait. The
-    /// opening waits for what is left of the action's own timeout, and no longer than this. Processes that are still alive are then
-    /// killed with their descendants, as the timeout would have killed them.
+    /// The limit of a resource's wait for the processes that an interrupted action left, in milliseconds, at most a day. The resource
+    /// waits for what is left of the action's own timeout, and no longer than this. Processes that are still alive are then killed
+    /// with their descendants, as the timeout would have killed them. All other resources go on meanwhile.
     pub orphans: u64,
-    /// Whether processes of an interrupted action that outlive that wait are left alone instead of being killed.
+    /// Whether processes that an interrupted action left are left alone: its resource does not wait for them.
     pub leave_orphans: bool,
     /// The id of the only resource whose status or records are printed, or `None` for all.
     pub resource: Option<&'a str>,

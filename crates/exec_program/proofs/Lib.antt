@@ -2,4 +2,3 @@ pub mod ProgramLemmas
 pub mod RequestLemmas
 pub mod RunLemmas
 pub mod StartLemmas
-pub mod WaitLemmas

@@ -1,7 +1,8 @@
 -- How a session begins.
-use Rattle.std.proofs.Common.{◌≡◌, ◌∙◌, ap, ℕ, List, [], Option, Result, subst}
+use Rattle.std.proofs.Common.{◌≡◌, ◌∙◌, ap, ℕ, List, [], Option, Result, subst, sym}
 use Rattle.disk_model.specs.Disk.{DiskView}
-use Rattle.child_model.specs.Children.{ChildrenView}
+use Rattle.ocf_env.specs.Locations.{SiteView}
+use Rattle.child_model.specs.Children.{Admits, ChildrenView}
 use Rattle.executor.specs.ExecutorView.{ExecutorView}
 use Rattle.executor.specs.declared.report.Report.{Report}
 use Rattle.exec_client.specs.ClientView.{ClientView}
@@ -12,6 +13,11 @@ use Rattle.exec_session.specs.Ends.{Ended}
 use Rattle.exec_session.specs.Rules.{Rules}
 use Rattle.exec_session.specs.SessionViews.{at_of}
 use Rattle.exec_trace.specs.Edges.{EdgeView}
+use Rattle.exec_program.specs.Asked.{AreFresh}
+
+-- fresh agents start at any site
+pub fresh_admits : (book : ℕ) (v : ChildrenView) (site : SiteView) → AreFresh book v → Admits v.site site
+fresh_admits book v site fresh = subst (λ (x : ChildrenView). Admits x.site site) (sym fresh.1) tt
 
 -- an edge of which nothing was asked yet, and a client's view, by their fields
 abbrev pub edge_with : {D : Type 0} → Option (List ℕ) → ClientView D → EdgeView D

@@ -54,10 +54,7 @@ pub run_ends : {D C N : Type 0} (view : D → DiskView) (tend : C → ChildrenVi
 run_ends view tend source rules report p edge ended disk children ends_so =
     ends view source rules report p (session_position (session_view ends_so.last edge.client_view edge.events) edge.left) ended ends_so.ends
 
--- a session whose report nobody reads does not end because of its arguments, and neither does one that ended as sessions do
-pub unheard_ends : (T : Type 0) (f : Fault) → f ≡ fault.InputOrOutput → IsRunEnd {T = T} (Err f)
-unheard_ends T f is = subst (λ x. IsRunEnd {T = T} (Err x)) (sym is) tt
-
+-- neither does one that ended as sessions do
 pub same_ends : {T : Type 0} (r s : Result T Fault) → r ≡ s → IsRunEnd s → IsRunEnd r
 same_ends r s same ends = subst IsRunEnd (sym same) ends
 
@@ -76,10 +73,6 @@ opening_cause refuses (opening.Damaged damage) cause = tt
 opening_cause refuses opening.Memory cause = cause refl
 opening_cause refuses opening.Foreign cause = tt
 opening_cause refuses opening.Full cause = tt
-
--- a session whose report nobody reads does not end for lack of memory
-pub unheard_cause : (refuses : Bool) (f : Fault) → f ≡ fault.InputOrOutput → HasCause refuses f
-unheard_cause refuses f is = subst (λ (x : Fault). HasCause refuses x) (sym is) tt
 
 pub opening_ends : {T : Type 0} (why : OpenError) (f : Fault) (r : Result T Fault) → f ≡ opening_fault why → r ≡ Err f → IsRunEnd r
 opening_ends {T} why f r is same =

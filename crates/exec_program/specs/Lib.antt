@@ -4,4 +4,4 @@ pub mod Program
 pub mod Requests
 pub mod Runs
 pub mod Starts
-pub mod Waits
+pub mod Upkeeps

@@ -1,11 +1,7 @@
 -- What the system may be asked for: what the arguments call for, and nothing else.
-use Rattle.std.specs.Prelude.{◌≡◌, ◌⊎◌, ℕ, ⊤, Bool, true, List, Option, Some, option_map, is_some}
+use Rattle.std.specs.Prelude.{◌≡◌, ◌⊎◌, ℕ, ⊤, Bool, true, List, Option, Some, not, option_map, is_some}
 use Rattle.clap.specs.declared.error.Error.{Error}
 use Rattle.ocf_env.specs.Locations.{SiteView}
-use Rattle.ocf_types.specs.State.{State}
-use Rattle.disk_model.specs.Disk.{DiskView}
-use Rattle.exec_journal.specs.Opening.{OpensAt}
-use Rattle.exec_journal.specs.Position.{Position}
 use Rattle.exec_options.specs.Faults.{IsFault}
 use Rattle.exec_options.specs.Arguments.{Gives, GivesOnce, directory_of}
 use Rattle.exec_options.specs.declared.fault.ArgumentsFault.{ArgumentsFault}
@@ -18,18 +14,18 @@ use Rattle.exec_program.specs.Asked.{Asked}
 use Rattle.exec_program.specs.Limits.{book_room}
 use Rattle.exec_program.specs.Runs.{disk_line, served_directory}
 use Rattle.exec_program.specs.Starts.{site_of}
+use Rattle.exec_program.specs.Upkeeps.{UpkeepView, upkeep_of}
 
--- A request to open, spawn, await, read, write or show something, with its arguments. Texts are bytes, times are milliseconds.
+-- A request to open, spawn, read, write or show something, with its arguments. Texts are bytes, times are milliseconds.
 pub data Request (Log : Type 0) : Type 0 where
-  -- the files of the journal in a directory
+  -- the files of the journal in a directory; what the executor's clock shows, in the record of agents of a directory
   OpenFiles : Options → List ℕ → Request Log
-  -- the wait for what is left of a state's actions, as in `Asked`; the record of an executor in a directory
-  AwaitOrphans : List ℕ → ℕ → Bool → SiteView → State → Request Log
-  LeaveWord : List ℕ → Request Log
-  -- where agents write; agents that write there, with a book of this many answers; the metadata of the agents of a site
+  RecordMoment : List ℕ → Request Log
+  -- where agents write; agents that are looked after like this and write there, with a book of this many answers; the metadata of the
+  -- agents of a site, each of which runs in a process group of its own or not
   OpenLog : Option (List ℕ) → Option (List ℕ) → Request Log
-  MakeAgents : Log → ℕ → Request Log
-  AskSite : SiteView → Request Log
+  MakeAgents : UpkeepView → Log → ℕ → Request Log
+  AskSite : SiteView → Bool → Request Log
   -- standard input; standard output and the watched paths of the journal, if it is served; a line on standard output
   OpenReader : Request Log
   OpenWriter : Option (List ℕ) → Request Log
@@ -44,29 +40,18 @@ pub data Request (Log : Type 0) : Type 0 where
 abbrev pub Allows : {L : Type 0} → (Request L → Type 0) → (Request L → Type 0) → Type 0
 Allows {L} may asks = (r : Request L) → asks r → may r
 
--- a state at which the journal on this disk opens
-abbrev pub IsFoundOn : {D : Type 0} → (D → DiskView) → D → State → Type 0
-IsFoundOn {D} view disk state = (p : Position) × ((new : D) × OpensAt p state (view disk) (view new))
+-- the requests of a session about the directory of its journal
+abbrev pub IsOfDirectory : {L : Type 0} → Options → Request L → Type 0
+IsOfDirectory o (OpenFiles given directory) = (given ≡ o) × (directory_of o.journal ≡ Some directory)
+IsOfDirectory o (RecordMoment directory) = directory_of o.journal ≡ Some directory
+IsOfDirectory o _ = ⊥
 
--- the same on files that were asked for, of the directory that the options name
-abbrev pub IsFoundIn : {F L A S R W H : Type 0} → Asked F L A S R W H → (F → DiskView) → Options → State → Type 0
-IsFoundIn {F} asked view o state =
-    (directory : List ℕ) × ((disk : F) × (directory_of o.journal ≡ Some directory) × asked.files directory o.any_owner disk × IsFoundOn view disk state)
-
--- the requests of a session about the directory of its journal, which opens at these states
-abbrev pub IsOfDirectory : {L : Type 0} → (State → Type 0) → Options → Request L → Type 0
-IsOfDirectory found o (OpenFiles given directory) = (given ≡ o) × (directory_of o.journal ≡ Some directory)
-IsOfDirectory found o (AwaitOrphans directory limit leave site state) =
-    (directory_of o.journal ≡ Some directory) × (limit ≡ o.orphans) × (leave ≡ o.leave_orphans) × (site ≡ site_of o) × found state
-IsOfDirectory found o (LeaveWord directory) = directory_of o.journal ≡ Some directory
-IsOfDirectory found o _ = ⊥
-
--- its requests about agents, which write to the log that the options name
+-- its requests about agents, which are looked after as the options say and write to the log that they name
 abbrev pub IsOfAgents : {F L A S R W H : Type 0} → Asked F L A S R W H → Options → Request L → Type 0
 IsOfAgents asked o (OpenLog file directory) = (file ≡ option_map (λ s. s.now) o.log) × (directory ≡ option_map (λ s. s.now) o.logs)
-IsOfAgents asked o (MakeAgents log book) =
-    asked.log (option_map (λ s. s.now) o.log) (option_map (λ s. s.now) o.logs) log × (book ≡ book_room)
-IsOfAgents asked o (AskSite site) = site ≡ site_of o
+IsOfAgents asked o (MakeAgents upkeep log book) =
+    (upkeep ≡ upkeep_of o) × asked.log (option_map (λ s. s.now) o.log) (option_map (λ s. s.now) o.logs) log × (book ≡ book_room)
+IsOfAgents asked o (AskSite site groups) = (site ≡ site_of o) × (groups ≡ not o.no_groups)
 IsOfAgents asked o _ = ⊥
 
 -- its requests about the standard streams: a line by itself only where the served journal is gone
@@ -79,8 +64,8 @@ IsOfStreams {H = H} asked o (WriteLine line) = (line ≡ disk_line) × (is_some 
 IsOfStreams asked o _ = ⊥
 
 -- the requests of a session
-abbrev pub IsOfRun : {F L A S R W H : Type 0} → (State → Type 0) → Asked F L A S R W H → Options → Request L → Type 0
-IsOfRun found asked o r = IsOfDirectory found o r ⊎ (IsOfAgents asked o r ⊎ IsOfStreams asked o r)
+abbrev pub IsOfRun : {F L A S R W H : Type 0} → Asked F L A S R W H → Options → Request L → Type 0
+IsOfRun asked o r = IsOfDirectory o r ⊎ (IsOfAgents asked o r ⊎ IsOfStreams asked o r)
 
 -- the request of a view of a journal
 abbrev pub IsOfLook : {L : Type 0} → Options → Request L → Type 0
@@ -88,10 +73,10 @@ IsOfLook o (ShowJournal given location) = (given ≡ o) × (directory_of o.journ
 IsOfLook o _ = ⊥
 
 -- the requests of a subcommand, by these options
-abbrev pub IsOfSubcommand : {F L A S R W H : Type 0} → Asked F L A S R W H → (F → DiskView) → Options → Subcommand → Request L → Type 0
-IsOfSubcommand asked view o subcommand.Run r = IsOfRun (IsFoundIn asked view o) asked o r
-IsOfSubcommand asked view o subcommand.Serve r = IsOfRun (IsFoundIn asked view o) asked o r
-IsOfSubcommand asked view o _ r = IsOfLook o r
+abbrev pub IsOfSubcommand : {F L A S R W H : Type 0} → Asked F L A S R W H → Options → Subcommand → Request L → Type 0
+IsOfSubcommand asked o subcommand.Run r = IsOfRun asked o r
+IsOfSubcommand asked o subcommand.Serve r = IsOfRun asked o r
+IsOfSubcommand asked o _ r = IsOfLook o r
 
 -- the text that answers arguments which give no options
 abbrev pub IsOfFault : {L : Type 0} → ArgumentsFault → Request L → Type 0
@@ -100,7 +85,7 @@ IsOfFault fault _ = ⊥
 
 -- These arguments call for this request, where the environment names this directory for a journal: by the options of a subcommand, to run
 -- one action, or to print a text.
-abbrev pub IsAskedFor : {F L A S R W H : Type 0} → Asked F L A S R W H → (F → DiskView) → Option (List ℕ) → List (List ℕ) → Request L → Type 0
-IsAskedFor asked view named arguments r =
-    ((o : Options) × Gives named arguments o × IsOfSubcommand asked view o o.subcommand r)
+abbrev pub IsAskedFor : {F L A S R W H : Type 0} → Asked F L A S R W H → Option (List ℕ) → List (List ℕ) → Request L → Type 0
+IsAskedFor asked named arguments r =
+    ((o : Options) × Gives named arguments o × IsOfSubcommand asked o o.subcommand r)
     ⊎ (((o : OnceOptions) × GivesOnce arguments o × (r ≡ RunOnce o)) ⊎ ((f : ArgumentsFault) × IsFault named arguments f × IsOfFault f r))

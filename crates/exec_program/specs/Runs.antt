@@ -1,5 +1,5 @@
 -- A session over a disk, and how it ends.
-use Rattle.std.specs.Prelude.{◌≡◌, ◌⊎◌, ℕ, ⊤, true, codes, List, [], Option, Some, None, option_map, Result, Err, is_some}
+use Rattle.std.specs.Prelude.{◌≡◌, ◌⊎◌, ℕ, true, codes, List, [], Option, Some, None, not, option_map, Result, Err, is_some}
 use Rattle.std.specs.declared.alloc.Global.{Global}
 use Rattle.disk_model.specs.Disk.{DiskView}
 use Rattle.child_model.specs.Children.{ChildrenView}
@@ -25,10 +25,10 @@ use Rattle.exec_session.specs.SessionViews.{at_of}
 use Rattle.exec_session.specs.declared.context.Mode.{Mode}
 use Rattle.exec_session.specs.declared.context.Mode.TheVariants as mode
 use Rattle.exec_trace.specs.Edges.{EdgeView}
-use Rattle.exec_program.specs.Asked.{Asked, fresh_agents}
+use Rattle.exec_program.specs.Asked.{AreFresh, Asked}
 use Rattle.exec_program.specs.Limits.{book_room, most_turns}
 use Rattle.exec_program.specs.Starts.{opening_fault, site_of}
-use Rattle.exec_program.specs.Waits.{IsUnheard, WaitsFor}
+use Rattle.exec_program.specs.Upkeeps.{upkeep_of}
 
 -- the mode of the session that a subcommand asks for
 abbrev pub way_of : Subcommand → Mode
@@ -69,11 +69,6 @@ pub record IsHeldTo (o : Options) (left : List Left) (rules : Rules) : Type 0 wh
   pub most_turns : rules.most_turns ≡ most_turns
   pub tidy_at : rules.tidy_at ≡ o.tidy_at
 
--- the executor of a journal is recorded in a directory
-abbrev pub LeavesWord : {F L A S R W H : Type 0} → Asked F L A S R W H → JournalLocation → Type 0
-LeavesWord asked (Directory directory) = asked.word directory.now
-LeavesWord asked Memory = ⊤
-
 -- the last line of a session in `serve` that its disk ends
 abbrev pub disk_line : List ℕ
 disk_line = codes "{\"end\":\"disk\"}\n"
@@ -84,68 +79,69 @@ EndsBy asked o watch ran ended =
     (ended ≡ ran)
     ⊎ ((ran ≡ Err fault.InputOrOutput) × (ended ≡ Err fault.Disk) × (is_some (served_directory o) ≡ true) × asked.moved watch × asked.line disk_line)
 
--- What a session is given before its executor is opened: its agents, which write to this log, with a book of the capacity that a turn
--- needs; the wait for what is left, which takes its disk from one state to another; and the time of the opening.
-pub record PreparedRun {F L A S R W H D : Type 0} (asked : Asked F L A S R W H) (tend : A → ChildrenView) (view : D → DiskView) (o : Options)
-    (log : L) (old new : D) (agents : A) (left : List Left) (now : ℕ) : Type 0 where
-  pub logs : asked.agents log agents
-  pub fresh : tend agents ≡ fresh_agents book_room
-  pub waited : WaitsFor asked view o old new left o.journal
+-- What a session is given before its executor is opened: its agents, which are looked after as the options say and write to this log, with
+-- a book of the capacity that a turn needs; the processes that live on; and the time of the opening.
+pub record PreparedRun {F L A S R W H : Type 0} (asked : Asked F L A S R W H) (tend : A → ChildrenView) (o : Options) (log : L) (agents : A)
+    (lives : List Left) (now : ℕ) : Type 0 where
+  pub looked_after : asked.agents (upkeep_of o) log lives agents
+  pub fresh : AreFresh book_room (tend agents)
   pub shown : asked.moment now
 
--- An executor was opened over this disk, at the site that the options name, and the session that began then ended like this. Its report
--- is the opening's, and is the first output (`Ended`: `Runs`).
-pub record Runs {F L A S R W H D : Type 0} (asked : Asked F L A S R W H) (tend : A → ChildrenView) (gives : S → Source)
-    (left : R → Option (List ℕ)) (contents : W → Option (List ℕ)) (view : D → DiskView) (o : Options) (log : L) (begun : D)
-    (ended : Result Unit Fault) : Type 0 where
-  pub agents : A
+-- The lines that this reader gives were answered over an executor that was just opened, where these processes live on, with metadata of
+-- the options' site. The opening's report is the first output (`Ended`: `Runs`). The session ended like this, and gave back this disk and
+-- these agents.
+pub record RunsLines {F L A S R W H D : Type 0} (asked : Asked F L A S R W H) (tend : A → ChildrenView) (gives : S → Source)
+    (left : R → Option (List ℕ)) (contents : W → Option (List ℕ)) (view : D → DiskView) (o : Options) (reader : R) (lives : List Left)
+    (executor : ExecutorView D) (report : Report Global) (ran : Result Unit Fault) (last_disk : D) (last_agents : A) : Type 0 where
   pub source : S
-  pub reader : R
   pub writer : W
-  pub watch : H
-  pub disk : D
-  pub lives : List Left
-  pub now : ℕ
-  pub executor : ExecutorView D
-  pub report : Report Global
   pub rules : Rules
   pub edge : EdgeView D
-  pub ran : Result Unit Fault
-  pub last_disk : D
-  pub last_agents : A
-  pub holds : PreparedRun asked tend view o log begun disk agents lives now
-  pub opened : Opened view (view disk) (tend agents) now executor report.interrupted.items report.dropped.items
-  pub at_site : executor.site ≡ site_of o
-  pub of_site : asked.source (site_of o) source
-  pub word : LeavesWord asked o.journal
-  pub reads : asked.reader reader
+  pub of_site : asked.source (site_of o) (not o.no_groups) source
   pub writes : asked.writer (served_directory o) writer
-  pub watches : asked.watch (served_directory o) watch
   pub held : IsHeldTo o lives rules
   pub runs : Ended view tend (gives source) rules report
       (at_of executor (record { left = left reader; client_view = record { opened = executor; reported = []; written = contents writer }; events = [] }))
       edge ran last_disk last_agents
+
+-- An executor was opened over this disk, at the site that the options name, and the session that began then ended like this.
+pub record Runs {F L A S R W H D : Type 0} (asked : Asked F L A S R W H) (tend : A → ChildrenView) (gives : S → Source)
+    (left : R → Option (List ℕ)) (contents : W → Option (List ℕ)) (view : D → DiskView) (o : Options) (log : L) (disk : D)
+    (ended : Result Unit Fault) : Type 0 where
+  pub agents : A
+  pub reader : R
+  pub watch : H
+  pub lives : List Left
+  pub now : ℕ
+  pub executor : ExecutorView D
+  pub report : Report Global
+  pub ran : Result Unit Fault
+  pub last_disk : D
+  pub last_agents : A
+  pub holds : PreparedRun asked tend o log agents lives now
+  pub opened : Opened view (view disk) (tend agents) now executor report.interrupted.items report.dropped.items
+  pub at_site : executor.site ≡ site_of o
+  pub reads : asked.reader reader
+  pub watches : asked.watch (served_directory o) watch
+  pub lines : RunsLines asked tend gives left contents view o reader lives executor report ran last_disk last_agents
   pub ends : EndsBy asked o watch ran ended
 
 -- No executor was opened over this disk, for this cause.
 pub record RunsNot {F L A S R W H D : Type 0} (asked : Asked F L A S R W H) (tend : A → ChildrenView) (view : D → DiskView) (o : Options)
-    (log : L) (begun : D) (ended : Result Unit Fault) : Type 0 where
+    (log : L) (disk : D) (ended : Result Unit Fault) : Type 0 where
   pub agents : A
   pub last_agents : A
-  pub disk : D
   pub last_disk : D
   pub lives : List Left
   pub now : ℕ
   pub why : OpenError
-  pub holds : PreparedRun asked tend view o log begun disk agents lives now
+  pub holds : PreparedRun asked tend o log agents lives now
   pub refused : NotOpened (view disk) (view last_disk) (tend agents) (tend last_agents) now why
   pub ends : ended ≡ Err (opening_fault why)
 
--- How the program ends over a disk: with a session; because no executor was opened; for lack of memory before the disk was asked for
--- anything; or because nobody reads which processes live on.
+-- How the program ends over a disk: with a session; because no executor was opened; or for lack of memory before the disk was asked for
+-- anything.
 abbrev pub RunsOn : {F L A S R W H D : Type 0} → Asked F L A S R W H → (A → ChildrenView) → (S → Source)
     → (R → Option (List ℕ)) → (W → Option (List ℕ)) → (D → DiskView) → Options → L → D → Result Unit Fault → Type 0
-RunsOn asked tend gives left contents view o log begun ended =
-    Runs asked tend gives left contents view o log begun ended
-    ⊎ (RunsNot asked tend view o log begun ended
-    ⊎ ((ended ≡ Err fault.Memory) ⊎ ((ended ≡ Err fault.InputOrOutput) × IsUnheard asked view o begun o.journal)))
+RunsOn asked tend gives left contents view o log disk ended =
+    Runs asked tend gives left contents view o log disk ended ⊎ (RunsNot asked tend view o log disk ended ⊎ (ended ≡ Err fault.Memory))

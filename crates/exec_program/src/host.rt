@@ -2,8 +2,9 @@
 ghost use Rattle.std.specs.Prelude.{◌≡◌, ◌≤◌, ◌||◌, true, is_some, option_map, IfErr, IfOk, IsTrue, OnErr, None, Some};
 ghost use Rattle.exec_faults.specs.Faults.{IsRunEnd};
 ghost use Rattle.journal_directory.specs.Ends.{IsDirectoryEnd, IsNotOpened};
-ghost use Rattle.exec_program.specs.Asked.{Asked, fresh_agents};
-ghost use Rattle.exec_program.specs.Requests.{Request, AskSite, AwaitOrphans, LeaveWord, MakeAgents, OpenFiles, OpenLog, OpenReader, OpenWriter, PrintText, RunOnce, ShowJournal, WatchPaths, WriteLine};
+ghost use Rattle.exec_program.specs.Asked.{AreFresh, Asked};
+ghost use Rattle.exec_program.specs.Requests.{Request, AskSite, MakeAgents, OpenFiles, OpenLog, OpenReader, OpenWriter, PrintText, RecordMoment, RunOnce, ShowJournal, WatchPaths, WriteLine};
+ghost use Rattle.exec_program.specs.Upkeeps.{upkeep_view};
 
 use child_model::Children;
 use clap::Error;
@@ -13,7 +14,6 @@ use exec_faults::Fault;
 use exec_lines::{Input, Output};
 use exec_options::{OnceOptions, Options};
 use exec_session::Metadata;
-use exec_state::State;
 use file_disk::{FileError, ReportsError};
 use growth::{GROWTH_LIMIT, Grows};
 use ocf_env::Site;
@@ -21,23 +21,25 @@ use std::alloc::{AllocError, Global};
 use std::io::{self, Write};
 use std::rt::Clock;
 
-/// How to wait for what is left of the actions that a journal finds interrupted.
+/// How a session looks after its agents, and after the processes of actions that the executor before it left.
 #[derive(Clone, Copy)]
-pub struct Wait<'a> {
-    /// The directory of the journal.
-    pub directory: &'a str,
-    /// The limit, in milliseconds.
+pub struct Upkeep<'a> {
+    /// The directory in which it is recorded which agents run, so that a later executor finds them: that of the journal, if it has one.
+    pub directory: Option<&'a str>,
+    /// How long a resource waits at most for the processes of an interrupted action, in milliseconds, before they are killed.
     pub limit: u64,
-    /// Whether to leave alive what outlives the wait, and not to kill it.
+    /// Whether these processes are left alone, so that no resource waits for them.
     pub leave: bool,
+    /// Whether each agent runs in a session and process group of its own. POSIX, setsid.
+    pub groups: bool,
 }
 
 /// The system that the program runs on, with a method for each thing that it gives.
 ///
 /// A clause cannot say what a system does. So `asked` leaves open what it means to have asked for something, a relation for each method.
 /// A program that is proved for all such relations has asked for exactly what its contract says, since nothing else gives such a fact.
-/// What was asked once stays asked. And `may` leaves open what may be asked for: each method that opens, spawns, awaits, reads, writes or
-/// shows something requires that its request is in this set. So a program that is proved for all such sets, and is given only the
+/// What was asked once stays asked. And `may` leaves open what may be asked for: each method that opens, spawns, reads, writes or shows
+/// something requires that its request is in this set. So a program that is proved for all such sets, and is given only the
 /// requests of its contract, makes no others.
 pub trait Host {
     /// The files of a journal.
@@ -91,17 +93,24 @@ pub trait Host {
         ensures fault { IfErr result
             (λ f. (f ≡ Fault.Log) × ((is_some log.entry || is_some logs.entry) ≡ true)) };
 
-    /// Agents that write there, with no agent process yet and a book of this many answers.
-    fn agents(&self, log: Self::Log, book: usize) -> Result<Self::Agents, AllocError>
-        requires { may self.now (MakeAgents log book) }
-        ensures agents { IfOk result ((asked self.now).agents log) }
-        ensures fresh { IfOk result (λ a. Self.Agents.view a ≡ fresh_agents book) }
+    /// Agents that are looked after like this and write there, with no agent process yet and a book of this many answers; and the
+    /// processes that live on from interrupted actions, with their runs. Resources of such actions may be held.
+    fn agents(
+        &self,
+        upkeep: Upkeep<'_>,
+        log: Self::Log,
+        book: usize,
+    ) -> Result<(Self::Agents, Vec<Left>), AllocError>
+        requires { may self.now (MakeAgents (upkeep_view upkeep) log book) }
+        ensures agents { IfOk result
+            (λ r. (asked self.now).agents (upkeep_view upkeep.entry) log r.1.items r.0) }
+        ensures fresh { IfOk result (λ r. AreFresh book (Self.Agents.view r.0)) }
         ensures memory { OnErr result (book ≤ GROWTH_LIMIT → IsTrue ⟦<Global as Grows>⟧.refuses) };
 
-    /// The metadata of the agents of this site.
-    fn source(&self, site: Site) -> Self::Source
-        requires { may self.now (AskSite site) }
-        ensures { (asked self.now).source site result };
+    /// The metadata of the agents of this site, each of which runs in a session and process group of its own, or not.
+    fn source(&self, site: Site, groups: bool) -> Self::Source
+        requires { may self.now (AskSite site groups) }
+        ensures { (asked self.now).source site groups result };
 
     /// Stops asking agents for metadata.
     fn give_up(&self, source: Self::Source);
@@ -137,17 +146,9 @@ pub trait Host {
     /// Reports which signals are ignored.
     fn report_ignored(&self);
 
-    /// Waits for what is left of the actions that run at this state, of agents at this site. Gives the processes that live on, with their
-    /// runs; `None` once nobody can read the report.
-    fn await_orphans(&self, wait: Wait<'_>, site: &Site, state: &State) -> Option<Vec<Left>>
-        requires { may self.now (AwaitOrphans wait.directory.now wait.limit wait.leave site.now state.now.state) }
-        ensures { (asked self.now).orphans wait.entry.directory.now wait.entry.limit wait.entry.leave site.now
-            state.now.state (option_map (λ v. v.items) result) };
-
-    /// Records in this directory the executor whose clock shows this time.
-    fn leave_word(&self, directory: &str, moment: u64)
-        requires { may self.now (LeaveWord directory.now) }
-        ensures { (asked self.now).word directory.now };
+    /// Records, with the agents that run, that the clock of the executor over the journal in this directory shows this time now.
+    fn record_moment(&self, directory: &str, moment: u64)
+        requires { may self.now (RecordMoment directory.now) };
 
     /// The paths of the journal in this directory, if one is named, as they are now.
     fn watch(&self, served: Option<&str>) -> Self::Watch
@@ -190,9 +191,6 @@ pub trait Host {
 
     /// Reports that a text that was asked for could not be written, and why.
     fn report_unwritten(&self, error: io::Error);
-
-    /// Reports that nobody can read the report any more.
-    fn report_unheard(&self);
 
     /// Reports that the journal's device failed, and its error.
     fn report_device(&self, options: Options, met: Option<FileError>);

@@ -1,7 +1,7 @@
 //! From the arguments to a session.
 ghost use Rattle.std.specs.Prelude.{◌≡◌, map, option_map, string_bytes};
 ghost use Rattle.exec_program.specs.Program.{Does, DoesAs, Looks, Prints, RunsFor};
-ghost use Rattle.exec_program.specs.Requests.{Allows, IsAskedFor, IsFoundIn, IsOfFault, IsOfLook, IsOfRun, IsOfSubcommand};
+ghost use Rattle.exec_program.specs.Requests.{Allows, IsAskedFor, IsOfFault, IsOfLook, IsOfRun, IsOfSubcommand};
 ghost use Rattle.exec_program.specs.Starts.{IsEndOf, IsWrittenAs, StartEndsFor, with_status};
 
 use crate::host::Host;
@@ -63,7 +63,7 @@ fn refuse<H: Host>(host: &H, fault: &ArgumentsFault) -> Result<(), Fault>
 /// status.
 #[tactic(auto, using(crate::proofs::StartLemmas::starts_journal, crate::proofs::StartLemmas::starts_once, crate::proofs::StartLemmas::starts_nothing))]
 pub fn program<H: Host>(host: &H, named: Option<&str>, arguments: &[String]) -> Result<u8, Fault>
-    requires may { Allows (H.may host.now) (IsAskedFor (H.asked host.now) H.Files.view
+    requires may { Allows (H.may host.now) (IsAskedFor (H.asked host.now)
         (option_map (λ s. s.now) named) (map string_bytes arguments.now)) }
     ensures ends { StartEndsFor (option_map (λ s. s.now) named.entry) (map string_bytes arguments.now) result }
     ensures does { Does ⟦<Global as Grows>⟧.refuses (H.asked host.now) H.Agents.view H.Source.gives H.Reader.remaining H.Writer.contents
@@ -79,7 +79,7 @@ pub fn program<H: Host>(host: &H, named: Option<&str>, arguments: &[String]) -> 
 // Does with a journal what these options ask for.
 fn on_journal<H: Host>(host: &H, options: Options) -> Result<(), Fault>
     requires may { Allows (H.may host.now)
-        (IsOfSubcommand (H.asked host.now) H.Files.view options options.subcommand) }
+        (IsOfSubcommand (H.asked host.now) options options.subcommand) }
     ensures ends { IsEndOf options.entry result }
     ensures does { DoesAs ⟦<Global as Grows>⟧.refuses (H.asked host.now) H.Agents.view H.Source.gives H.Reader.remaining
         H.Writer.contents H.Files.view options.entry options.entry.subcommand result }
@@ -108,8 +108,7 @@ fn look<H: Host>(host: &H, options: Options) -> Result<(), Fault>
 // Opens a session over a journal, as these options ask.
 #[tactic(auto, using(crate::proofs::StartLemmas::ends_on_disk, crate::proofs::StartLemmas::ends_in_directory, crate::proofs::StartLemmas::ends_without_log))]
 fn start_agents<H: Host>(host: &H, options: Options) -> Result<(), Fault>
-    requires may { Allows (H.may host.now) (IsOfRun
-        (IsFoundIn (H.asked host.now) H.Files.view options) (H.asked host.now) options) }
+    requires may { Allows (H.may host.now) (IsOfRun (H.asked host.now) options) }
     ensures ends { IsEndOf options.entry result }
     ensures runs { RunsFor ⟦<Global as Grows>⟧.refuses (H.asked host.now) H.Agents.view H.Source.gives H.Reader.remaining
         H.Writer.contents H.Files.view options.entry result }

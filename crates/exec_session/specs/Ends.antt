@@ -1,7 +1,7 @@
 -- How a whole session ends.
 use Rattle.std.specs.Prelude.{◌≡◌, true, false, Result, Ok, Err}
 use Rattle.disk_model.specs.Disk.{DiskView}
-use Rattle.child_model.specs.Children.{ChildrenView, given_up}
+use Rattle.child_model.specs.Children.{AllEnded, ChildrenView}
 use Rattle.executor.specs.ExecutorView.{ExecutorView}
 use Rattle.executor.specs.declared.report.Report.{Report}
 use Rattle.exec_client.specs.ClientView.{ClientView}
@@ -36,14 +36,14 @@ EndsAs view source rules report p q (Err InputOrOutput) = SessionBreaks view sou
 EndsAs view source rules report p q (Err ReplyMemory) = SessionBreaks view source rules report p q.at
 EndsAs view source rules report p q (Err _) = ⊥
 
--- A session that begins at this position ended, and its edge shows this. At its end all agent processes are given up, and the agents and
--- the disk are given back.
+-- A session that begins at this position ended, and its edge shows this. At its end all agent processes are given up and ended, and the
+-- agents and the disk are given back.
 pub record Ended {D C N : Type 0} (view : D → DiskView) (tend : C → ChildrenView) (source : Source) (rules : Rules) (report : Report N)
     (p : SessionPosition D) (edge : EdgeView D) (ended : Result Unit Fault) (disk : D) (children : C) : Type 0 where
   pub last : ExecutorView D
   pub ends : EndsAs view source rules report p (session_position (session_view last edge.client_view edge.events) edge.left) ended
   pub disk_is : disk ≡ last.disk
-  pub children_are : tend children ≡ given_up last.children
+  pub children_are : AllEnded last.children (tend children)
 
 -- However a session ends, its executor went on by calls alone since it was opened, and is closed; and all that its client was sent is
 -- backed by what they recorded. This disk and these agents are those that it gave back.

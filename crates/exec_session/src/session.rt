@@ -199,7 +199,7 @@ impl<'a, R: Input, D: Disk + Drop, C: Children + Drop, T: Client<D, C>, K: Clock
 /// answered, and a turn's notices before the next turn. After a disk fault a session in `run` goes on to the end of its input,
 /// and in `serve` it ends at once, with the line `{"end":"disk"}`; both then end with `Fault::Disk`. If input or output fails,
 /// it ends with `Fault::InputOrOutput`, and with `Fault::ReplyMemory` if there is no memory for a reply or a notice. However it
-/// ends, all agent processes are then given up, and the executor is closed. The buffers for lines are passed in, so that no
+/// ends, all agent processes are then given up and ended, and the executor is closed. The buffers for lines are passed in, so that no
 /// memory is refused between the opening and its report.
 #[inline(never)]
 pub fn run_lines<
@@ -224,6 +224,7 @@ pub fn run_lines<
     ensures reported { ClosesByCalls D.view opened.0 result.edge.client_view result.disk
         (C.view result.children) }
     ensures none_lives { (C.view result.children).live ≡ [] }
+    ensures none_given_up { (C.view result.children).given_up ≡ [] }
     ensures memory { IfErr result.ended (HasCause T.refuses) }
 {
     let (executor, report) = opened;

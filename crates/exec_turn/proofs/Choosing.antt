@@ -1,5 +1,5 @@
 -- The picks of resources: there are always some, and those of two lists of resources are those of both together.
-use Rattle.std.proofs.Common.{◌≡◌, ◌⊎◌, inl, inr, ℕ, zero, suc, ◌+◌, ◌<◌, ◌≤◌, false, List, [], ◌∷◌, ◌++◌, length, take, drop, slice_get, slice_index_or, Option, Some, None, All, Contains, option_map, refl, sym, ap, subst, ◌∙◌, arith}
+use Rattle.std.proofs.Common.{◌≡◌, ◌⊎◌, inl, inr, ℕ, zero, suc, ◌+◌, ◌<◌, ◌≤◌, Bool, true, false, List, [], ◌∷◌, ◌++◌, length, take, drop, slice_get, slice_index_or, Option, Some, None, All, Contains, option_map, refl, sym, ap, subst, ◌∙◌, arith}
 use Rattle.std.specs.List.{AllByRecursion, IsDistinct}
 use Rattle.std.specs.Map.{keys_of, lookup}
 use Rattle.std.specs.Str.{bytes_eq}
@@ -18,8 +18,10 @@ use Rattle.ocf_types.specs.declared.operation.Op.{Op}
 use Rattle.ocf_types.specs.declared.operation.Recur.{Recur}
 use Rattle.ocf_types.specs.declared.operation.Running.{Running}
 use Rattle.exec_state.specs.Store.{Chooses, run_of_pick}
+use Rattle.child_model.specs.Children.{is_held}
 use Rattle.exec_ledger.specs.Actives.{Active, active_of}
-use Rattle.exec_turn.specs.Picks.{ArePicks, begun_in}
+use Rattle.exec_ledger.specs.LedgerView.{While}
+use Rattle.exec_turn.specs.Picks.{ArePicks, IsNext, begun_in}
 
 -- each entry is found by its id, where these are distinct
 pub own_found : (rs : Registry) → IsDistinct bytes_eq (keys_of rs) → AllByRecursion (λ e. lookup (bytes_eq e.0) rs ≡ Some e.1) rs
@@ -130,26 +132,34 @@ some_pick r due now = by r.history.running r.history.queue
     by None (o ∷ os) = (Some o.call, refl)
     by None [] = least_due (due_pairs r.recurring due) now
 
+-- and begins it, or nothing while it is held
+some_next : (held : List (List ℕ)) (due : Due) (at : ℕ) (e : List ℕ × Resource) → (call : Option ℕ) × IsNext held due at e call
+some_next held due at e = by (is_held held e.0)
+  where
+    by : (b : Bool) → (call : Option ℕ) × While b (call ≡ None) (IsPick e.1 (due e.0) at call)
+    by true = (None, refl)
+    by false = some_pick e.1 (due e.0) at
+
 -- and so do resources
-pub some_picks : (due : Due) (at run : ℕ) (rs : Registry) → (bs : List Active) × ArePicks due at run rs bs
-some_picks due at run [] = ([], refl)
-some_picks due at run (e ∷ es) =
-    let p = some_pick e.1 (due e.0) at in
-    let rest = some_picks due at (run + length (begun_in at run e p.0)) es in
+pub some_picks : (held : List (List ℕ)) (due : Due) (at run : ℕ) (rs : Registry) → (bs : List Active) × ArePicks held due at run rs bs
+some_picks held due at run [] = ([], refl)
+some_picks held due at run (e ∷ es) =
+    let p = some_next held due at e in
+    let rest = some_picks held due at (run + length (begun_in at run e p.0)) es in
     (begun_in at run e p.0 ++ rest.0, (p.0, rest.0, p.1, rest.1, refl))
 
 -- the picks of two lists of resources, one after the other
-pub picks_append : (due : Due) (at run : ℕ) (xs ys : Registry) (first bs : List Active) → ArePicks due at run xs first
-    → ArePicks due at (run + length first) ys bs
-    → ArePicks due at run (xs ++ ys) (first ++ bs)
-picks_append due at run [] ys first bs h k =
+pub picks_append : (held : List (List ℕ)) (due : Due) (at run : ℕ) (xs ys : Registry) (first bs : List Active)
+    → ArePicks held due at run xs first → ArePicks held due at (run + length first) ys bs
+    → ArePicks held due at run (xs ++ ys) (first ++ bs)
+picks_append held due at run [] ys first bs h k =
     let here : run + length first ≡ run = omega (arith, ap (λ (l : List Active). length l) h) in
-    rw h (subst (λ n. ArePicks due at n ys bs) here k)
-picks_append due at run (x ∷ xs) ys first bs (call, rest, pick, more, is) k =
+    rw h (subst (λ n. ArePicks held due at n ys bs) here k)
+picks_append held due at run (x ∷ xs) ys first bs (call, rest, pick, more, is) k =
     let own = begun_in at run x call in
     let size : length first ≡ length own + length rest = ap (λ (l : List Active). length l) is ∙ length-append own rest in
     let from : run + length first ≡ run + length own + length rest = omega (arith, size) in
-    let following = picks_append due at (run + length own) xs ys rest bs more (subst (λ n. ArePicks due at n ys bs) from k) in
+    let following = picks_append held due at (run + length own) xs ys rest bs more (subst (λ n. ArePicks held due at n ys bs) from k) in
     (call, rest ++ bs, pick, following, ap (λ (l : List Active). l ++ bs) is ∙ append_assoc own rest bs)
 
 -- the action that a resource begins runs in it
@@ -158,34 +168,52 @@ begun_is : (at run : ℕ) (e : List ℕ × Resource) (call : Option ℕ) (chosen
 begun_is at run e None chosen is = ap (λ (x : Option Running). active_of e.0 x) (sym is)
 begun_is at run e (Some call) chosen is = ap (λ (x : Option Running). active_of e.0 x) (sym is)
 
--- the picks of one resource
-one_pick : (due : Due) (at run : ℕ) (e : List ℕ × Resource) (chosen : Option Running) → Chooses due at run e chosen
-    → ArePicks due at run (e ∷ []) (active_of e.0 chosen)
-one_pick due at run e chosen (call, pick, is) = (call, [], pick, refl, sym (begun_is at run e call chosen is) ∙ sym (append-nil _))
+-- the action that a resource begins at a moment, as it will run under this run, or `None`: none while it is held
+abbrev pub Begins : List (List ℕ) → Due → ℕ → ℕ → List ℕ × Resource → Option Running → Type 0
+Begins held due at run e chosen = (call : Option ℕ) × IsNext held due at e call × (chosen ≡ run_of_pick at run e.1 call)
 
--- the picks of the resources before an index, and of the one at the index
-pub picks_more : (due : Due) (at run next : ℕ) (rs : Registry) (index : ℕ) (bs : List Active) (chosen : Option Running) → index < length rs
-    → ArePicks due at run (take index rs) bs → next ≡ run + length bs → Chooses due at next (slice_index_or rs index no_entry) chosen
-    → ArePicks due at run (take (index + 1) rs) (bs ++ active_of (slice_index_or rs index no_entry).0 chosen)
-picks_more due at run next rs index bs chosen lt before is now =
+-- a resource that is held begins nothing, and another what it chooses
+pub begins_held : (held : List (List ℕ)) (due : Due) (at run : ℕ) (e : List ℕ × Resource) → is_held held e.0 ≡ true
+    → Begins held due at run e None
+begins_held held due at run e is = (None, rw is refl, refl)
+
+pub begins_free : (held : List (List ℕ)) (due : Due) (at run : ℕ) (e : List ℕ × Resource) (chosen : Option Running)
+    → is_held held e.0 ≡ false → Chooses due at run e chosen
+    → Begins held due at run e chosen
+begins_free held due at run e chosen free (call, pick, is) = (call, rw free pick, is)
+
+-- what one resource begins
+one_pick : (held : List (List ℕ)) (due : Due) (at run : ℕ) (e : List ℕ × Resource) (chosen : Option Running)
+    → Begins held due at run e chosen
+    → ArePicks held due at run (e ∷ []) (active_of e.0 chosen)
+one_pick held due at run e chosen (call, next, is) = (call, [], next, refl, sym (begun_is at run e call chosen is) ∙ sym (append-nil _))
+
+-- what the resources before an index begin, and the one at the index
+pub picks_more : (held : List (List ℕ)) (due : Due) (at run next : ℕ) (rs : Registry) (index : ℕ) (bs : List Active)
+    (chosen : Option Running) → index < length rs
+    → ArePicks held due at run (take index rs) bs → next ≡ run + length bs → Begins held due at next (slice_index_or rs index no_entry) chosen
+    → ArePicks held due at run (take (index + 1) rs) (bs ++ active_of (slice_index_or rs index no_entry).0 chosen)
+picks_more held due at run next rs index bs chosen lt before is now =
     let e = slice_index_or rs index no_entry in
-    let one = subst (λ n. ArePicks due at n (e ∷ []) (active_of e.0 chosen)) is (one_pick due at next e chosen now) in
-    rw (take_more rs index no_entry lt) (picks_append due at run (take index rs) (e ∷ []) bs (active_of e.0 chosen) before one)
+    let one = subst (λ n. ArePicks held due at n (e ∷ []) (active_of e.0 chosen)) is (one_pick held due at next e chosen now) in
+    rw (take_more rs index no_entry lt) (picks_append held due at run (take index rs) (e ∷ []) bs (active_of e.0 chosen) before one)
 
--- the picks of the resources before an index, and of all others after it
-pub picks_cut : (due : Due) (at run next : ℕ) (rs : Registry) (index : ℕ) (bs : List Active) (x : Running) → index < length rs
-    → ArePicks due at run (take index rs) bs → next ≡ run + length bs → Chooses due at next (slice_index_or rs index no_entry) (Some x)
-    → (later : List Active) × ArePicks due at run rs (bs ++ record { id = (slice_index_or rs index no_entry).0; running = x } ∷ later)
-picks_cut due at run next rs index bs x lt before is now =
+-- what the resources before an index begin, and all others after it
+pub picks_cut : (held : List (List ℕ)) (due : Due) (at run next : ℕ) (rs : Registry) (index : ℕ) (bs : List Active) (x : Running)
+    → index < length rs
+    → ArePicks held due at run (take index rs) bs → next ≡ run + length bs
+    → Begins held due at next (slice_index_or rs index no_entry) (Some x)
+    → (later : List Active) × ArePicks held due at run rs (bs ++ record { id = (slice_index_or rs index no_entry).0; running = x } ∷ later)
+picks_cut held due at run next rs index bs x lt before is now =
     let e = slice_index_or rs index no_entry in
     let a : Active = record { id = e.0; running = x } in
-    let prefix = picks_more due at run next rs index bs (Some x) lt before is now in
-    let later = some_picks due at (run + length (bs ++ a ∷ [])) (drop (index + 1) rs) in
-    let all = picks_append due at run (take (index + 1) rs) (drop (index + 1) rs) (bs ++ a ∷ []) later.0 prefix later.1 in
+    let prefix = picks_more held due at run next rs index bs (Some x) lt before is now in
+    let later = some_picks held due at (run + length (bs ++ a ∷ [])) (drop (index + 1) rs) in
+    let all = picks_append held due at run (take (index + 1) rs) (drop (index + 1) rs) (bs ++ a ∷ []) later.0 prefix later.1 in
     let whole : take (index + 1) rs ++ drop (index + 1) rs ≡ rs = take-append-drop (index + 1) rs in (
       later.0,
-      subst (λ (l : List Active). ArePicks due at run rs l) (append_assoc bs (a ∷ []) later.0)
-          (subst (λ (l : Registry). ArePicks due at run l ((bs ++ a ∷ []) ++ later.0)) whole all),
+      subst (λ (l : List Active). ArePicks held due at run rs l) (append_assoc bs (a ∷ []) later.0)
+          (subst (λ (l : Registry). ArePicks held due at run l ((bs ++ a ∷ []) ++ later.0)) whole all),
     )
 
 -- the first queued action runs

@@ -25,7 +25,7 @@ use Rattle.exec_turn.specs.Turns.{BeginsBatch, Finishes, PollsBatch, StartsBatch
 
 -- a turn that did nothing
 pub book_full : {D : Type 0} (kind : TurnKind) (view : D → DiskView) (k : D) (x : BatchStart) (from : ChildrenView)
-    → kind turn_end.BookFull x no_effects [] → CrashCondition view k k x.state x.state no_effects
+    → kind from.held turn_end.BookFull x no_effects [] → CrashCondition view k k x.state x.state no_effects
     → TurnsAs kind view k k x x.state x.due from from [] turn_end.BookFull
 book_full kind view k x from does leaves = record {
   effects = no_effects;
@@ -47,7 +47,7 @@ module _ {D : Type 0} {view : D → DiskView} {at : ℕ} {k0 k1 : D} {s0 s1 : St
     {n1 : List Notice} where
   -- the batch of results failed
   results_failed : (kind : TurnKind) {f : DiskFault} (p : PollsBatch view k0 k1 (batch_start s0 d0 p0 at a0) (batch_start s1 d1 p1 at a1) from c1 n1 (Err f))
-      → kind turn_end.Disk (batch_start s0 d0 p0 at a0) (record { entries = polls at p.answers; events = []; pending = results at p.answers }) n1
+      → kind c1.held turn_end.Disk (batch_start s0 d0 p0 at a0) (record { entries = polls at p.answers; events = []; pending = results at p.answers }) n1
       → TurnsAs kind view k0 k1 (batch_start s0 d0 p0 at a0) s1 d1 from c1 n1 turn_end.Disk
   results_failed kind p does = record {
     effects = record { entries = polls at p.answers; events = []; pending = results at p.answers };
@@ -88,13 +88,13 @@ module _ {D : Type 0} {view : D → DiskView} {at : ℕ} {k0 k1 : D} {s0 s1 : St
     due1 : d1 ≡ due_after_all s0 d0 (results at p.answers)
     due1 = ap (λ (x : BatchStart). x.due) p.moves
 
-    picks : (begun : List Active) (end : TurnEnd) → PickedAt end (batch_start s1 d1 p1 at a1) begun
-        → PickedAt end (following (batch_start s0 d0 p0 at a0) (results at p.answers)) begun
-    picks begun end picked = subst (λ (x : BatchStart). PickedAt end x begun) p.moves picked
+    picks : (begun : List Active) (end : TurnEnd) → PickedAt c1.held end (batch_start s1 d1 p1 at a1) begun
+        → PickedAt c1.held end (following (batch_start s0 d0 p0 at a0) (results at p.answers)) begun
+    picks begun end picked = subst (λ (x : BatchStart). PickedAt c1.held end x begun) p.moves picked
 
     -- the batch of begins failed
     pub no_begins : {k2 : D} {s2 : State} {d2 : Due} {p2 : Position} {a2 : Bool} {begun : List Active} {f : DiskFault}
-        → BeginsBatch view k1 k2 (batch_start s1 d1 p1 at a1) (batch_start s2 d2 p2 at a2) begun (Err f)
+        → BeginsBatch view c1.held k1 k2 (batch_start s1 d1 p1 at a1) (batch_start s2 d2 p2 at a2) begun (Err f)
         → Turns view k0 k2 (batch_start s0 d0 p0 at a0) s2 d2 from c1 n1 turn_end.Disk
     no_begins {k2 = k2} {s2 = s2} {begun = begun} b =
         let batch = b.recorded in
@@ -118,7 +118,7 @@ module _ {D : Type 0} {view : D → DiskView} {at : ℕ} {k0 k1 : D} {s0 s1 : St
         }
 
     module _ {k2 : D} {s2 : State} {d2 : Due} {p2 : Position} {a2 : Bool} {begun : List Active} {end : TurnEnd}
-        (b : BeginsBatch view k1 k2 (batch_start s1 d1 p1 at a1) (batch_start s2 d2 p2 at a2) begun (Ok end))
+        (b : BeginsBatch view c1.held k1 k2 (batch_start s1 d1 p1 at a1) (batch_start s2 d2 p2 at a2) begun (Ok end))
         (lawful : (view k2).honest → Lawful (view k2)) where
       abbrev before : List Event
       before = results at p.answers ++ begins at begun
@@ -136,8 +136,8 @@ module _ {D : Type 0} {view : D → DiskView} {at : ℕ} {k0 k1 : D} {s0 s1 : St
       state2 = ap (λ (x : BatchStart). x.state) b.recorded.moves
 
       -- the turn ends as the picks did
-      picked : PickedAt end (batch_start s1 d1 p1 at a1) begun
-      picked = subst (λ (e : TurnEnd). PickedAt e (batch_start s1 d1 p1 at a1) begun) (sym b.ended) b.picked
+      picked : PickedAt c1.held end (batch_start s1 d1 p1 at a1) begun
+      picked = subst (λ (e : TurnEnd). PickedAt c1.held e (batch_start s1 d1 p1 at a1) begun) (sym b.ended) b.picked
 
       module _ (answers : List Started) (each : map (λ a. a.what) answers ≡ begun) where
         abbrev entries : List Entry
@@ -157,7 +157,7 @@ module _ {D : Type 0} {view : D → DiskView} {at : ℕ} {k0 k1 : D} {s0 s1 : St
             (joined view k0 k2 k3 s0 s2 s3 (record { entries = entries; events = before; pending = [] })
             (record { entries = []; events = es; pending = pending }) refl begun_leaves last)
 
-        abbrev all_reported : TurnAnswers end (batch_start s0 d0 p0 at a0)
+        abbrev all_reported : TurnAnswers c1.held end (batch_start s0 d0 p0 at a0)
         all_reported = record {
           polled = p.answers;
           begun = begun;
@@ -172,12 +172,14 @@ module _ {D : Type 0} {view : D → DiskView} {at : ℕ} {k0 k1 : D} {s0 s1 : St
       pub no_refusals : {k3 : D} {s3 : State} {d3 : Due} {p3 : Position} {a3 : Bool} {c2 : ChildrenView} {n3 : List Notice} {f : DiskFault}
           → StartsBatch view k2 k3 (batch_start s2 d2 p2 at a2) (batch_start s3 d3 p3 at a3) begun c1 c2 n1 n3 (Err f)
           → Turns view k0 k3 (batch_start s0 d0 p0 at a0) s3 d3 from c2 n3 turn_end.Disk
-      no_refusals {k3 = k3} {s3 = s3} x = let batch = x.recorded in record {
+      no_refusals {k3 = k3} {s3 = s3} {n3 = n3} x = let batch = x.recorded in record {
         effects = record { entries = entries x.answers x.each; events = before; pending = refusals at x.answers };
         book = both_entries from.book (polls at p.answers) (starts (view k2).clock x.answers) p.book x.book;
         log = both_entries from.log (polls at p.answers) (starts (view k2).clock x.answers) p.log x.log;
         site = x.site ∙ p.site;
-        does = inr (inr (end, all_reported x.answers x.each, refl, x.reported_is ∙ p.reported_is));
+        does = subst (λ held. IsTurn held turn_end.Disk (batch_start s0 d0 p0 at a0)
+            (record { entries = entries x.answers x.each; events = before; pending = refusals at x.answers }) n3) (sym x.held)
+            (inr (inr (end, all_reported x.answers x.each, refl, x.reported_is ∙ p.reported_is)));
         crash =
             subst (λ (l : List Event). CrashCondition view k0 k3 s0 s3
             (record { entries = entries x.answers x.each; events = l; pending = refusals at x.answers })) (append-nil before)
@@ -191,8 +193,8 @@ module _ {D : Type 0} {view : D → DiskView} {at : ℕ} {k0 k1 : D} {s0 s1 : St
             omega (arith, increased, old, older);
       }
 
-      is_whole : (e : TurnEnd) (x : BatchStart) (did : Effects) (reported : List Notice) → PickedAt e (batch_start s1 d1 p1 at a1) begun → Whole e x did reported
-          → IsTurn e x did reported
+      is_whole : (e : TurnEnd) (x : BatchStart) (did : Effects) (reported : List Notice) → PickedAt c1.held e (batch_start s1 d1 p1 at a1) begun → Whole c1.held e x did reported
+          → IsTurn c1.held e x did reported
       is_whole turn_end.Done x did reported h done = done
       is_whole turn_end.RunsSpent x did reported h done = done
       is_whole turn_end.Full x did reported h done = done
@@ -201,7 +203,7 @@ module _ {D : Type 0} {view : D → DiskView} {at : ℕ} {k0 k1 : D} {s0 s1 : St
       is_whole turn_end.BookFull x did reported h done = absurd h.0.0
       is_whole turn_end.Disk x did reported h done = absurd h.0.0
 
-      not_disk : (e : TurnEnd) → PickedAt e (batch_start s1 d1 p1 at a1) begun → e ≡ turn_end.Disk → ⊥
+      not_disk : (e : TurnEnd) → PickedAt c1.held e (batch_start s1 d1 p1 at a1) begun → e ≡ turn_end.Disk → ⊥
       not_disk turn_end.Done h is = cc
       not_disk turn_end.RunsSpent h is = cc
       not_disk turn_end.Full h is = cc
@@ -228,12 +230,12 @@ module _ {D : Type 0} {view : D → DiskView} {at : ℕ} {k0 k1 : D} {s0 s1 : St
             book = both_entries from.book (polls at p.answers) (starts (view k2).clock x.answers) p.book x.book;
             log = both_entries from.log (polls at p.answers) (starts (view k2).clock x.answers) p.log x.log;
             site = x.site ∙ p.site;
-            does = is_whole end (batch_start s0 d0 p0 at a0) did n3 picked (
+            does = subst (λ held. IsTurn held end (batch_start s0 d0 p0 at a0) did n3) (sym x.held) (is_whole end (batch_start s0 d0 p0 at a0) did n3 picked (
               all_reported x.answers x.each,
               refl,
               x.reported_is
                   ∙ ap (λ (l : List Notice). l ++ refusal_notices at x.answers) p.reported_is,
-            );
+            ));
             crash = ended x.answers x.each k3 s3 (refusals at x.answers) [] batch.crash;
             due_is = due3;
             whole = λ _. refl;
@@ -253,9 +255,9 @@ failed_end (Ok end) bad turns = let none : ⊥ = cc in absurd none
 failed_end (Err f) bad turns = turns
 
 -- picks end neither with a full book nor with a disk fault
-pub picks_ended : {D : Type 0} {view : D → DiskView} {k l : D} {x y : BatchStart} {begun : List Active} {end : TurnEnd}
-    → BeginsBatch view k l x y begun (Ok end) → (end ≡ turn_end.BookFull → ⊥) × (end ≡ turn_end.Disk → ⊥)
-picks_ended {x = x} {begun = begun} {end = end} b = (λ is. (so is).0.0, λ is. (so is).0.0)
+pub picks_ended : {D : Type 0} {view : D → DiskView} {k l : D} {x y : BatchStart} {begun : List Active} {end : TurnEnd} {held : List (List ℕ)}
+    → BeginsBatch view held k l x y begun (Ok end) → (end ≡ turn_end.BookFull → ⊥) × (end ≡ turn_end.Disk → ⊥)
+picks_ended {x = x} {begun = begun} {end = end} {held = held} b = (λ is. (so is).0.0, λ is. (so is).0.0)
   where
-    so : {reported : TurnEnd} → end ≡ reported → PickedAt reported x begun
-    so is = subst (λ (e : TurnEnd). PickedAt e x begun) (sym b.ended ∙ is) b.picked
+    so : {reported : TurnEnd} → end ≡ reported → PickedAt held reported x begun
+    so is = subst (λ (e : TurnEnd). PickedAt held e x begun) (sym b.ended ∙ is) b.picked

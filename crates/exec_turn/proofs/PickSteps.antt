@@ -1,5 +1,5 @@
 -- The starts of what has begun, and the batch of begins so far.
-use Rattle.std.proofs.Common.{◌≡◌, ◌⊎◌, inl, inr, ℕ, ◌+◌, ◌<◌, ◌≤◌, List, [], ◌∷◌, ◌++◌, length, take, Some, None, refl, sym, ap, subst, ◌∙◌, arith}
+use Rattle.std.proofs.Common.{◌≡◌, ◌⊎◌, inl, inr, ℕ, ◌+◌, ◌<◌, ◌≤◌, true, false, List, [], ◌∷◌, ◌++◌, length, take, Some, None, refl, sym, ap, subst, ◌∙◌, arith}
 use Rattle.std.specs.List.{AllByRecursion}
 use Rattle.std.proofs.lemmas.Bool.{cases_lt}
 use Rattle.std.proofs.lemmas.List.{append-nil, length-append, map-append}
@@ -16,6 +16,7 @@ use Rattle.ocf_types.specs.declared.reply.TurnEnd.TheVariants as turn_end
 use Rattle.ocf_env.specs.Locations.{Call, SiteView}
 use Rattle.exec_journal.specs.PartPrefix.{encoded_batch}
 use Rattle.exec_journal.specs.Batches.{IsTooLong, kept_free}
+use Rattle.child_model.specs.Children.{is_held}
 use Rattle.exec_ledger.specs.Actives.{Active}
 use Rattle.ocf_env.specs.Instances.{registration_of}
 use Rattle.ocf_env.specs.Invocations.{IsInvocation}
@@ -23,7 +24,7 @@ use Rattle.exec_turn.specs.Launches.{HasOwnLaunch, IsStart, actions_of_starts, a
 use Rattle.exec_state.specs.Store.{Chooses}
 use Rattle.exec_turn.specs.Picks.{ArePicks, Cut, MayBegin, Picked, begin_of, begins}
 use Rattle.exec_turn.specs.declared.picks.StartOf.{StartOf}
-use Rattle.exec_turn.proofs.Choosing.{picks_cut, picks_more}
+use Rattle.exec_turn.proofs.Choosing.{Begins, begins_free, begins_held, picks_cut, picks_more}
 
 -- an invocation of these texts is one of the resource whose texts they are
 pub invoked : (site : SiteView) (id : List ℕ) (r : Resource) (running : Running) (call : Call) (own provider agent : List ℕ) (params : ParamList)
@@ -96,51 +97,61 @@ above n m h = by (cases_lt m n)
     by (inl lt) = lt
     by (inr le) = absurd (h le)
 
--- The picks of the resources before an index, under run numbers up to the next one.
-pub record SoFar (s : State) (due : Due) (tail at index next : ℕ) (bs : List Active) : Type 0 where
-  pub picked : ArePicks due at s.next_run (take index s.resources) bs
+-- What the resources before an index begin while some are held, under run numbers up to the next one.
+pub record SoFar (held : List (List ℕ)) (s : State) (due : Due) (tail at index next : ℕ) (bs : List Active) : Type 0 where
+  pub picked : ArePicks held due at s.next_run (take index s.resources) bs
   pub next_is : next ≡ s.next_run + length bs
   pub may : MayBegin s tail at bs
 
-module _ {s : State} {due : Due} {tail at index next : ℕ} {bs : List Active} (p : SoFar s due tail at index next bs)
+module _ {held : List (List ℕ)} {s : State} {due : Due} {tail at index next : ℕ} {bs : List Active} (p : SoFar held s due tail at index next bs)
     (within : index < length s.resources) where
-  -- the resource at the index picks nothing
-  pub nothing_here : Chooses due at next (entry_at s index) None → SoFar s due tail at (index + 1) next bs
-  nothing_here now = record {
-    picked = subst (λ (l : List Active). ArePicks due at s.next_run (take (index + 1) s.resources) l) (append-nil bs)
-        (picks_more due at s.next_run next s.resources index bs None within p.picked p.next_is now);
+  -- the resource at the index begins nothing: it is held, or chooses nothing
+  none_here : Begins held due at next (entry_at s index) None → SoFar held s due tail at (index + 1) next bs
+  none_here now = record {
+    picked = subst (λ (l : List Active). ArePicks held due at s.next_run (take (index + 1) s.resources) l) (append-nil bs)
+        (picks_more held due at s.next_run next s.resources index bs None within p.picked p.next_is now);
     next_is = p.next_is;
     may = p.may;
   }
 
-  -- it picks an action, for which there is no run number, no space in the journal or no memory, or which begins
-  module _ {x : Running} (now : Chooses due at next (entry_at s index) (Some x)) where
+  pub held_here : is_held held (id_at s index) ≡ true → SoFar held s due tail at (index + 1) next bs
+  held_here is = none_here (begins_held held due at next (entry_at s index) is)
+
+  pub nothing_here : is_held held (id_at s index) ≡ false → Chooses due at next (entry_at s index) None
+      → SoFar held s due tail at (index + 1) next bs
+  nothing_here free now = none_here (begins_free held due at next (entry_at s index) None free now)
+
+  -- it chooses an action, for which there is no run number, no space in the journal or no memory, or which begins
+  module _ {x : Running} (free : is_held held (id_at s index) ≡ false) (chooses : Chooses due at next (entry_at s index) (Some x)) where
+    now : Begins held due at next (entry_at s index) (Some x)
+    now = begins_free held due at next (entry_at s index) (Some x) free chooses
+
     abbrev here : Active
     here = record { id = id_at s index; running = x }
 
-    cut_here : (Why : List Active → Type 0) → Why (bs ++ here ∷ []) → Cut s due at bs Why
+    cut_here : (Why : List Active → Type 0) → Why (bs ++ here ∷ []) → Cut held s due at bs Why
     cut_here Why why =
-        let cut = picks_cut due at s.next_run next s.resources index bs x within p.picked p.next_is now in
+        let cut = picks_cut held due at s.next_run next s.resources index bs x within p.picked p.next_is now in
         record { next = here; later = cut.0; picks = cut.1; why = why }
 
-    pub spent_here : num_max < next + 1 → Picked turn_end.RunsSpent s due tail at bs
+    pub spent_here : num_max < next + 1 → Picked held turn_end.RunsSpent s due tail at bs
     spent_here spent = (cut_here (λ more. num_max < s.next_run + length more) (omega (arith, p.next_is, longer bs here, spent)), p.may)
 
     module _ (drawn : next + 1 ≤ num_max) {size : ℕ} (size_is : length (encoded_batch (begins at (bs ++ here ∷ []))) ≡ size) where
-      pub full_here : 8388608 < tail + 5 + size + 1 + 32768 → Picked turn_end.Full s due tail at bs
+      pub full_here : 8388608 < tail + 5 + size + 1 + 32768 → Picked held turn_end.Full s due tail at bs
       full_here over = (
         cut_here (λ more. (s.next_run + length more ≤ num_max) × IsTooLong tail (begins at more))
             (too_long s tail at next size bs here p.next_is drawn size_is over),
         p.may,
       )
 
-      pub no_memory_here : tail + 5 + size + 1 + 32768 ≤ 8388608 → Picked turn_end.Memory s due tail at bs
+      pub no_memory_here : tail + 5 + size + 1 + 32768 ≤ 8388608 → Picked held turn_end.Memory s due tail at bs
       no_memory_here fit = (cut_here (MayBegin s tail at) (may_more s tail at next size bs here p.next_is drawn size_is fit), p.may)
 
       pub begun_here : {later : ℕ} → tail + 5 + size + 1 + 32768 ≤ 8388608 → later ≡ next + 1
-          → SoFar s due tail at (index + 1) later (bs ++ here ∷ [])
+          → SoFar held s due tail at (index + 1) later (bs ++ here ∷ [])
       begun_here fit later_is = record {
-        picked = picks_more due at s.next_run next s.resources index bs (Some x) within p.picked p.next_is now;
+        picked = picks_more held due at s.next_run next s.resources index bs (Some x) within p.picked p.next_is now;
         next_is = omega (arith, p.next_is, longer bs here, later_is);
         may = may_more s tail at next size bs here p.next_is drawn size_is fit;
       }

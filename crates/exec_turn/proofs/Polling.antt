@@ -116,7 +116,7 @@ polls_as at v (p ∷ ps) =
 
 -- no poll is a start
 nobody : ChildrenView
-nobody = record { book = []; log = []; room = 0; last_run = 0; live = []; site = None }
+nobody = record { book = []; log = []; room = 0; last_run = 0; live = []; given_up = []; held = []; site = None }
 
 polls_unasked : (at : ℕ) (ps : List Polled) → AllByRecursion IsUnasked (polls at ps)
 polls_unasked at [] = tt

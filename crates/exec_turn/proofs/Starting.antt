@@ -64,17 +64,20 @@ pub one_live : (run : ℕ) (live : List ℕ) (answer : Result Unit StartFault) �
 one_live run live (Ok x) = omega (arith, length-append live (run ∷ []))
 one_live run live (Err fault) = omega arith
 
--- book and log get the entries of starts, and the site stays
+-- book and log get the entries of starts, and the site, what is held and what was given up stay
 pub starts_as : (clock : ℕ) (v : ChildrenView) (xs : List Started)
     → ((after_starts clock v xs).book ≡ v.book ++ starts clock xs) × ((after_starts clock v xs).log ≡ v.log ++ starts clock xs)
-    × ((after_starts clock v xs).site ≡ v.site)
-starts_as clock v [] = (sym (append-nil v.book), sym (append-nil v.log), refl)
+    × ((after_starts clock v xs).site ≡ v.site) × ((after_starts clock v xs).held ≡ v.held)
+    × ((after_starts clock v xs).given_up ≡ v.given_up)
+starts_as clock v [] = (sym (append-nil v.book), sym (append-nil v.log), refl, refl, refl)
 starts_as clock v (x ∷ xs) =
     let entry : Entry = record { run = x.what.running.run; at = clock; answer = start_answer x.answer } in
     let rest = starts_as clock (after_start v x.what.running.run clock x.answer) xs in (
       rest.0 ∙ append_assoc v.book (entry ∷ []) (starts clock xs),
       rest.1 ∙ append_assoc v.log (entry ∷ []) (starts clock xs),
       rest.2,
+      rest.3,
+      rest.4,
     )
 
 -- the last run whose start was asked

@@ -1,5 +1,5 @@
 -- The contracts of a turn and of its three batches.
-use Rattle.std.specs.Prelude.{◌≡◌, ◌≢◌, ◌*◌, ◌+◌, ◌<◌, ◌≤◌, List, [], ◌++◌, length, map, Result, Ok, Err, IfOk, OnErr, is_ok, if◌then◌else◌}
+use Rattle.std.specs.Prelude.{◌≡◌, ◌≢◌, ◌*◌, ◌+◌, ◌<◌, ◌≤◌, ℕ, List, [], ◌++◌, length, map, Result, Ok, Err, IfOk, OnErr, is_ok, if◌then◌else◌}
 use Rattle.std.specs.List.{AllByRecursion}
 use Rattle.ocf_types.specs.Due.{Due}
 use Rattle.ocf_types.specs.State.{State}
@@ -22,9 +22,11 @@ use Rattle.exec_ledger.specs.BatchStarts.{Moves, RecordsBatch, BatchStart, due_a
 use Rattle.exec_turn.specs.declared.buffers.TurnBuffers.{TurnBuffers}
 use Rattle.exec_turn.specs.declared.picks.StartOf.{StartOf}
 
--- the agent processes of all running actions live, and the next run number is above every run whose start was requested
+-- the agent processes of all running actions live, all that were given up were ended, and the next run number is above every run
+-- whose start was requested
 pub record ChildrenMatch (s : State) (v : ChildrenView) : Type 0 where
   pub agents_live : AgentsLive s v.live
+  pub ended : v.given_up ≡ []
   pub rising : v.last_run < s.next_run
 
 -- In the three batches `k` and `l` are the disk before and after, `x` and `y` the views (`BatchStart`) before and after, and
@@ -44,15 +46,15 @@ pub record PollsBatch {D : Type 0} (view : D → DiskView) (k l : D) (x y : Batc
   pub cause : OnErr result (Increased (view k).failures (view l).failures)
   pub reported_is : reported ≡ (if is_ok result then result_notices x.at answers else [])
 
--- The second batch: the actions begun, by what ended the picks, and their begins.
-pub record BeginsBatch {D : Type 0} (view : D → DiskView) (k l : D) (x y : BatchStart) (begun : List Active) (result : Result TurnEnd DiskFault) : Type 0 where
+-- The second batch: the actions begun while these resources are held, by what ended the picks, and their begins.
+pub record BeginsBatch {D : Type 0} (view : D → DiskView) (held : List (List ℕ)) (k l : D) (x y : BatchStart) (begun : List Active) (result : Result TurnEnd DiskFault) : Type 0 where
   pub end : TurnEnd
   pub ended : IfOk result (λ reported. reported ≡ end)
-  pub picked : PickedAt end x begun
+  pub picked : PickedAt held end x begun
   pub recorded : RecordsBatch view k l x y (begins x.at begun) result
 
 -- These may be started: each runs, has the launch of its action, and a run above all whose start was requested; the agent
--- processes of all other running actions live.
+-- processes of all other running actions live, and all that were given up were ended.
 pub record Startable (s : State) (v : ChildrenView) (begun : List (StartOf Call)) : Type 0 where
   pub run : AllRun s (actions_of_starts begun)
   pub launches : AllLaunch v.site s begun
@@ -60,6 +62,7 @@ pub record Startable (s : State) (v : ChildrenView) (begun : List (StartOf Call)
   pub rising : Rising v.last_run (actions_of_starts begun)
   pub last : v.last_run < s.next_run
   pub agents_live : AgentsLiveBut s v.live (actions_of_starts begun)
+  pub ended : v.given_up ≡ []
 
 -- The third batch: starts, and the results of those that were refused.
 pub record StartsBatch {D : Type 0} (view : D → DiskView) (k l : D) (x y : BatchStart) (begun : List Active) (from to : ChildrenView)
@@ -68,6 +71,7 @@ pub record StartsBatch {D : Type 0} (view : D → DiskView) (k l : D) (x y : Bat
   pub each : map (λ a. a.what) answers ≡ begun
   pub book : to.book ≡ from.book ++ starts (view k).clock answers
   pub log : to.log ≡ from.log ++ starts (view k).clock answers
+  pub held : to.held ≡ from.held
   pub site : to.site ≡ from.site
   pub recorded : RecordsBatch view k l x y (refusals x.at answers) result
   pub reported_is : reported ≡ (if is_ok result then was ++ refusal_notices x.at answers else was)
@@ -78,7 +82,7 @@ end_of (Ok end) = end
 end_of (Err fault) = turn_end.Disk
 
 -- A turn of a kind, of an open executor: from the view before its first batch to a state, due moments and children, with its
--- notices.
+-- notices. Its actions are picked while those resources are held that the children hold after it.
 pub record TurnsAs {D : Type 0} (kind : TurnKind) (view : D → DiskView) (old new : D) (x : BatchStart) (t : State) (due : Due) (from to : ChildrenView)
     (reported : List Notice) (end : TurnEnd) : Type 0 where
   pub effects : Effects
@@ -87,7 +91,7 @@ pub record TurnsAs {D : Type 0} (kind : TurnKind) (view : D → DiskView) (old n
   pub log : to.log ≡ from.log ++ effects.entries
   -- the site that the children name, if any, stays
   pub site : to.site ≡ from.site
-  pub does : kind end x effects reported
+  pub does : kind to.held end x effects reported
   -- the events that it recorded, what a crash at any moment of it leaves, and that no agent was spawned without its synced begin
   pub crash : CrashCondition view old new x.state t effects
   pub due_is : due ≡ due_after_all x.state x.due effects.events

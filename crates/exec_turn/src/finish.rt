@@ -31,7 +31,8 @@ pub fn runs_any<A: Grows>(state: &State<A>) -> bool
 /// A turn over an open ledger at a moment in milliseconds since 1970 that begins nothing: every running action is polled, in
 /// order of registration, and killed where it runs past its timeout. Queued actions stay queued, and due monitors stay due.
 ///
-/// A result is recorded before it is reported. The turn ends with `BookFull`, having done nothing, where the children's book
+/// All agents that were given up are ended, each with its processes, before a result is recorded, and a result is recorded before it
+/// is reported. The turn ends with `BookFull`, having done nothing, where the children's book
 /// has no capacity for two entries per resource; with `Disk` if the journal's device failed, which closes the ledger; else with
 /// `Done`. It allocates nothing itself; the children may, in `end_killed`.
 pub fn finish_turn<D: Disk + Drop, C: Children, A: Grows>(

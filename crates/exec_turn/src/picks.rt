@@ -10,6 +10,7 @@ ghost use Rattle.ocf_types.specs.Encoding.{encoded_event};
 ghost use Rattle.exec_turn.specs.Launches.{IsStart, actions_of_starts, action_of_start};
 ghost use Rattle.exec_turn.specs.Picks.{Picked, begin_of, begins};
 
+use child_model::Children;
 use disk_model::Disk;
 use exec_journal::Journal;
 use exec_state::State;
@@ -75,12 +76,13 @@ fn start_of<A: Grows, S: Allocator>(
     Ok(StartOf { launch, running })
 }
 
-/// Picks the action that each resource begins at `at`, in order of registration; puts its begin into `batch` and its start into
-/// `starts`. Ends before the first action for which run numbers, journal space or memory have run out, and returns which; else
-/// `Done`. Where [`State::rests`] says that nothing begins, no resource is looked at.
-pub(crate) fn pick_all<D: Disk + Drop, A: Grows, S: Allocator>(
+/// Picks the action that each resource begins at `at`, in order of registration, none for a resource that the children hold; puts
+/// its begin into `batch` and its start into `starts`. Ends before the first action for which run numbers, journal space or memory
+/// have run out, and returns which; else `Done`. Where [`State::rests`] says that nothing begins, no resource is looked at.
+pub(crate) fn pick_all<D: Disk + Drop, C: Children, A: Grows, S: Allocator>(
     alloc: A,
     site: &Site<S>,
+    children: &C,
     state: &State<A>,
     journal: &Journal<D, A>,
     at: Moment,
@@ -89,7 +91,7 @@ pub(crate) fn pick_all<D: Disk + Drop, A: Grows, S: Allocator>(
 ) -> TurnEnd
     requires batch_room { length state.now.state.resources ≤ vec_capacity batch.old }
     requires start_room { length state.now.state.resources ≤ vec_capacity starts.old }
-    ensures picked { Picked result state.now.state (dues state.now)
+    ensures picked { Picked (C.view children.now).held result state.now.state (dues state.now)
         (journal_position journal.now).tail at (actions_of_starts starts.new.items) }
     ensures batch { batch.new.items ≡ begins at (actions_of_starts starts.new.items) }
     ensures are_starts { AllByRecursion (IsStart site.now state.now.state) starts.new.items }
@@ -107,6 +109,9 @@ pub(crate) fn pick_all<D: Disk + Drop, A: Grows, S: Allocator>(
     let mut run = state.next_run();
     let mut len = 0;
     for index in 0..state.len() {
+        if children.holds(state.id_at(index)) {
+            continue;
+        }
         let Some(running) = state.pick(index, run, at) else {
             continue;
         };

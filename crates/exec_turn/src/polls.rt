@@ -90,7 +90,7 @@ fn poll_at<C: Children, A: Grows>(
 }
 
 /// Polls every running action, in order of registration, and leaves the batch of their results in `batch` and their notices in
-/// `notices`. Then it ends the agents that it killed, all together; one that lives on is the children's matter.
+/// `notices`. What it kills, or has no answer about, is given up and not ended yet: that is for `end_killed`, for all together.
 pub(crate) fn poll_all<C: Children, A: Grows>(
     state: &State<A>,
     children: &mut C,
@@ -113,5 +113,4 @@ pub(crate) fn poll_all<C: Children, A: Grows>(
     for index in 0..state.len() {
         poll_at(state, index, children, at, batch, notices);
     }
-    children.end_killed();
 }

@@ -1,5 +1,5 @@
 //! The third batch of a turn: starts of agent processes, and results of those that were refused.
-ghost use Rattle.std.specs.Prelude.{◌≡◌, ◌<◌, ◌≤◌, ◌+◌, ◌++◌, List, Result, length, map, vec_len};
+ghost use Rattle.std.specs.Prelude.{◌≡◌, ◌<◌, ◌≤◌, ◌+◌, ◌++◌, [], List, Result, length, map, vec_len};
 ghost use Rattle.std.specs.List.{AllByRecursion};
 ghost use Rattle.std.specs.Vec.{vec_capacity};
 ghost use Rattle.ocf_types.specs.declared.outcome.StartFault.{StartFault};
@@ -35,6 +35,7 @@ fn start_one<D: Disk + Drop, C: Children, A: Grows>(
     requires launches { IsLaunch (C.view children.old).site state.now.state start.now.launch }
     requires of_one { HasOwnLaunch start.now }
     requires rising { (C.view children.old).last_run < start.now.running.run }
+    requires ended { (C.view children.old).given_up ≡ [] }
     requires few { length (C.view children.old).live < live_limit }
     requires room { 0 < (C.view children.old).room }
     requires batch_room { vec_len batch.old < vec_capacity batch.old }
@@ -61,8 +62,8 @@ fn start_one<D: Disk + Drop, C: Children, A: Grows>(
     notices.push_reserved(notice);
 }
 
-/// Spawns the agent of each start, in order. The journal must be settled at a state in which all these actions run. `batch`
-/// becomes the results of the refused ones, and their notices are appended to `notices`.
+/// Spawns the agent of each start, in order. The journal must be settled at a state in which all these actions run, and all that
+/// were given up must have been ended. `batch` becomes the results of the refused ones, and their notices are appended to `notices`.
 pub(crate) fn start_all<D: Disk + Drop, C: Children, A: Grows>(
     state: &State<A>,
     journal: &Journal<D, A>,
@@ -76,6 +77,7 @@ pub(crate) fn start_all<D: Disk + Drop, C: Children, A: Grows>(
     requires launches { AllLaunch (C.view children.old).site state.now.state starts.now }
     requires of_one { AllByRecursion HasOwnLaunch starts.now }
     requires rising { Rising (C.view children.old).last_run (actions_of_starts starts.now) }
+    requires ended { (C.view children.old).given_up ≡ [] }
     requires few { length (C.view children.old).live + length starts.now ≤ live_limit }
     requires room { length starts.now ≤ (C.view children.old).room }
     requires batch_room { length starts.now ≤ vec_capacity batch.old }

@@ -1,12 +1,12 @@
 -- Commands begin and end nothing that runs.
-use Rattle.std.proofs.Common.{◌≡◌, ◌<◌, ◌≤◌, Bool, true, false, ◌||◌, List, [], ◌∷◌, ◌++◌, Some, None, Option, is_some, length, nat_eq, nat_lt, Contains, refl, sym, ◌∙◌, ap, subst, arith}
+use Rattle.std.proofs.Common.{◌≡◌, ◌<◌, ◌≤◌, ℕ, Bool, true, false, ◌||◌, List, [], ◌∷◌, ◌++◌, Some, None, Option, is_some, length, nat_eq, nat_lt, Contains, refl, sym, ◌∙◌, ap, subst, arith}
 use Rattle.std.specs.List.{AllByRecursion, IsDistinct, list_any}
 use Rattle.std.proofs.lemmas.Bool.{or_parts}
 use Rattle.ocf_types.specs.Resource.{is_busy}
 use Rattle.ocf_types.specs.State.{Registry, State}
 use Rattle.ocf_types.specs.declared.operation.Running.{Running}
 use Rattle.ocf_types.specs.Boot.{any_busy}
-use Rattle.child_model.specs.Children.{ChildrenView, given_up}
+use Rattle.child_model.specs.Children.{ChildrenView, all_ended}
 use Rattle.exec_ledger.specs.Actives.{KeepsRuns, Active, active_of, all_in, runs_of}
 use Rattle.ocf_types.specs.declared.reply.Notice.{Notice}
 use Rattle.ocf_env.specs.Locations.{SiteView}
@@ -26,6 +26,7 @@ kept_matched s t v keeps matched =
         distinct = subst (λ (l : List Active). IsDistinct nat_eq (runs_of l)) (sym keeps.runs) matched.agents_live.distinct;
         few = subst (λ (l : List Active). length v.live ≤ length l) (sym keeps.runs) matched.agents_live.few;
       };
+      ended = matched.ended;
       rising = omega (arith, next, low);
     }
 
@@ -48,14 +49,16 @@ nothing_in (e ∷ rs) quiet =
     let none = quiet_runs (nat_lt 0 (length e.1.history.queue)) e.1.history.running parts.0 in
     ap (λ (o : Option Running). active_of e.0 o ++ all_in rs) none ∙ nothing_in rs parts.1
 
-pub quiet_matched : (t : State) (v : ChildrenView) → any_busy t ≡ false → v.last_run < t.next_run → ChildrenMatch t (given_up v)
+pub quiet_matched : (t : State) (v : ChildrenView) (held : List (List ℕ)) → any_busy t ≡ false → v.last_run < t.next_run
+    → ChildrenMatch t (all_ended v held)
 unfolding IsDistinct
-quiet_matched t v quiet low =
+quiet_matched t v held quiet low =
     let none = nothing_in t.resources quiet in record {
       agents_live = record {
-        each_lives = subst (λ (l : List Active). AllByRecursion (λ run. Contains (given_up v).live run) (runs_of l)) (sym none) tt;
+        each_lives = subst (λ (l : List Active). AllByRecursion (λ run. Contains (all_ended v held).live run) (runs_of l)) (sym none) tt;
         distinct = subst (λ (l : List Active). IsDistinct nat_eq (runs_of l)) (sym none) tt;
         few = omega arith;
       };
+      ended = refl;
       rising = low;
     }

@@ -58,7 +58,7 @@ module _ {D : Type 0} (view : D → DiskView) where
   call_lasts Cleared x y d does =
       record { opening_report = ap (λ (z : ExecutorView D). z.opening_report) does.0; refuses = ap (λ (z : ExecutorView D). z.refuses) does.0 }
   call_lasts Abandoned x y d does =
-      record { opening_report = ap (λ (z : ExecutorView D). z.opening_report) does.0; refuses = ap (λ (z : ExecutorView D). z.refuses) does.0 }
+      record { opening_report = ap (λ (z : ExecutorView D). z.opening_report) does.0.2; refuses = ap (λ (z : ExecutorView D). z.refuses) does.0.2 }
 
   pub lemma_report_stays : (x y : ExecutorView D) (es : List Exchange) (d : Effects) → Calls view x es y d → y.opening_report ≡ x.opening_report
   lemma_report_stays x y [] d calls = (same_lasts x y calls.0).opening_report

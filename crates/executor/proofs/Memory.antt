@@ -65,7 +65,7 @@ module _ {D : Type 0} (view : D → DiskView) where
       let reported : reply.Turn takes.end ≡ reply.Turn turn_end.Memory = sym takes.replies ∙ lacks in
       let same : takes.end ≡ turn_end.Memory = cc in
       let t = takes.takes.turns in
-      (subst (λ (e : TurnEnd). IsTurn e (batch_start x.state (due_in x) x.position (moment x.state now) x.refuses) t.effects y.reported) same
+      (subst (λ (e : TurnEnd). IsTurn y.children.held e (batch_start x.state (due_in x) x.position (moment x.state now) x.refuses) t.effects y.reported) same
       t.does).0.picked.1 refl
 
   taken : (b : Bool) (i : Input) (x y : ExecutorView D) (r : Reply) (d : Effects) → TakesWhile b view i x y r d → LacksMemory (Took i r)

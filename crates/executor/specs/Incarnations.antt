@@ -25,7 +25,7 @@ use Rattle.executor.specs.BatchCalls.{TakesBatch}
 use Rattle.executor.specs.Sessions.{Input, TakesWhile}
 use Rattle.executor.specs.ExecutorView.{ExecutorView}
 use Rattle.executor.specs.TidyCalls.{TidiesWhile}
-use Rattle.executor.specs.TurnCalls.{abandoned, with_empty_book}
+use Rattle.executor.specs.TurnCalls.{Abandons, with_empty_book}
 
 -- a call of an executor with its answer: an input with its reply, a batch of commands at one moment with their replies, a turn that
 -- begins nothing at a moment with its end, or a tidy with its end; or the call that empties the children's book, or the one that
@@ -45,7 +45,7 @@ Does view (Batch now commands replies) old new effects = TakesBatch view now com
 Does view (Finished now end) old new effects = FinishedWhile old.is_open view now old new end effects
 Does view (Tidied end) old new effects = TidiesWhile old.is_open view old new end × (effects ≡ no_effects)
 Does view Cleared old new effects = (new ≡ with_empty_book old) × (effects ≡ no_effects)
-Does view Abandoned old new effects = (new ≡ abandoned old) × (effects ≡ no_effects)
+Does view Abandoned old new effects = Abandons old new × (effects ≡ no_effects)
 
 -- one call after the other; a session is the calls of its inputs
 abbrev pub Calls : {D : Type 0} → (D → DiskView) → ExecutorView D → List Exchange → ExecutorView D → Effects → Type 0

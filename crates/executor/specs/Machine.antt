@@ -36,13 +36,14 @@ pub record Machine : Type 0 where
   pub refuses : Bool
 
 -- The label of a step: the call with its answer; the starts, polls and kills of agent processes in it, each with its answer; the
--- notices of a turn; and what the machine does not keep itself: how many more answers the book of agent processes had room for
--- before the step, the position of the journal's next record then, and how many calls the device had failed before the step
--- and after it.
+-- notices of a turn; and what the machine does not keep itself: the ids of the resources that are held after the step, as they were
+-- when a turn picked its actions; how many more answers the book of agent processes had room for before the step, the position of
+-- the journal's next record then, and how many calls the device had failed before the step and after it.
 pub record Label : Type 0 where
   pub exchange : Exchange
   pub answers : List Entry
   pub notices : List Notice
+  pub held : List (List ℕ)
   pub room : ℕ
   pub position : Position
   pub faults : ℕ × ℕ
@@ -101,7 +102,7 @@ TakesOne l now c r m n did = TakesAll l now (c ∷ []) (r ∷ []) m n did
 -- A turn of a kind at a moment, for which the book needs room for this many answers for each resource.
 pub record MovesTurn (kind : TurnKind) (each : ℕ) (end : TurnEnd) (at : ℕ) (l : Label) (m n : Machine) (did : Effects) : Type 0 where
   -- the answers of agent processes make its events and its notices
-  pub turns : kind end (batch_start m.state m.due l.position at m.refuses) did l.notices
+  pub turns : kind l.held end (batch_start m.state m.due l.position at m.refuses) did l.notices
   pub answers : l.answers ≡ did.entries
   pub goes_on : n ≡ record (after_events m did.events) { is_open = n.is_open }
   -- nothing is done exactly when the book lacks capacity, and a disk fault alone closes the machine

@@ -8,7 +8,7 @@ use Rattle.ocf_types.specs.declared.reply.Notice.{Notice}
 use Rattle.disk_model.specs.Image.{Image}
 use Rattle.disk_model.specs.Runs.{CrashesTo}
 use Rattle.disk_model.specs.Disk.{Increased, Unwritten, DiskView}
-use Rattle.child_model.specs.Children.{ChildrenView, given_up}
+use Rattle.child_model.specs.Children.{AllEnded, ChildrenView}
 use Rattle.gated_slots.specs.declared.append.SlotFault.{SlotFault}
 use Rattle.gated_slots.specs.declared.append.SlotFault.TheVariants as slot
 use Rattle.exec_journal.specs.Found.{FoundAs, HasDamage, IsToWrite, JournalAt}
@@ -60,10 +60,10 @@ pub record OpensDisk (old new : DiskView) (now : ℕ) : Type 0 where
   -- nothing is written on a journal of the second layout in which nothing is queued or running, nor on a damaged pair
   pub unwritten : (old.honest → IsQuietPair old.reads) → Unwritten old new
 
--- an executor over these children, after they were given up: none of them was started for a later state than its own
+-- an executor over these children, after all were given up and ended: none of them was started for a later state than its own
 pub record IsOver {D : Type 0} (from : ChildrenView) (x : ExecutorView D) : Type 0 where
   pub is_open : x.is_open ≡ true
-  pub children : x.children ≡ given_up from
+  pub children : AllEnded from x.children
   pub reported : x.reported ≡ []
   pub rising : from.last_run < x.state.next_run
 
@@ -72,7 +72,7 @@ pub record IsOver {D : Type 0} (from : ChildrenView) (x : ExecutorView D) : Type
 pub record IsUnready (from to : ChildrenView) (s : State) (fault : OpenError) : Type 0 where
   pub either : (fault ≡ why.Foreign) ⊎ (fault ≡ why.Memory)
   pub foreign : fault ≡ why.Foreign → (to ≡ from) × (s.next_run ≤ from.last_run)
-  pub memory : fault ≡ why.Memory → (to ≡ given_up from) × (from.last_run < s.next_run)
+  pub memory : fault ≡ why.Memory → AllEnded from to × (from.last_run < s.next_run)
 
 -- The executor was opened: from one view of the disk and these children, and with these notices, which it remembers.
 pub record Opened {D : Type 0} (view : D → DiskView) (old : DiskView) (from : ChildrenView) (now : ℕ) (x : ExecutorView D)
@@ -102,15 +102,15 @@ pub record NotOpened (old new : DiskView) (from to : ChildrenView) (now : ℕ) (
   pub did : OpensDisk old new now
   -- the children are as they were, or given up; they are not given up where the pair is damaged, nor where they are another
   -- journal's
-  pub children : (to ≡ from) ⊎ (to ≡ given_up from)
+  pub children : (to ≡ from) ⊎ AllEnded from to
   pub untouched : (d : Damage) → fault ≡ why.Damaged d → to ≡ from
   pub foreign : fault ≡ why.Foreign → (to ≡ from) × (new.honest → IsForeign old.reads from)
   pub spared : new.honest → IsForeign old.reads from → to ≡ from
   -- they were given up where a boot did not fit
-  pub full_given_up : fault ≡ why.Full → to ≡ given_up from
+  pub full_given_up : fault ≡ why.Full → AllEnded from to
   -- they are as they were and no boot was recorded, or they were given up as those of the journal that is found
   pub kept_unbooted :
-      ((to ≡ from) × CrashesTo old new (OpensLike old)) ⊎ ((to ≡ given_up from) × (new.honest → IsOwn old.reads from))
+      ((to ≡ from) × CrashesTo old new (OpensLike old)) ⊎ (AllEnded from to × (new.honest → IsOwn old.reads from))
   -- damage is reported as it was found, and a disk fault has a cause
   pub damaged : new.honest → (d : Damage) → fault ≡ why.Damaged d → HasDamage old.reads d
   pub cause : fault ≡ why.Disk → Increased old.failures new.failures

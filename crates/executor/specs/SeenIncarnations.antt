@@ -22,6 +22,7 @@ label_in view was_open e old new effects = record {
   exchange = e;
   answers = effects.entries;
   notices = notices_of was_open e new.reported;
+  held = new.children.held;
   room = old.children.room;
   position = old.position;
   faults = ((view old.disk).failures, (view new.disk).failures);

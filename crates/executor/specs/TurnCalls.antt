@@ -4,7 +4,7 @@ use Rattle.ocf_types.specs.Answer.{moment}
 use Rattle.ocf_types.specs.declared.reply.TurnEnd.{TurnEnd}
 use Rattle.ocf_types.specs.declared.reply.TurnEnd.TheVariants.{BookFull, Closed, Disk}
 use Rattle.disk_model.specs.Disk.{DiskView}
-use Rattle.child_model.specs.Children.{emptied, given_up}
+use Rattle.child_model.specs.Children.{AllEnded, ChildrenView, emptied}
 use Rattle.exec_ledger.specs.LedgerView.{While}
 use Rattle.exec_ledger.specs.BatchStarts.{batch_start}
 use Rattle.exec_turn.specs.Turn.{IsFinish, IsTurn, TurnKind}
@@ -41,9 +41,10 @@ TurnsWhile is_open view now old new end = While is_open (TakesTurn view now old 
 abbrev pub FinishesWhile : Bool → {D : Type 0} → (D → DiskView) → ℕ → ExecutorView D → ExecutorView D → TurnEnd → Type 0
 FinishesWhile is_open view now old new end = While is_open (FinishesTurn view now old new end) ((end ≡ Closed) × (new ≡ old))
 
--- the executor after its children's book was emptied, and after it gave up its children, which closes it
+-- the executor after its children's book was emptied
 abbrev pub with_empty_book : {D : Type 0} → ExecutorView D → ExecutorView D
 with_empty_book x = record x { children = emptied x.children }
 
-abbrev pub abandoned : {D : Type 0} → ExecutorView D → ExecutorView D
-abandoned x = record x { is_open = false; children = given_up x.children }
+-- it gave up all its children, which were ended and hold any resources after it, and is closed
+abbrev pub Abandons : {D : Type 0} → ExecutorView D → ExecutorView D → Type 0
+Abandons old new = (children : ChildrenView) × AllEnded old.children children × (new ≡ record old { is_open = false; children = children })

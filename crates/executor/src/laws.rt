@@ -21,7 +21,7 @@ ghost use Rattle.executor.specs.Promise.{IsKept};
 ghost use Rattle.executor.specs.CommandBatches.{CallsCommands, TakesCommands};
 ghost use Rattle.executor.specs.Behaves.{Behaves};
 ghost use Rattle.executor.specs.SeenIncarnations.{seen};
-ghost use Rattle.executor.specs.Projections.{AreRising, DistinctKeys, IsAnswered, entries_of_runs, events_of, own_runs, part, projection_of};
+ghost use Rattle.executor.specs.Projections.{AreRising, DistinctKeys, IsAnswered, IsFree, IsFreeSession, entries_of_runs, events_of, own_runs, part, projection_of};
 ghost use Rattle.exec_ledger.specs.Together.{Answered};
 ghost use Rattle.exec_ledger.specs.Pieces.{Effects};
 ghost use Rattle.executor.specs.Sessions.{Input, Session};
@@ -39,11 +39,13 @@ use ocf_types::laws::{layouts, lemma_lawful_states};
 /// entries of its runs, and its events. Of commands that arrived together it has those that are about it, one by one; tidies
 /// are nothing to it. The machine begins with the resource's own history, monitors and due moments; call and run numbers are
 /// handed in. The law holds while none of its replies reports a shortage that resources share or a closed executor, each turn
-/// ends done, and moments do not go back; the replies to others do not matter.
+/// ends done, moments do not go back, and the resource is not held in any turn that may begin actions; the replies to others,
+/// and whether others are held, do not matter.
 pub fn lemma_each_alone<D: Disk>()
     ensures alone { (x z : ExecutorView D) (calls : List Exchange) (d : Effects) (id : List ℕ)
-        → DistinctKeys x.state → Calls D.view x calls z d
-        → AllByRecursion IsAnswered (part id calls) → AreRising x.state.clock calls
+        → DistinctKeys x.state → (made : Calls D.view x calls z d)
+        → IsFree D.view id x calls z d made → AllByRecursion IsAnswered (part id calls)
+        → AreRising x.state.clock calls
         → Alone id (isolated_of x id) (part id calls)
         (entries_of_runs (own_runs id x.state d.events) d.entries)
         (events_of id d.events) }
@@ -56,7 +58,8 @@ pub fn lemma_each_alone<D: Disk>()
     // the same of a session, whose calls are its inputs with their replies
     ensures session { (x z : ExecutorView D) (inputs : List Input) (replies : List Reply) (d : Effects)
         (id : List ℕ)
-        → DistinctKeys x.state → Session D.view x inputs replies z d
+        → DistinctKeys x.state → (made : Session D.view x inputs replies z d)
+        → IsFreeSession D.view id x inputs replies z d made
         → AllByRecursion IsAnswered (part id (as_calls inputs replies))
         → AreRising x.state.clock (as_calls inputs replies)
         → Alone id (isolated_of x id) (part id (as_calls inputs replies))

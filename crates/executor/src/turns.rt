@@ -1,7 +1,7 @@
 //! Turns, and the agent processes.
 ghost use Rattle.std.specs.Prelude.{◌≡◌};
 ghost use Rattle.exec_turn.specs.Actives.{any_running};
-ghost use Rattle.executor.specs.TurnCalls.{FinishesWhile, TurnsWhile, abandoned, with_empty_book};
+ghost use Rattle.executor.specs.TurnCalls.{Abandons, FinishesWhile, TurnsWhile, with_empty_book};
 
 use crate::Executor;
 use child_model::{Children, Entry};
@@ -12,7 +12,7 @@ use ocf_types::{Notice, TurnEnd};
 
 impl<D: Disk + Drop, C: Children + Drop, A: Grows> Executor<D, C, A> {
     /// A turn at a moment in milliseconds since 1970: polls running actions, records their results, and begins and spawns the
-    /// actions that have to begin.
+    /// actions that have to begin. It begins nothing for a resource that the children hold.
     ///
     /// A result is recorded before it is reported, and a begin before its action is spawned. A disk fault closes the executor. A
     /// closed one does nothing.
@@ -78,10 +78,10 @@ impl<D: Disk + Drop, C: Children + Drop, A: Grows> Executor<D, C, A> {
         self.children.clear_book();
     }
 
-    /// Kills and gives up every agent process, and closes the executor: the running actions are reported as interrupted when the
+    /// Gives up every agent process and ends it, and closes the executor: the running actions are reported as interrupted when the
     /// journal is opened again.
     pub fn abandon(&mut self)
-        ensures abandoned { self.new ≡ abandoned self.old }
+        ensures abandoned { Abandons self.old self.new }
     {
         self.children.give_up_all();
         self.ledger.close();

@@ -1,2 +1,3 @@
 pub mod Emptied
 pub mod Ends
+pub mod Waits

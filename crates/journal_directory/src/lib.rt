@@ -9,6 +9,7 @@ mod metrics;
 mod reasons;
 mod show;
 mod status;
+mod waits;
 
 pub use emptied::not_emptied;
 pub use files::{found, open_files, report_device, told};

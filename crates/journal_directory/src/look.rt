@@ -1,15 +1,15 @@
 //! The moment and the options of a status.
+use agents_file::{monotonic_now, read_agents};
 use exec_lines::moment_now;
 use exec_options::{JournalLocation, Options};
-use exec_orphans::{read_holder, uptime};
 use ocf_types::Moment;
 use status_report::StatusOptions;
 use std::path::Path;
 
 // The moment now by the clock of the executor that last opened the journal in this directory; `None` if that was before the last boot.
 fn executor_moment(rt: &HostRuntime, directory: &str) -> Option<Moment> {
-    let holder = read_holder(rt, directory)?;
-    Some(Moment::cut(holder.moment_at(uptime(rt)?)))
+    let (head, _) = read_agents(rt, rt.alloc(), directory)?;
+    Some(Moment::cut(head.moment_at(monotonic_now(rt).ok()?)))
 }
 
 /// The moment at which ages are taken. The moments of a journal are readings of its executor's clock, which does not follow
@@ -33,6 +33,7 @@ pub fn look_of<'a>(rt: &HostRuntime, options: Options<'a>) -> StatusOptions<'a> 
         colours: is_terminal(rt),
         alarms: options.exit_code,
         reasons: &[],
+        waits: &[],
     }
 }
 

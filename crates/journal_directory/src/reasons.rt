@@ -2,7 +2,7 @@
 use exit_reasons::{Tail, last_reason};
 use ocf_types::RscId;
 use process_ends::System;
-use status_report::Reason;
+use status_report::Remark;
 use std::alloc::{AllocError, Global};
 use std::fs::{self, OpenOptions};
 use std::io::{self, ErrorKind};
@@ -21,8 +21,8 @@ pub struct FoundReason {
 
 impl FoundReason {
     // The reason as a status takes it.
-    fn as_reason(&self) -> Reason<'_> {
-        Reason {
+    fn as_reason(&self) -> Remark<'_> {
+        Remark {
             id: &self.id,
             text: from_utf8(self.text.as_slice()).unwrap_or_default(),
         }
@@ -33,7 +33,7 @@ impl FoundReason {
 pub fn as_reasons<'a>(
     alloc: Global,
     found: &'a [FoundReason],
-) -> Result<Vec<Reason<'a>>, AllocError> {
+) -> Result<Vec<Remark<'a>>, AllocError> {
     let mut reasons = Vec::new(alloc);
     for reason in found {
         reasons.push(reason.as_reason())?;

@@ -3,6 +3,7 @@ ghost use Rattle.exec_faults.specs.Faults.{IsRunEnd};
 
 use crate::look::look_of;
 use crate::reasons::{FoundReason, as_reasons, reasons_in};
+use crate::waits::{as_remarks, waits_in};
 use disk_model::Disk;
 use exec_faults::Fault;
 use exec_options::Options;
@@ -45,11 +46,16 @@ pub fn status_to<D: Disk + Drop, W: Write>(
     let rt = system.host();
     let look = look_of(rt, options);
     let (disk, found) = reasons_for(system, options, disk, &look);
-    let Ok(reasons) = as_reasons(rt.alloc(), found.as_slice()) else {
+    let (disk, waits) = waits_in(rt, options.journal, disk);
+    let (Ok(reasons), Ok(waits)) = (
+        as_reasons(rt.alloc(), found.as_slice()),
+        as_remarks(rt.alloc(), waits.as_slice()),
+    ) else {
         return (disk, Err(Fault::ReplyMemory));
     };
     let look = StatusOptions {
         reasons: reasons.as_slice(),
+        waits: waits.as_slice(),
         ..look
     };
     if options.json {

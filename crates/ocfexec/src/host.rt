@@ -6,8 +6,9 @@ use crate::errors::Errors;
 use crate::guarded::Guarded;
 use crate::log::log_of;
 use crate::metadata::SiteMetadata;
+use crate::moment::record_moment;
 use crate::once::once;
-use child_keeper::{Log, Processes, System};
+use child_keeper::{self, Log, Processes};
 use clap::Error;
 use diagnostics::{
     FirstError, Noted, children_ignored, is_journal, report_ignored, report_run, report_shown,
@@ -16,13 +17,12 @@ use exec_commands::Left;
 use exec_faults::Fault;
 use exec_lines::{Patient, moment_now, write_flushed};
 use exec_options::{OnceOptions, Options};
-use exec_orphans::{Orphans, await_orphans, leave_word};
-use exec_program::{Host, Wait};
-use exec_state::State;
+use exec_program::{Host, Upkeep};
 use file_disk::{FileDisk, FileError, JournalPaths, RamDisk};
 use growth::Grows;
 use journal_directory::{found, not_emptied, open_files, report_device, show_files, show_on};
 use ocf_env::Site;
+use process_ends::System;
 use std::alloc::{AllocError, Global};
 use std::io::{self, BufReader, Eprint, StdinLock};
 use std::rt::Stdout;
@@ -84,14 +84,12 @@ impl<'a> Host for SystemHost<'a> {
       no_files = λ directory any fault. ⊤;
       log = λ file directory log. ⊤;
       no_log = λ file directory. ⊤;
-      agents = λ log agents. ⊤;
-      source = λ site source. ⊤;
+      agents = λ upkeep log left agents. ⊤;
+      source = λ site groups source. ⊤;
       reader = λ reader. ⊤;
       writer = λ served writer. ⊤;
       moment = λ now. ⊤;
       ignored = λ is. ⊤;
-      orphans = λ directory limit leave site state left. ⊤;
-      word = λ directory. ⊤;
       watch = λ served watch. ⊤;
       moved = λ watch. ⊤;
       line = λ bytes. ⊤;
@@ -120,15 +118,27 @@ impl<'a> Host for SystemHost<'a> {
         log_of(self.system, log, logs)
     }
 
-    // TRUSTED: the agents write to this log.
+    // TRUSTED: the agents are looked after like this and write to this log, and these processes live on.
     #[tactic(auto, using(crate::proofs::HostLemmas::if_ok_any))]
-    fn agents(&self, log: Log, book: usize) -> Result<Processes<&'a System<'a>>, AllocError> {
-        Processes::new(self.system, self.alloc(), log, book)
+    fn agents(
+        &self,
+        upkeep: Upkeep<'_>,
+        log: Log,
+        book: usize,
+    ) -> Result<(Processes<&'a System<'a>>, Vec<Left>), AllocError> {
+        self.system.start_killer();
+        let upkeep = child_keeper::Upkeep {
+            directory: upkeep.directory,
+            limit: upkeep.limit,
+            leave: upkeep.leave,
+            groups: upkeep.groups,
+        };
+        Processes::new(self.system, self.alloc(), log, book, upkeep)
     }
 
     // TRUSTED: the agents that are asked are those of this site.
-    fn source(&self, site: Site) -> SiteMetadata<'a> {
-        SiteMetadata::new(self.system, site)
+    fn source(&self, site: Site, groups: bool) -> SiteMetadata<'a> {
+        SiteMetadata::new(self.system, site, groups)
     }
 
     fn give_up(&self, source: SiteMetadata<'a>) {
@@ -182,19 +192,10 @@ impl<'a> Host for SystemHost<'a> {
         report_ignored(self.system);
     }
 
-    // TRUSTED: what is left is waited for so, and ended or left.
-    fn await_orphans(&self, wait: Wait<'_>, site: &Site, state: &State) -> Option<Vec<Left>> {
-        let how = Orphans {
-            directory: wait.directory,
-            limit: wait.limit,
-            leave: wait.leave,
-        };
-        await_orphans(self.system, how, site, state)
-    }
-
-    // TRUSTED: the record is in this directory.
-    fn leave_word(&self, directory: &str, moment: u64) {
-        leave_word(self.system, directory, moment);
+    // TRUSTED: it is recorded in this directory.
+    fn record_moment(&self, directory: &str, moment: u64) {
+        // that the record cannot be written was reported when the agents were made
+        let _ = record_moment(self.system.host(), directory, moment);
     }
 
     // TRUSTED: the paths are those of this directory.
@@ -246,10 +247,6 @@ impl<'a> Host for SystemHost<'a> {
             &FirstError::of(error),
             Err(Fault::InputOrOutput),
         );
-    }
-
-    fn report_unheard(&self) {
-        report_shown(self.system, &FirstError::none(), Err(Fault::InputOrOutput));
     }
 
     fn report_device(&self, options: Options, met: Option<FileError>) {

@@ -1,10 +1,11 @@
 //! The destination of agents' output, by the options.
 ghost use Rattle.std.specs.Prelude.{◌≡◌, ◌||◌, true, IfErr, is_some};
 
-use child_keeper::{Log, LogDirectory, System};
+use child_keeper::{Log, LogDirectory};
 use diagnostics::report_cause;
 use exec_faults::Fault;
 use file_disk::OWNER_ONLY;
+use process_ends::System;
 use std::fs::{self, OpenOptions};
 use std::io::{self, ErrorKind};
 use std::os::unix::fs::{FileTypeExt, OpenOptionsExt};
@@ -30,7 +31,7 @@ fn logs_in(rt: &HostRuntime, name: &str) -> io::Result<Log> {
 // The log of this name: a file, which is appended to and created if it does not exist, or standard error for `-`.
 fn opened(rt: &HostRuntime, name: &str) -> io::Result<Log> {
     if name == "-" {
-        return Log::to_errors(rt.alloc(), &rt.stderr());
+        return Log::to_errors(*rt);
     }
     if is_named_pipe(rt, name) {
         return Err(io::Error::new(ErrorKind::InvalidInput, NO_FILE));

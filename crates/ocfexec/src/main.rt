@@ -11,14 +11,16 @@ mod guarded;
 mod host;
 mod log;
 mod metadata;
+mod moment;
 mod once;
+mod quiet;
 
 use arguments::{arguments_of, named_journal};
-use child_keeper::System;
 use diagnostics::{FirstError, report, report_cause};
 use exec_faults::Fault;
 use exec_program::program;
 use host::SystemHost;
+use process_ends::System;
 use std::process::ExitCode;
 
 fn main(rt: HostRuntime) -> ExitCode {

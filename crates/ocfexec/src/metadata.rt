@@ -2,10 +2,12 @@
 ghost use Rattle.std.specs.Prelude.{◌≤◌, length, IfOk};
 ghost use Rattle.ocf_types.specs.Limits.{metadata_limit};
 
-use child_keeper::{MetaChild, MetaPoll, System, run_meta};
+use crate::quiet::Quiet;
+use child_keeper::{MetaCall, MetaChild, MetaPoll, run_meta};
 use exec_session::Metadata;
 use ocf_env::Site;
 use ocf_types::{AgentType, MetaFault, Provider};
+use process_ends::{Leading, System, leading_of};
 use std::alloc::Global;
 use std::cell::Cell;
 use std::process::SystemProcess;
@@ -38,6 +40,8 @@ impl Asked {
 pub struct SiteMetadata<'a> {
     system: &'a System<'a>,
     site: Site,
+    // Whether each agent runs in a process group of its own.
+    groups: bool,
     asked: Cell<Option<Asked>>,
 }
 
@@ -50,11 +54,23 @@ fn end(system: &System<'_>, asked: Option<Asked>) {
 
 impl<'a> SiteMetadata<'a> {
     /// No agent is asked yet.
-    pub fn new(system: &'a System<'a>, site: Site) -> SiteMetadata<'a> {
+    pub fn new(system: &'a System<'a>, site: Site, groups: bool) -> SiteMetadata<'a> {
         SiteMetadata {
             system,
             site,
+            groups,
             asked: Cell::new(None),
+        }
+    }
+
+    // How agents are spawned.
+    fn leading(&self, alloc: Global) -> Result<Leading, MetaFault> {
+        let quiet = Quiet {
+            system: self.system,
+        };
+        match leading_of(&quiet, alloc, self.groups) {
+            Ok(leading) => Ok(leading),
+            Err(_) => Err(MetaFault::Memory),
         }
     }
 
@@ -70,7 +86,14 @@ impl<'a> SiteMetadata<'a> {
             Some(asked) if asked.is(provider, agent) => return Ok(asked.into_child()),
             other => end(self.system, other),
         }
-        MetaChild::start(self.system, alloc, &self.site, provider, agent, limit)
+        let leading = self.leading(alloc)?;
+        let call = MetaCall {
+            site: &self.site,
+            provider,
+            agent,
+            leading: &leading,
+        };
+        MetaChild::start(self.system, alloc, &call, limit)
     }
 
     // Keeps an agent that has not answered. If another one is being asked, it is ended.
@@ -83,6 +106,7 @@ impl<'a> SiteMetadata<'a> {
         let SiteMetadata {
             system,
             site: _,
+            groups: _,
             asked,
         } = self;
         end(system, asked.into_inner());
@@ -99,7 +123,14 @@ impl Metadata for SiteMetadata<'_> {
         agent: &AgentType,
         limit: Option<u32>,
     ) -> Result<Vec<u8>, MetaFault> {
-        run_meta(self.system, alloc, &self.site, provider, agent, limit)
+        let leading = self.leading(alloc)?;
+        let call = MetaCall {
+            site: &self.site,
+            provider,
+            agent,
+            leading: &leading,
+        };
+        run_meta(self.system, alloc, &call, limit)
     }
 
     fn poll_metadata(

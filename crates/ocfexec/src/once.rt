@@ -1,10 +1,13 @@
 //! An action that is run once.
-use child_keeper::System;
 use diagnostics::{children_ignored, report_ignored};
-use exec_once::{OnceCall, OnceEnd, OnceFault, read_agent, read_parameters, read_what, run_once};
+use exec_once::{
+    OnceCall, OnceEnd, OnceFault, OnceSite, read_agent, read_parameters, read_what, run_once,
+};
 use exec_options::OnceOptions;
 use exec_program::site_of_once;
+use ocf_env::Site;
 use ocf_types::RscId;
+use process_ends::{System, leading_of};
 use std::alloc::Global;
 use std::io::Eprint;
 
@@ -41,6 +44,20 @@ fn not_run(system: &System<'_>, why: &str) -> u8 {
     OnceEnd::NotStarted.status()
 }
 
+// Calls the agent of this site, and returns the exit status that reports its end.
+fn called(system: &System<'_>, site: &Site, call: &OnceCall, options: &OnceOptions<'_>) -> u8 {
+    let alloc = system.host().alloc();
+    let Ok(leading) = leading_of(system, alloc, !options.no_groups) else {
+        return not_run(system, "no memory");
+    };
+    let at = OnceSite {
+        site,
+        leading: &leading,
+    };
+    system.start_killer();
+    run_once(system, alloc, &at, call, options.timeout).status()
+}
+
 /// Runs an action once, and returns the exit status that reports its end.
 pub fn once(system: &System<'_>, options: &OnceOptions<'_>) -> u8 {
     let rt = system.host();
@@ -57,7 +74,7 @@ pub fn once(system: &System<'_>, options: &OnceOptions<'_>) -> u8 {
         Err(why) => return not_run(system, why),
     };
     match site_of_once(alloc, options) {
-        Ok(site) => run_once(system, alloc, &site, &call, options.timeout).status(),
+        Ok(site) => called(system, &site, &call, options),
         Err(_) => not_run(system, "no memory"),
     }
 }

@@ -15,7 +15,7 @@ abbrev text : List ℕ
 text = codes "31 (a) S 1 (b) 2) Z 7 30 29 0 -1 4194560 95 0 0 0 1 0 0 0 20 0 1 0 8723 2928640 227\n"
 
 abbrev zombie : Process
-zombie = record { pid = 31; parent = 7; session = 29; start = 8723; has_ended = true }
+zombie = record { pid = 31; parent = 7; group = 30; start = 8723; has_ended = true }
 
 -- whether a text lacks a byte, computed
 abbrev lacks : ℕ → List ℕ → Bool
@@ -92,9 +92,9 @@ described = (
       found 1 (codes "7") refl refl refl,
       record { numeral = (lit< tt, (lit< tt, tt)); value = refl; fits = lit< tt },
     );
-    session = (
-      codes "29",
-      found 3 (codes "29") refl refl refl,
+    group = (
+      codes "30",
+      found 2 (codes "30") refl refl refl,
       record { numeral = (lit< tt, (lit< tt, (lit< tt, tt))); value = refl; fits = lit< tt },
     );
     start = (

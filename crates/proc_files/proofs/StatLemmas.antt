@@ -209,8 +209,8 @@ same_state text x y a b =
 
 -- a process by its parts
 abbrev process : ℕ → ℕ → ℕ → ℕ → Bool → Process
-process pid parent session start has_ended =
-    record { pid = pid; parent = parent; session = session; start = start; has_ended = has_ended }
+process pid parent group start has_ended =
+    record { pid = pid; parent = parent; group = group; start = start; has_ended = has_ended }
 
 -- a text describes at most one process
 pub same_process : (text : List ℕ) (p q : Process) → IsStat text p → IsStat text q → p ≡ q
@@ -218,10 +218,10 @@ same_process text p q (number, fields, named, a) is =
     let b = moved text number fields q named is in
     let pid : p.pid ≡ q.pid = sym a.pid.value ∙ b.pid.value in
     let parent = same_number 32 fields 4 p.parent q.parent a.parent b.parent in
-    let session = same_number 32 fields 6 p.session q.session a.session b.session in
+    let group = same_number 32 fields 5 p.group q.group a.group b.group in
     let start = same_number 64 fields 22 p.start q.start a.start b.start in
     let ended = same_state fields p.has_ended q.has_ended a.state b.state in
-    let same : process p.pid p.parent p.session p.start p.has_ended ≡ process q.pid q.parent q.session q.start q.has_ended = cc in
+    let same : process p.pid p.parent p.group p.start p.has_ended ≡ process q.pid q.parent q.group q.start q.has_ended = cc in
     same
 
 -- decimal digits are ASCII

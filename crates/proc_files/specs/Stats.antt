@@ -57,13 +57,13 @@ pub record HasState (text : List ℕ) (has_ended : Bool) : Type 0 where
   pub count : HasNumber 32 text 20 threads
   pub is : IsState state threads has_ended
 
--- a process has this number and these fields: 4 is the number of its parent, 6 that of its session, and 22 the time at which it
--- started
+-- a process has this number and these fields: 4 is the number of its parent, 5 that of its process group, and 22 the time at which
+-- it started
 pub record IsProcess (number fields : List ℕ) (p : Process) : Type 0 where
   pub pid : Writes 32 number p.pid
   pub state : HasState fields p.has_ended
   pub parent : HasNumber 32 fields 4 p.parent
-  pub session : HasNumber 32 fields 6 p.session
+  pub group : HasNumber 32 fields 5 p.group
   pub start : HasNumber 64 fields 22 p.start
 
 -- a text describes this process

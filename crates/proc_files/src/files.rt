@@ -10,27 +10,6 @@ use std::io::{self, ErrorKind};
 // How many bytes of a `stat` are read: a name has at most 64 bytes, and some 50 fields have at most 20 each.
 const STAT_LIMIT: usize = 4_096;
 
-/// A file that `/proc` has for each process. Linux, proc(5).
-#[derive(Clone, Copy)]
-pub enum PidFile {
-    /// The arguments that it was started with, each followed by a NUL.
-    CommandLine,
-    /// The environment that it was started with, each variable followed by a NUL.
-    Environment,
-    /// The name of its command, followed by a newline.
-    Name,
-}
-
-impl PidFile {
-    fn file_name(self) -> &'static str {
-        match self {
-            PidFile::CommandLine => "cmdline",
-            PidFile::Environment => "environ",
-            PidFile::Name => "comm",
-        }
-    }
-}
-
 /// The processes of a system and their files. Linux, proc(5).
 pub trait ProcFiles {
     /// This process.
@@ -42,9 +21,9 @@ pub trait ProcFiles {
     /// All processes that can be seen. It fails where none is listed.
     fn processes<A: Allocator + Copy>(&self, alloc: A) -> io::Result<Vec<Process, A>>;
 
-    /// Reads the first bytes of a file of a process into the buffer, as many as fit, and returns their number: 0 where the file
-    /// cannot be read.
-    fn read_of(&self, pid: u32, file: PidFile, room: &mut [u8]) -> usize
+    /// Reads the name of a process's command into the buffer, as much as fits, with a newline, and returns how many bytes it read: 0
+    /// where the name cannot be read.
+    fn name_of(&self, pid: u32, room: &mut [u8]) -> usize
         ensures room { length room.new ≡ length room.old }
         ensures within { result ≤ length room.old };
 }
@@ -84,9 +63,8 @@ impl ProcFiles for HostRuntime {
         Ok(found)
     }
 
-    fn read_of(&self, pid: u32, file: PidFile, room: &mut [u8]) -> usize {
-        let name = file.file_name();
-        let Ok(path) = format!(in self.alloc(); "/proc/{pid}/{name}") else {
+    fn name_of(&self, pid: u32, room: &mut [u8]) -> usize {
+        let Ok(path) = format!(in self.alloc(); "/proc/{pid}/comm") else {
             return 0;
         };
         read_head(self, path.as_str(), room).unwrap_or(0)
@@ -106,7 +84,7 @@ impl<R: ProcFiles> ProcFiles for &R {
         (**self).processes(alloc)
     }
 
-    fn read_of(&self, pid: u32, file: PidFile, room: &mut [u8]) -> usize {
-        (**self).read_of(pid, file, room)
+    fn name_of(&self, pid: u32, room: &mut [u8]) -> usize {
+        (**self).name_of(pid, room)
     }
 }

@@ -1,20 +1,16 @@
-//! The processes of the system, as the files of `/proc` describe them, and which of them belong to an action. Linux, proc(5).
+//! The processes of the system, as the files of `/proc` describe them, and those that belong to actions. Linux, proc(5).
 #![tactic(auto)]
 
-mod descendants;
+mod belongings;
 mod files;
-mod job;
-mod orphan;
 mod pieces;
 mod process;
 mod read;
 mod signal;
 mod stat;
 
-pub use descendants::with_descendants;
-pub use files::{PidFile, ProcFiles};
-pub use job::{ActionMark, is_job};
-pub use orphan::{calls, is_orphan};
+pub use belongings::belonging;
+pub use files::ProcFiles;
 pub use process::{Process, has};
 pub use read::{pids, read_head};
 pub use signal::is_ignored;

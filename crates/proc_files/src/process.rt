@@ -9,8 +9,8 @@ pub struct Process {
     pub pid: u32,
     /// The number of its parent or, if that has ended, of the process that reaps orphans.
     pub parent: u32,
-    /// The number of its session. POSIX, getsid.
-    pub session: u32,
+    /// The number of its process group. POSIX, getpgid.
+    pub group: u32,
     /// When it started, in clock ticks after the system's boot (field 22).
     pub start: u64,
     /// Whether it has ended with all its threads: it waits to be reaped (state Z) or is dead (X, x), and no other thread is left. The

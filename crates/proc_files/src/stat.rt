@@ -92,13 +92,13 @@ fn process_of(number: &[u8], fields: &[u8]) -> Option<Process>
 {
     let state = field(fields, 3)?;
     let parent = field(fields, 4)?;
-    let session = field(fields, 6)?;
+    let group = field(fields, 5)?;
     let threads = field(fields, 20)?;
     let start = field(fields, 22)?;
     Some(Process {
         pid: id_of(number)?,
         parent: id_of(parent)?,
-        session: id_of(session)?,
+        group: id_of(group)?,
         start: number_of(start)?,
         has_ended: has_ended(state, id_of(threads)?)?,
     })

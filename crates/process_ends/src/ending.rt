@@ -1,53 +1,15 @@
-//! Ends processes with all that they started.
-use crate::descent::ChildSought;
+//! Ends actions with all that belongs to them.
+use crate::belongings::Belongings;
 use crate::patience::{Pauses, outlives};
 use crate::report::{report_all, report_unstopped};
-use crate::search::{Sought, found_now};
-use crate::signal::{Signal, send_signal};
-use proc_files::{ProcFiles, Process, has};
-use std::alloc::{AllocError, Allocator};
+use crate::search::suspend_all;
+use crate::signals::{Signal, Signals, Target};
+use crate::volley::Volley;
+use proc_files::{ProcFiles, Process};
+use std::alloc::Allocator;
 use std::io::{self, Eprint};
-use std::process::{Child, OpenProcess, Processes};
+use std::process::{Child, OpenProcess};
 use std::rt::Clock;
-
-// How many rounds there are at most. Each scans the processes and suspends (SIGSTOP) those that were not found before, so that they
-// cannot start others unseen. Two rounds are enough if nothing is started meanwhile.
-const ROUNDS: usize = 8;
-
-// Suspends these processes, except those that are suspended already, and returns whether there were any.
-fn stop_more<R: Processes + Clock, A: Allocator + Copy>(
-    rt: &R,
-    alloc: A,
-    found: &[Process],
-    stopped: &mut Vec<Process, A>,
-) -> io::Result<bool> {
-    let mut more = Vec::new(alloc);
-    for process in found {
-        if !has(stopped.as_slice(), process) {
-            more.push(*process).map_err(AllocError::from)?;
-        }
-    }
-    // what could not be suspended is to be killed all the same
-    stopped.extend_from_slice(more.as_slice())?;
-    send_signal(rt, alloc, Signal::Stop, more.as_slice())?;
-    Ok(!more.is_empty())
-}
-
-// Suspends the sought processes and all their descendants, and adds them to `stopped`: on an error those found so far.
-fn stop_all<R: Processes + Clock + ProcFiles, S: Sought, A: Allocator + Copy>(
-    rt: &R,
-    alloc: A,
-    sought: &mut S,
-    stopped: &mut Vec<Process, A>,
-) -> io::Result<()> {
-    for _ in 0..ROUNDS {
-        let found = found_now(rt, alloc, sought, stopped.as_slice())?;
-        if !stop_more(rt, alloc, found.as_slice(), stopped)? {
-            break;
-        }
-    }
-    Ok(())
-}
 
 /// Whether a process still exists, with the same number and start, and has not ended. `true` where `/proc` cannot be read.
 pub fn still_lives<R: ProcFiles>(rt: &R, process: &Process) -> bool {
@@ -58,58 +20,142 @@ pub fn still_lives<R: ProcFiles>(rt: &R, process: &Process) -> bool {
     }
 }
 
-/// Suspends the sought processes and all their descendants, as far as they can be found, and returns them. An error that ended
-/// the search is reported on standard error.
-pub fn stopped<R: Processes + Clock + Eprint + ProcFiles, S: Sought, A: Allocator + Copy>(
+// Forgets a group whose number is another process's now, and that of this process, in which members are ended one by one.
+fn check_groups<R: ProcFiles, A: Allocator + Copy>(rt: &R, actions: &mut [Belongings<A>]) {
+    let own = match rt.own() {
+        Ok(own) => Some(own.group),
+        Err(_) => None,
+    };
+    for action in actions {
+        let _ = action.look(rt);
+        if action.group == own {
+            action.group = None;
+        }
+    }
+}
+
+// Suspends the groups of these actions.
+fn suspend_groups<R: Signals, A: Allocator + Copy>(rt: &R, actions: &mut [Belongings<A>]) {
+    let mut volley = Volley::of(rt, Signal::Stop);
+    for action in actions.iter() {
+        if let Some(group) = action.group {
+            volley.add(Target::Group(group));
+        }
+    }
+    let are_suspended = volley.end().is_ok();
+    for action in actions {
+        action.is_suspended = are_suspended;
+    }
+}
+
+// Adds the group of an action to those that are killed, and the processes that were found outside of it.
+fn kill_more<R: ProcFiles + Signals, A: Allocator + Copy>(
+    rt: &R,
+    action: &Belongings<A>,
+    volley: &mut Volley<'_, R>,
+) {
+    if let Some(group) = action.group {
+        volley.add(Target::Group(group));
+    }
+    for process in action.known.iter() {
+        // a number may have been given again
+        if action.group != Some(process.group) && still_lives(rt, process) {
+            volley.add(Target::Process(process.pid));
+        }
+    }
+}
+
+// Kills the groups of these actions and the processes that were found.
+fn kill_all<R: ProcFiles + Signals, A: Allocator + Copy>(
+    rt: &R,
+    actions: &[Belongings<A>],
+) -> io::Result<()> {
+    let mut volley = Volley::of(rt, Signal::Kill);
+    for action in actions {
+        kill_more(rt, action, &mut volley);
+    }
+    volley.end()
+}
+
+/// Kills all processes that belong to these actions, and has each action know those that it found. First their groups are suspended
+/// (SIGSTOP), then what a search finds, until it finds no more, so that none starts others unseen; then all get SIGKILL. It does not
+/// wait for their end.
+///
+/// Groups get both signals also where no memory is left for the search or `/proc` cannot be read. An error that ended the search is
+/// reported on standard error.
+pub fn kill_actions<R: Eprint + ProcFiles + Signals, A: Allocator + Copy>(
     rt: &R,
     alloc: A,
-    sought: &mut S,
-) -> Vec<Process, A> {
-    let mut stopped = Vec::new(alloc);
-    if let Err(error) = stop_all(rt, alloc, sought, &mut stopped) {
-        report_unstopped(rt, &error);
+    actions: &mut [Belongings<A>],
+) -> io::Result<()> {
+    check_groups(rt, actions);
+    suspend_groups(rt, actions);
+    let found = suspend_all(rt, alloc, actions);
+    if let Err(error) = &found {
+        report_unstopped(rt, error);
     }
-    // a process number may have been reused
-    stopped.retain(|process| still_lives(rt, process));
-    stopped
+    kill_all(rt, actions)?;
+    for action in actions {
+        action.is_complete = action.is_suspended && matches!(found, Ok(true));
+    }
+    Ok(())
 }
 
-// Waits for killed processes, up to a tenth of a second, and removes each that has ended.
-fn await_gone<R: Clock + ProcFiles, A: Allocator>(rt: &R, processes: &mut Vec<Process, A>) {
+// Forgets the known processes that have ended, and returns whether any is left.
+fn are_left<R: ProcFiles, A: Allocator + Copy>(rt: &R, actions: &mut [Belongings<A>]) -> bool {
+    let mut are_left = false;
+    for action in actions {
+        action.known.retain(|process| still_lives(rt, process));
+        are_left |= !action.known.is_empty();
+    }
+    are_left
+}
+
+/// Waits for killed processes, a tenth of a second at most. Each action then knows those that live on.
+pub fn await_actions<R: Clock + ProcFiles, A: Allocator + Copy>(
+    rt: &R,
+    actions: &mut [Belongings<A>],
+) {
     let mut pauses = Pauses::after_kill();
-    processes.retain(|process| still_lives(rt, process));
-    while !processes.is_empty() && pauses.pause(rt) {
-        processes.retain(|process| still_lives(rt, process));
+    while are_left(rt, actions) {
+        if !pauses.pause(rt) {
+            return;
+        }
     }
 }
 
-/// Ends a child of this process with all its descendants, waits for that two tenths of a second at most, and returns whether the
+// Reports the processes of an action that live on, except its agent.
+fn report_others<R: Eprint + ProcFiles, A: Allocator>(rt: &R, action: &Belongings<A>, agent: u32) {
+    for process in action.known.iter() {
+        if process.pid != agent {
+            report_all(rt, &[*process]);
+        }
+    }
+}
+
+/// Ends a child of this process with all that belongs to it, waits for that two tenths of a second at most, and returns whether the
 /// child lives on. Others that do are named on standard error.
-pub fn end_child<R: Processes + Clock + Eprint + ProcFiles, P: OpenProcess, A: Allocator + Copy>(
+pub fn end_child<R: Clock + Eprint + ProcFiles + Signals, P: OpenProcess, A: Allocator + Copy>(
     rt: &R,
     alloc: A,
     child: &mut Child<P>,
 ) -> bool {
     let pid = child.id();
-    let mut found = stopped(rt, alloc, &mut ChildSought { rt, pid });
-    let _ = send_signal(rt, alloc, Signal::Kill, found.as_slice());
+    let mut actions = Vec::new(alloc);
+    if actions.push(Belongings::of_child(alloc, pid)).is_err() {
+        // without memory its group is killed at least
+        let _ = rt.send(Signal::Kill, &[Target::Group(pid)]);
+    }
+    let sent = kill_actions(rt, alloc, actions.as_mut_slice());
     let _ = child.kill();
+    if sent.is_err() {
+        // the shell that sends signals may be spawned now that the child was killed
+        let _ = kill_all(rt, actions.as_slice());
+    }
     let outlives = outlives(rt, child, Pauses::after_kill());
-    found.retain(|process| process.pid != pid);
-    await_gone(rt, &mut found);
-    report_all(rt, found.as_slice());
+    await_actions(rt, actions.as_mut_slice());
+    for action in actions {
+        report_others(rt, &action, pid);
+    }
     outlives
-}
-
-/// Ends processes that are not children of this executor, with all that they started, and waits for that a tenth of a second at
-/// most. Processes that live on are named on standard error.
-pub fn end_processes<R: Processes + Clock + Eprint + ProcFiles, S: Sought, A: Allocator + Copy>(
-    rt: &R,
-    alloc: A,
-    sought: &mut S,
-) {
-    let mut left = stopped(rt, alloc, sought);
-    let _ = send_signal(rt, alloc, Signal::Kill, left.as_slice());
-    await_gone(rt, &mut left);
-    report_all(rt, left.as_slice());
 }

@@ -1,7 +1,6 @@
 //! Standard error that never blocks.
 use crate::line::BoundedLine;
-use libc::net::{POLLOUT, poll};
-use libc::types::pollfd;
+use crate::ready::is_writable;
 use std::cell::Cell;
 use std::fmt::Display;
 use std::io::{self, Eprint, ErrorKind, Print, Stderr, Write};
@@ -14,16 +13,6 @@ pub struct ErrorLines {
     stderr: Stderr,
     // How many lines were left out since the last one that was written.
     left_out: Cell<u64>,
-}
-
-// Whether a write to a descriptor would not block now. POSIX, poll.
-fn is_writable(descriptor: i32) -> bool {
-    let mut asked = [pollfd {
-        fd: descriptor,
-        events: POLLOUT,
-        revents: 0,
-    }];
-    poll(&mut asked, 0) > 0 && asked[0].revents & POLLOUT != 0
 }
 
 impl ErrorLines {

@@ -2,21 +2,27 @@
 //! those that live on are named.
 #![tactic(auto)]
 
-mod descent;
+mod belongings;
 mod ending;
 mod errors;
+mod killer;
+mod leading;
 mod line;
 mod patience;
+mod programs;
+mod ready;
 mod report;
 mod search;
-mod signal;
+mod signals;
 mod system;
+mod volley;
 
-pub use descent::ChildSought;
-pub use ending::{end_child, end_processes, still_lives, stopped};
+pub use belongings::Belongings;
+pub use ending::{await_actions, end_child, kill_actions, still_lives};
 pub use errors::ErrorLines;
+pub use leading::{Leading, leading_of};
 pub use patience::{Deadline, Pauses, outlives, still_runs};
-pub use report::{report_alive, report_all, report_unstopped};
-pub use search::{Environments, Sought, with_ancestors};
-pub use signal::{Signal, send_signal};
+pub use programs::Programs;
+pub use report::{report_alive, report_all};
+pub use signals::{Signal, Signals, Target};
 pub use system::System;

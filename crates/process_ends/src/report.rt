@@ -1,5 +1,5 @@
 //! Reports on standard error about processes that were to be ended.
-use proc_files::{PidFile, ProcFiles, Process};
+use proc_files::{ProcFiles, Process};
 use std::fmt::Display;
 use std::io::{self, Eprint};
 use std::process::{Child, OpenProcess};
@@ -10,7 +10,7 @@ const NAME_LIMIT: usize = 256;
 
 // The name of a process's command, empty where it cannot be read.
 fn name_of<'a, R: ProcFiles>(rt: &R, pid: u32, room: &'a mut [u8]) -> &'a str {
-    let length = rt.read_of(pid, PidFile::Name, room);
+    let length = rt.name_of(pid, room);
     str::from_utf8(&room[..length])
         .unwrap_or_default()
         .trim_end()

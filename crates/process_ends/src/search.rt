@@ -1,39 +1,17 @@
 //! The search for the processes that are to be ended.
-use proc_files::{ActionMark, PidFile, ProcFiles, Process, has, is_job, with_descendants};
+use crate::belongings::Belongings;
+use crate::signals::{Signal, Signals, Target};
+use crate::volley::Volley;
+use proc_files::{ProcFiles, Process, has};
 use std::alloc::{AllocError, Allocator};
 use std::io;
 
-// How many bytes are read of an environment: an agent's has at most 64 parameters of at most 1,024 bytes, and some more.
-const ENVIRON_LIMIT: usize = 131_072;
+// How many rounds there are at most. Each scans the processes and suspends (SIGSTOP) those that were not found before, so that they
+// cannot start others unseen. Two rounds are enough if nothing is started meanwhile, and one if nothing has left its action's group.
+const ROUNDS: usize = 8;
 
-/// Selects processes from a table. Their descendants are found without it.
-pub trait Sought {
-    /// The sought processes in a table of processes. It fails only where memory is refused.
-    fn among<A: Allocator + Copy>(
-        &mut self,
-        alloc: A,
-        table: &[Process],
-    ) -> Result<Vec<Process, A>, AllocError>;
-}
-
-// The sought processes in a table, and those that were found before and are still in it.
-fn roots<S: Sought, A: Allocator + Copy>(
-    alloc: A,
-    sought: &mut S,
-    table: &[Process],
-    known: &[Process],
-) -> Result<Vec<Process, A>, AllocError> {
-    let mut roots = sought.among(alloc, table)?;
-    for process in table {
-        if has(known, process) {
-            roots.push(*process)?;
-        }
-    }
-    Ok(roots)
-}
-
-/// A process and its ancestors in the table. It fails only where memory is refused.
-pub fn with_ancestors<A: Allocator + Copy>(
+// A process and its ancestors in the table. It fails only where memory is refused.
+fn with_ancestors<A: Allocator + Copy>(
     alloc: A,
     table: &[Process],
     process: Process,
@@ -50,54 +28,57 @@ pub fn with_ancestors<A: Allocator + Copy>(
     Ok(line)
 }
 
-/// The sought processes and those that were found before, as far as `/proc` shows them now, with all their descendants. This
-/// process and its ancestors are never among them.
-pub fn found_now<R: ProcFiles, S: Sought, A: Allocator + Copy>(
+// All processes but this one and its ancestors, which are not searched for.
+fn others<R: ProcFiles, A: Allocator + Copy>(rt: &R, alloc: A) -> io::Result<Vec<Process, A>> {
+    let mut table = rt.processes(alloc)?;
+    let line = with_ancestors(alloc, table.as_slice(), rt.own()?)?;
+    table.retain(|process| !has(line.as_slice(), process));
+    Ok(table)
+}
+
+// Has an action know the processes of a table that belong to it, and adds those that may still run to the volley. Returns whether there
+// were any.
+fn find_more<R: Signals, A: Allocator + Copy>(
+    alloc: A,
+    table: &[Process],
+    action: &mut Belongings<A>,
+    volley: &mut Volley<'_, R>,
+) -> Result<bool, AllocError> {
+    let new = action.find(alloc, table)?;
+    for process in new.iter() {
+        volley.add(Target::Process(process.pid));
+    }
+    Ok(!new.is_empty())
+}
+
+// The same for each of these actions; what was added is suspended.
+fn suspend_more<R: Signals, A: Allocator + Copy>(
     rt: &R,
     alloc: A,
-    sought: &mut S,
-    known: &[Process],
-) -> io::Result<Vec<Process, A>> {
-    let table = rt.processes(alloc)?;
-    let line = with_ancestors(alloc, table.as_slice(), rt.own()?)?;
-    let mut roots = roots(alloc, sought, table.as_slice(), known)?;
-    roots.retain(|root| !has(line.as_slice(), root));
-    Ok(with_descendants(alloc, table.as_slice(), roots.as_slice())?)
-}
-
-/// Buffers for the environments of a process and of its parent.
-#[derive(Drop)]
-pub struct Environments<A: Allocator> {
-    own: Vec<u8, A>,
-    parent: Vec<u8, A>,
-}
-
-impl<A: Allocator + Copy> Environments<A> {
-    /// It fails only where memory is refused.
-    pub fn new(alloc: A) -> Result<Environments<A>, AllocError> {
-        Ok(Environments {
-            own: vec![in alloc; 0; ENVIRON_LIMIT]?,
-            parent: vec![in alloc; 0; ENVIRON_LIMIT]?,
-        })
+    table: &[Process],
+    actions: &mut [Belongings<A>],
+) -> io::Result<bool> {
+    let mut volley = Volley::of(rt, Signal::Stop);
+    let mut are_more = false;
+    for action in actions {
+        are_more |= find_more(alloc, table, action, &mut volley)?;
     }
+    volley.end()?;
+    Ok(are_more)
+}
 
-    /// Whether a process is a background job of one of these actions. Its environment is read only if its session and its start do
-    /// not rule that out.
-    pub fn is_job_of_any<R: ProcFiles>(
-        &mut self,
-        rt: &R,
-        process: &Process,
-        actions: &[ActionMark<'_>],
-    ) -> bool {
-        if !actions.iter().any(|action| action.may_have(process)) {
-            return false;
+/// Suspends all processes that belong to these actions, and has the actions know them: on an error those found so far. Returns whether
+/// a last round found no more.
+pub fn suspend_all<R: ProcFiles + Signals, A: Allocator + Copy>(
+    rt: &R,
+    alloc: A,
+    actions: &mut [Belongings<A>],
+) -> io::Result<bool> {
+    for _ in 0..ROUNDS {
+        let table = others(rt, alloc)?;
+        if !suspend_more(rt, alloc, table.as_slice(), actions)? {
+            return Ok(true);
         }
-        let length = rt.read_of(process.pid, PidFile::Environment, &mut self.own);
-        let own = &self.own[..length];
-        let length = rt.read_of(process.parent, PidFile::Environment, &mut self.parent);
-        let parent = &self.parent[..length];
-        actions
-            .iter()
-            .any(|action| is_job(process, own, parent, action))
     }
+    Ok(false)
 }

@@ -1,18 +1,26 @@
 //! The system calls that an executor uses.
 use crate::errors::ErrorLines;
-use proc_files::{PidFile, ProcFiles, Process};
+use crate::killer::{Killer, TARGETS, line_of};
+use crate::line::BoundedLine;
+use crate::programs::Programs;
+use crate::signals::{Signal, Signals, Target};
+use proc_files::{ProcFiles, Process};
 use std::alloc::Allocator;
+use std::cell::Cell;
 use std::fmt::Display;
 use std::io::{self, Eprint};
 use std::process::{Child, Command, Processes, Stdio, SystemProcess};
 use std::rt::Clock;
 use std::time::Duration;
 
-/// The system as an executor uses it: its processes, its clocks, the files of `/proc`, and a standard error that never blocks.
+/// The system as an executor uses it: its processes, its clocks, the files of `/proc`, a shell that sends signals, and a standard
+/// error that never blocks.
 #[derive(Drop)]
 pub struct System<'a> {
     rt: &'a HostRuntime,
     errors: ErrorLines,
+    // The shell that sends signals, where it runs and is not used right now.
+    killer: Cell<Option<Killer>>,
 }
 
 impl<'a> System<'a> {
@@ -21,6 +29,48 @@ impl<'a> System<'a> {
         System {
             rt,
             errors: ErrorLines::new(rt.stderr()),
+            killer: Cell::new(None),
+        }
+    }
+
+    /// Spawns the shell that sends signals, unless it runs. Where it cannot be spawned, that is reported on standard error, and each
+    /// signal spawns it again.
+    pub fn start_killer(&self) {
+        match self.taken_killer() {
+            Ok(killer) => self.killer.set(Some(killer)),
+            Err(error) => {
+                let _ = self.eprintln(format_args!(
+                    "ocfexec: cannot spawn the shell that ends processes: {error}"
+                ));
+            }
+        }
+    }
+
+    // The shell, spawned if it does not run.
+    fn taken_killer(&self) -> io::Result<Killer> {
+        match self.killer.replace(None) {
+            Some(killer) => Ok(killer),
+            None => Killer::start(self.rt),
+        }
+    }
+
+    // Has the shell send what a line says, and returns whether the target got the signal, if there is one. A shell that is gone or stuck
+    // is ended.
+    fn ask_once(&self, line: &BoundedLine) -> io::Result<bool> {
+        let mut killer = self.taken_killer()?;
+        let asked = killer.ask(self.rt, line);
+        match &asked {
+            Ok(_) => self.killer.set(Some(killer)),
+            Err(_) => killer.end(self.rt),
+        }
+        asked
+    }
+
+    // The same; a shell that is gone or stuck is replaced.
+    fn ask(&self, line: &BoundedLine) -> io::Result<bool> {
+        match self.ask_once(line) {
+            Err(_) => self.ask_once(line),
+            asked => asked,
         }
     }
 
@@ -81,7 +131,30 @@ impl ProcFiles for System<'_> {
         self.rt.processes(alloc)
     }
 
-    fn read_of(&self, pid: u32, file: PidFile, room: &mut [u8]) -> usize {
-        self.rt.read_of(pid, file, room)
+    fn name_of(&self, pid: u32, room: &mut [u8]) -> usize {
+        self.rt.name_of(pid, room)
+    }
+}
+
+impl Signals for System<'_> {
+    fn send(&self, signal: Signal, targets: &[Target]) -> io::Result<()> {
+        for some in targets.chunks(TARGETS) {
+            self.ask(&line_of(signal.name(), some))?;
+        }
+        Ok(())
+    }
+
+    fn has_members(&self, group: u32) -> Option<bool> {
+        self.ask(&line_of("0", &[Target::Group(group)])).ok()
+    }
+}
+
+impl Programs for System<'_> {
+    fn check_program(&self, path: &str) -> io::Result<()> {
+        self.rt.check_program(path)
+    }
+
+    fn own_path<A: Allocator + Copy>(&self, alloc: A) -> io::Result<String<A>> {
+        self.rt.own_path(alloc)
     }
 }

@@ -12,7 +12,7 @@ use Rattle.disk_model.specs.Image.{Image}
 use Rattle.exec_journal.specs.Found.{FoundAs}
 use Rattle.exec_faults.specs.declared.fault.Fault.{Fault}
 use Rattle.exec_faults.specs.declared.fault.Fault.TheVariants as fault
-use Rattle.status_report.specs.Reasons.{reason_of}
+use Rattle.status_report.specs.Remarks.{reason_of, wait_of}
 use Rattle.status_report.specs.Written.{written}
 use Rattle.status_report.specs.Tables.{agent_text, AreRows, gap, IsRow, IsWrittenAs, WritesAs, asked_entries, is_asked_for, state_text}
 
@@ -95,8 +95,8 @@ no_row : (options : StatusOptions) (e : Entry) (row more : List ℕ) → [] ≡ 
 no_row options e row more empty is =
     let prefix = (e.0 ++ gap is.0) ++ agent_text e.1 in
     let state = (prefix ++ gap is.1) ++ state_text options e.1 in
-    let whole : [] ≡ (state ++ gap is.2) ++ written options (reason_of options e.0) e.1 = left_none row more empty ∙ is.3 in
-    let no_state : [] ≡ state = left_none state (gap is.2) (left_none (state ++ gap is.2) (written options (reason_of options e.0) e.1) whole) in
+    let whole : [] ≡ (state ++ gap is.2) ++ written options (reason_of options e.0) (wait_of options e.0) e.1 = left_none row more empty ∙ is.3 in
+    let no_state : [] ≡ state = left_none state (gap is.2) (left_none (state ++ gap is.2) (written options (reason_of options e.0) (wait_of options e.0) e.1) whole) in
     let no_prefix : [] ≡ prefix ++ gap is.1 = left_none (prefix ++ gap is.1) (state_text options e.1) no_state in
     let agent = right_none (e.0 ++ gap is.0) (agent_text e.1) (left_none prefix (gap is.1) no_prefix) in
     no_first 58 e.1.agent (right_none e.1.provider (58 ∷ e.1.agent) agent)

@@ -8,7 +8,7 @@ use Rattle.ocf_types.specs.State.{State}
 use Rattle.exec_faults.specs.declared.fault.Fault.{Fault}
 use Rattle.exec_faults.specs.declared.fault.Fault.TheVariants as fault
 use Rattle.resource_status.proofs.StatusLemmas.{resource_has_no_float}
-use Rattle.status_report.specs.Reasons.{reason_of}
+use Rattle.status_report.specs.Remarks.{reason_of}
 use Rattle.status_report.specs.StatusLines.{IsPrefixWritten, AreLinesWritten, WritesLinesAs, status_data}
 use Rattle.status_report.specs.declared.options.StatusOptions.{StatusOptions}
 

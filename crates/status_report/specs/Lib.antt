@@ -1,7 +1,7 @@
 pub mod Colours
 pub mod ConditionTexts
 pub mod Failed
-pub mod Reasons
+pub mod Remarks
 pub mod Shown
 pub mod StatusLines
 pub mod Tables

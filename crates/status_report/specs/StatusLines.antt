@@ -12,7 +12,7 @@ use Rattle.exec_journal.specs.Found.{FoundAs, HasDamage}
 use Rattle.exec_faults.specs.declared.fault.Fault.{Fault}
 use Rattle.exec_faults.specs.declared.fault.Fault.TheVariants as fault
 use Rattle.resource_status.specs.Statuses.{resource_data}
-use Rattle.status_report.specs.Reasons.{reason_of}
+use Rattle.status_report.specs.Remarks.{reason_of}
 use Rattle.status_report.specs.Shown.{IsRegistered, resource_lines, shown}
 use Rattle.status_report.specs.Tables.{asked_entries, is_alarm}
 use Rattle.status_report.specs.declared.options.StatusOptions.{StatusOptions}

@@ -10,7 +10,7 @@ use Rattle.disk_model.specs.Image.{Image}
 use Rattle.exec_journal.specs.Found.{FoundAs, HasDamage}
 use Rattle.status_report.specs.ConditionTexts.{condition_text}
 use Rattle.resource_status.specs.Conditions.{condition_of, is_bad}
-use Rattle.status_report.specs.Reasons.{reason_of}
+use Rattle.status_report.specs.Remarks.{reason_of, wait_of}
 use Rattle.status_report.specs.Written.{written}
 use Rattle.status_report.specs.declared.options.StatusOptions.{StatusOptions}
 use Rattle.exec_faults.specs.declared.fault.Fault.{Fault}
@@ -39,7 +39,7 @@ gap n = replicate n 32 ++ codes "  "
 -- a resource's row: its id, its agent and its condition, a gap after each, and then what else is shown of it
 abbrev pub IsRow : StatusOptions → List ℕ × Resource → List ℕ → Type 0
 IsRow options e row = (n : ℕ) × (m : ℕ) × (k : ℕ)
-    × (row ≡ (((((e.0 ++ gap n) ++ agent_text e.1) ++ gap m) ++ state_text options e.1) ++ gap k) ++ written options (reason_of options e.0) e.1)
+    × (row ≡ (((((e.0 ++ gap n) ++ agent_text e.1) ++ gap m) ++ state_text options e.1) ++ gap k) ++ written options (reason_of options e.0) (wait_of options e.0) e.1)
 
 -- a row of each of these resources, exactly once, in their order
 abbrev pub AreRows : StatusOptions → List (List ℕ × Resource) → List ℕ → Type 0

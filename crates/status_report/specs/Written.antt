@@ -18,18 +18,19 @@ use Rattle.resource_status.specs.Texts.{ago_text, due_text, exact_text, since_te
 use Rattle.status_report.specs.Colours.{painted}
 use Rattle.status_report.specs.declared.options.StatusOptions.{StatusOptions}
 
--- what runs, and since when
-abbrev pub running_text : ℕ → Option Running → List ℕ
-running_text now None = codes "idle"
-running_text now (Some x) = action_word x.task.action ++ since_text now x.since
+-- what runs, and since when; else what is waited for, if that is known
+abbrev pub running_text : ℕ → Option (List ℕ) → Option Running → List ℕ
+running_text now None None = codes "idle"
+running_text now (Some wait) None = wait
+running_text now wait (Some x) = action_word x.task.action ++ since_text now x.since
 
 -- how many actions are queued
 abbrev pub queued_text : ℕ → List ℕ
 queued_text n = if n == 0 then [] else codes ", " ++ decimal n ++ codes " queued"
 
 -- what a resource does now
-abbrev pub now_text : StatusOptions → History → List ℕ
-now_text options h = running_text options.moment h.running ++ queued_text (length h.queue)
+abbrev pub now_text : StatusOptions → Option (List ℕ) → History → List ℕ
+now_text options wait h = running_text options.moment wait h.running ++ queued_text (length h.queue)
 
 -- what a result means, and how long ago it ended
 abbrev pub result_text : StatusOptions → Ended → List ℕ
@@ -94,6 +95,6 @@ lines_text options reason r =
     flat_map (action_line options r.history.ended) written_actions ++ flat_map (monitor_line options r.history.ended) r.recurring
     ++ failure_line options reason r.history.failed ++ history_text options r.history.ended
 
--- all that is shown of a resource after its condition, with the reason for its last failure
-abbrev pub written : StatusOptions → Option (List ℕ) → Resource → List ℕ
-written options reason r = now_text options r.history ++ lines_text options reason r ++ 10 ∷ []
+-- all that is shown of a resource after its condition, with the reason for its last failure, and what it waits for
+abbrev pub written : StatusOptions → Option (List ℕ) → Option (List ℕ) → Resource → List ℕ
+written options reason wait r = now_text options wait r.history ++ lines_text options reason r ++ 10 ∷ []

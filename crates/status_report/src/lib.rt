@@ -15,7 +15,7 @@ mod table;
 mod written_lines;
 
 pub use failures::failed;
-pub use options::{Reason, StatusOptions};
+pub use options::{Remark, StatusOptions};
 pub use shown::show;
 pub use statuses::status;
 pub use written_lines::status_json;

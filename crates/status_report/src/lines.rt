@@ -4,7 +4,7 @@ ghost use Rattle.std.specs.List.{flat_map};
 ghost use Rattle.ocf_types.specs.Indexes.{at_index, id_at};
 ghost use Rattle.resource_status.specs.Results.{last_of};
 ghost use Rattle.status_report.specs.Colours.{colour_of, painted};
-ghost use Rattle.status_report.specs.Reasons.{reason_of};
+ghost use Rattle.status_report.specs.Remarks.{reason_of};
 ghost use Rattle.status_report.specs.Written.{action_line, failure_line, history_text, is_asked, lines_text, monitor_line, monitor_text};
 ghost use Rattle.status_report.specs.Written.{known_reason_line, past_line, reason_line, result_text, set_in, written_actions};
 

@@ -1,7 +1,7 @@
 //! A journal's state as a table for a person: a row of each resource, with lines below it.
-ghost use Rattle.std.specs.Prelude.{◌≡◌, ◌<◌, ◌-◌, ◌++◌, [], length, OnOk, IfOk, IfSome, IfNone, IsTrue, OnErr};
+ghost use Rattle.std.specs.Prelude.{◌≡◌, ◌<◌, ◌-◌, ◌++◌, [], length, option_map, OnOk, IfOk, IfSome, IfNone, IsTrue, OnErr};
 ghost use Rattle.ocf_types.specs.Indexes.{entry_at, at_index, id_at};
-ghost use Rattle.status_report.specs.Reasons.{reason_of};
+ghost use Rattle.status_report.specs.Remarks.{reason_of, wait_of};
 ghost use Rattle.status_report.specs.Tables.{agent_text, AreRows, gap, IsHead, IsRow, IsTable, asked_entries};
 ghost use Rattle.status_report.specs.Written.{now_text, queued_text, running_text, written};
 
@@ -89,22 +89,25 @@ fn add_gap(text: &mut Vec<u8>, taken: usize, column: usize) -> Result<(), AllocE
     add(text, "  ")
 }
 
-// Adds what runs, and since when.
+// Adds what runs, and since when; else what is waited for, if that is known.
 fn add_running(
     text: &mut Vec<u8>,
     options: &StatusOptions,
+    wait: Option<&str>,
     running: Option<Running>,
 ) -> Result<(), AllocError>
     ensures text { OnOk result (text.new.items
-        ≡ text.old.items ++ running_text options.now.moment running) }
+        ≡ text.old.items ++ running_text options.now.moment
+        (option_map (λ t. t.now) wait.entry) running) }
     ensures memory { OnErr result (IsTrue ⟦<Global as Grows>⟧.refuses) }
 {
-    match running {
-        Some(running) => {
+    match (running, wait) {
+        (Some(running), _) => {
             add(text, running.task.action().word())?;
             add_since(text, options.moment.get(), running.since.get())
         }
-        None => add(text, "idle"),
+        (None, Some(wait)) => add(text, wait),
+        (None, None) => add(text, "idle"),
     }
 }
 
@@ -132,10 +135,12 @@ fn add_written(
     requires { index < length state.now.state.resources }
     ensures text { OnOk result (text.new.items
         ≡ text.old.items ++ written options.now
-        (reason_of options.now (id_at state.now.state index)) (at_index state.now.state index)) }
+        (reason_of options.now (id_at state.now.state index))
+        (wait_of options.now (id_at state.now.state index)) (at_index state.now.state index)) }
     ensures memory { OnErr result (IsTrue ⟦<Global as Grows>⟧.refuses) }
 {
-    add_running(text, options, state.running_at(index))?;
+    let wait = options.wait_of(state.id_at(index));
+    add_running(text, options, wait, state.running_at(index))?;
     add_queued(text, state.queue_len(index))?;
     add_lines(alloc, text, options, state, index)?;
     add(text, "\n")

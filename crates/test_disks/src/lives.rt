@@ -16,6 +16,7 @@ fn machine(alloc: Global, now: u64, inputs: Vec<Input>, stop: u64) -> Option<Mac
         starts: VecDeque::new(alloc),
         polls: VecDeque::new(alloc),
         kills: VecDeque::new(alloc),
+        holds: VecDeque::new(alloc),
     };
     Some(Machine {
         children: Scripted::new(alloc, script, 12).ok()?,

@@ -16,6 +16,7 @@ pub fn no_children(alloc: Global) -> Option<Scripted> {
         starts: VecDeque::new(alloc),
         polls: VecDeque::new(alloc),
         kills: VecDeque::new(alloc),
+        holds: VecDeque::new(alloc),
     };
     Scripted::new(alloc, script, 0).ok()
 }

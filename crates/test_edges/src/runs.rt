@@ -36,6 +36,7 @@ fn children(alloc: Global, polls: &[Poll]) -> Option<Scripted> {
         starts: VecDeque::new(alloc),
         polls: VecDeque::new(alloc),
         kills: VecDeque::new(alloc),
+        holds: VecDeque::new(alloc),
     };
     for poll in polls {
         script.polls.push_back(*poll).ok()?;

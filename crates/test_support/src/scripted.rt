@@ -38,6 +38,7 @@ fn empty_script(alloc: Global) -> Script {
         starts: VecDeque::new(alloc),
         polls: VecDeque::new(alloc),
         kills: VecDeque::new(alloc),
+        holds: VecDeque::new(alloc),
     }
 }
 

@@ -45,7 +45,7 @@ module _ {D : Type 0} (view : D → DiskView) where
   )
   does_nothing Abandoned x y d closed does = (
     tt,
-    record { is_closed = ap (λ (z : ExecutorView D). z.is_open) does.0; disk = ap (λ (z : ExecutorView D). z.disk) does.0; nothing = does.1 },
+    record { is_closed = ap (λ (z : ExecutorView D). z.is_open) does.0.2; disk = ap (λ (z : ExecutorView D). z.disk) does.0.2; nothing = does.1 },
   )
 
   pub calls_closed : (x z : ExecutorView D) (es : List Exchange) (d : Effects) → x.is_open ≡ false → Calls view x es z d → Closed x z d
@@ -105,7 +105,7 @@ module _ {D : Type 0} (view : D → DiskView) where
         (record { crash = so_far.crash; state = so_far.state; whole = so_far.whole }))
     taken_more true w x y Abandoned a d is_open does so_far =
         subst (λ (b : Effects). Onward view w y b) (sym (followed_by_none a) ∙ ap (followed_by a) (sym does.1))
-        (subst (λ (z : ExecutorView D). Onward view w z a) (sym does.0)
+        (subst (λ (z : ExecutorView D). Onward view w z a) (sym does.0.2)
         (record { crash = so_far.crash; state = λ bad. absurd (false≢true bad); whole = λ bad. absurd (false≢true bad) }))
     taken_more false w x y e a d closed does so_far =
         let none = (does_nothing e x y d closed does).1 in

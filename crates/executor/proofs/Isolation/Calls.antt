@@ -10,6 +10,7 @@ use Rattle.ocf_types.specs.declared.command.RequestOf.TheVariants as asked
 use Rattle.ocf_types.specs.declared.reply.TurnEnd.{TurnEnd}
 use Rattle.ocf_types.specs.declared.reply.TurnEnd.TheVariants as turn_end
 use Rattle.disk_model.specs.Disk.{DiskView}
+use Rattle.child_model.specs.Children.{is_held}
 use Rattle.child_model.specs.declared.answer.Entry.{Entry}
 use Rattle.exec_ledger.specs.Actives.{active}
 use Rattle.exec_ledger.specs.Lemmas.{same_entries, same_events}
@@ -19,7 +20,7 @@ use Rattle.executor.specs.Joins.{SameIsolated, as_calls}
 use Rattle.executor.specs.FinishCalls.{FinishedWhile}
 use Rattle.executor.specs.Incarnations.{Abandoned, Calls, Cleared, Exchange, Finished, Batch, Tidied, Took}
 use Rattle.executor.specs.Incarnations.{Does as Called}
-use Rattle.executor.specs.Projections.{AreRising, DistinctKeys, IsAnswered, IsPlain, entries_of_runs, events_of, is_about, moment_in, own_runs, part, projection_of}
+use Rattle.executor.specs.Projections.{AreRising, DistinctKeys, IsAnswered, IsFree, IsFreeSession, IsPlain, WasFree, entries_of_runs, events_of, is_about, moment_in, own_runs, part, projection_of}
 use Rattle.executor.specs.Sessions.{Input, Session, TakesWhile}
 use Rattle.executor.specs.ExecutorView.{ExecutorView, due_in}
 use Rattle.executor.specs.Isolated.{Alone, Isolated, IsolatedPoll, cut, isolated_after_all, isolated_of, running_in}
@@ -36,7 +37,7 @@ use Rattle.executor.proofs.Isolation.Runs.{is_mine, own_stays, runs_own}
 use Rattle.executor.proofs.Isolation.Turns.{AllBeginOwn, AreApart, BeginsOwn, fresh-append, ids_stay, turn_done, turn_isolated}
 use Rattle.executor.proofs.Isolation.Went.{Went, call_went, closed_plain, first_fresh, here, own_append}
 use Rattle.executor.proofs.Incarnations.Calls.{calls_closed}
-use Rattle.executor.proofs.Sessions.Calls.{lemma_session_is_calls}
+use Rattle.executor.proofs.Sessions.Calls.{free_calls, lemma_session_is_calls}
 
 module _ {D : Type 0} (view : D → DiskView) (mine : ℕ → Bool) (id : List ℕ) where
   own_entries : List Entry → List Entry
@@ -84,12 +85,12 @@ module _ {D : Type 0} (view : D → DiskView) (mine : ℕ → Bool) (id : List �
 
   turn_alone : (open_now : Bool) (y : Isolated) (now : ℕ) (old new : ExecutorView D) (r : Reply) (d : Effects) → old.state.clock ≤ cut now
       → IsPlain r → IsolatedAs y old.state (due_in old) id → AreApart old.state → AreOwn mine id (active old.state) → AllBeginOwn mine id d.events
-      → TakesWhile open_now view (input.Turn now) old new r d
+      → is_held new.children.held id ≡ false → TakesWhile open_now view (input.Turn now) old new r d
       → IsStep true id y (Took (input.Turn now) r) (own_entries d.entries) (events_of id d.events)
   unfolding own_entries
-  turn_alone true y now old new r d clock plain holds apart own begins takes =
-      turn_isolated now old new r d (turn_done view now old new r d clock plain takes) mine id y holds apart own begins
-  turn_alone false y now old new r d clock plain holds apart own begins takes = absurd (closed_plain (input.Turn now) r takes.0 plain)
+  turn_alone true y now old new r d clock plain holds apart own begins free takes =
+      turn_isolated now old new r d (turn_done view now old new r d clock plain takes) mine id y holds apart own begins free
+  turn_alone false y now old new r d clock plain holds apart own begins free takes = absurd (closed_plain (input.Turn now) r takes.0 plain)
 
   finish_alone : (open_now : Bool) (y : Isolated) (now : ℕ) (end : TurnEnd) (old new : ExecutorView D) (d : Effects) → old.state.clock ≤ cut now
       → end ≡ turn_end.Done → IsolatedAs y old.state (due_in old) id → AreApart old.state → AreOwn mine id (active old.state)
@@ -107,17 +108,17 @@ module _ {D : Type 0} (view : D → DiskView) (mine : ℕ → Bool) (id : List �
 
   call_alone : (at : ℕ) (y : Isolated) (e : Exchange) (old new : ExecutorView D) (d : Effects) → old.state.clock ≤ moment_in at e
       → AllByRecursion IsAnswered (projection_of id e) → IsolatedAs y old.state (due_in old) id → AreApart old.state
-      → AreOwn mine id (active old.state) → AllBeginOwn mine id d.events → Called view e old new d
+      → AreOwn mine id (active old.state) → AllBeginOwn mine id d.events → WasFree id e new → Called view e old new d
       → Alone id y (projection_of id e) (own_entries d.entries) (events_of id d.events)
   unfolding own_entries
-  call_alone at y (Took (input.Request now request) r) old new d clock plain holds apart own begins does =
+  call_alone at y (Took (input.Request now request) r) old new d clock plain holds apart own begins free does =
       let e = Took (input.Request now request) r in
       one_alone (is_about id request) y e (own_entries d.entries) (events_of id d.events)
       (request_alone old.is_open (is_about id request) y now old new r d request refl clock (plain_first (is_about id request) e [] plain).0 holds does)
-  call_alone at y (Took (input.Turn now) r) old new d clock plain holds apart own begins does =
+  call_alone at y (Took (input.Turn now) r) old new d clock plain holds apart own begins free does =
       one_alone true y (Took (input.Turn now) r) (own_entries d.entries) (events_of id d.events)
-      (turn_alone old.is_open y now old new r d clock plain.0 holds apart own begins does)
-  call_alone at y (Batch now cs rs) old new d clock plain holds apart own begins batch =
+      (turn_alone old.is_open y now old new r d clock plain.0 holds apart own begins free does)
+  call_alone at y (Batch now cs rs) old new d clock plain holds apart own begins free batch =
       let entries : own_entries d.entries ≡ [] = ap own_entries (same_entries batch.does) in
       subst (λ (l : List Entry). Alone id y (projection_of id (Batch now cs rs)) l (events_of id d.events)) (sym entries)
       (by new.is_open refl batch.takes.reported (same_events batch.does))
@@ -135,12 +136,12 @@ module _ {D : Type 0} (view : D → DiskView) (mine : ℕ → Bool) (id : List �
           let both = takes (subst (λ (l : List Reply). AreReportedOf l batch.takes.meant) (sym reported) bad.0) in
           subst (λ (l : List Event). Alone id y (projection_of id (Batch now cs rs)) [] l)
           (both.1 (subst AllRefused (sym reported) bad.1) ∙ sym (ap (events_of id) events)) both.0
-  call_alone at y (Finished now end) old new d clock plain holds apart own begins does =
+  call_alone at y (Finished now end) old new d clock plain holds apart own begins free does =
       one_alone true y (Finished now end) (own_entries d.entries) (events_of id d.events)
       (finish_alone old.is_open y now end old new d clock plain.0 holds apart own does)
-  call_alone at y (Tidied end) old new d clock plain holds apart own begins does = (no_entries d does.1, no_events d does.1)
-  call_alone at y Cleared old new d clock plain holds apart own begins does = (no_entries d does.1, no_events d does.1)
-  call_alone at y Abandoned old new d clock plain holds apart own begins does = (no_entries d does.1, no_events d does.1)
+  call_alone at y (Tidied end) old new d clock plain holds apart own begins free does = (no_entries d does.1, no_events d does.1)
+  call_alone at y Cleared old new d clock plain holds apart own begins free does = (no_entries d does.1, no_events d does.1)
+  call_alone at y Abandoned old new d clock plain holds apart own begins free does = (no_entries d does.1, no_events d does.1)
 
   -- the events of calls are new
   calls_fresh : (at : ℕ) (es : List Exchange) (x z : ExecutorView D) (d : Effects) → x.state.clock ≤ at → AreRising at es
@@ -183,10 +184,11 @@ module _ {D : Type 0} (view : D → DiskView) (mine : ℕ → Bool) (id : List �
   -- its part of calls is a behaviour of the machine
   alone : (at : ℕ) (es : List Exchange) (y : Isolated) (x z : ExecutorView D) (d : Effects) → x.state.clock ≤ at → AreRising at es
       → AllByRecursion IsAnswered (part id es) → IsolatedAs y x.state (due_in x) id → AreApart x.state → AreOwn mine id (active x.state)
-      → AllBeginOwn mine id d.events → Calls view x es z d → Alone id y (part id es) (own_entries d.entries) (events_of id d.events)
+      → AllBeginOwn mine id d.events → (calls : Calls view x es z d) → IsFree view id x es z d calls
+      → Alone id y (part id es) (own_entries d.entries) (events_of id d.events)
   unfolding own_entries
-  alone at [] y x z d clock rises plain holds apart own begins calls = (no_entries d calls.1, no_events d calls.1)
-  alone at (e ∷ es) y x z d clock rises plain holds apart own begins (mid, first, later, does, rest, all) =
+  alone at [] y x z d clock rises plain holds apart own begins calls free = (no_entries d calls.1, no_events d calls.1)
+  alone at (e ∷ es) y x z d clock rises plain holds apart own begins (mid, first, later, does, rest, all) free =
       let now : x.state.clock ≤ moment_in at e = le_trans clock rises.0 in
       let plain_here = each_first IsAnswered (projection_of id e) (part id es) plain in
       let went = call_went view mine id at e x mid first now plain_here does in
@@ -195,13 +197,13 @@ module _ {D : Type 0} (view : D → DiskView) (mine : ℕ → Bool) (id : List �
       let begins_later = each_last (λ e. BeginsOwn mine id e.change) first.events later.events all_begin in
       let done = first.events ++ went.more in
       let y2 = isolated_after_all y (events_of id first.events) in
-      let one = call_alone at y e x mid first now plain_here holds apart own begins_first does in
+      let one = call_alone at y e x mid first now plain_here holds apart own begins_first free.0 does in
       let following = alone (moment_in at e) es y2 mid z later went.does.clock rises.1
       (each_last IsAnswered (projection_of id e) (part id es) plain) (holds_after (moment_in at e) y x mid first.events went holds)
       (subst AreApart (sym went.does.state) (ids_stay x.state done went.does.next apart))
       (subst (λ (s : State). AreOwn mine id (active s)) (sym went.does.state)
       (own_stays mine id x.state done went.does.next (own_append mine id first.events went.more begins_first went.begins) own))
-      begins_later rest in
+      begins_later rest free.1 in
       subst (λ (k : Effects). Alone id y (part id (e ∷ es)) (own_entries k.entries) (events_of id k.events)) (sym all)
       (subst (λ (l : List Entry). Alone id y (part id (e ∷ es)) l (events_of id (first.events ++ later.events)))
       (sym (filter-append (λ e. mine e.run) first.entries later.entries))
@@ -212,15 +214,15 @@ module _ {D : Type 0} (view : D → DiskView) (mine : ℕ → Bool) (id : List �
 
 module _ {D : Type 0} (view : D → DiskView) (x z : ExecutorView D) where
   -- the law
-  pub lemma_each_alone : (es : List Exchange) (d : Effects) (id : List ℕ) → DistinctKeys x.state → Calls view x es z d
+  pub lemma_each_alone : (es : List Exchange) (d : Effects) (id : List ℕ) → DistinctKeys x.state → (calls : Calls view x es z d) → IsFree view id x es z d calls
       → AllByRecursion IsAnswered (part id es) → AreRising x.state.clock es
       → Alone id (isolated_of x id) (part id es) (entries_of_runs (own_runs id x.state d.events) d.entries) (events_of id d.events)
   unfolding own_entries
-  lemma_each_alone es d id apart calls plain rises =
+  lemma_each_alone es d id apart calls free plain rises =
       let mine : ℕ → Bool = is_mine id x.state d.events in
       let clock = le_refl x.state.clock in
       let own = runs_own id x.state d.events apart (calls_fresh view mine id x.state.clock es x z d clock rises plain calls) in
-      alone view mine id x.state.clock es (isolated_of x id) x z d clock rises plain (here x id) apart.ids own.0 own.1 calls
+      alone view mine id x.state.clock es (isolated_of x id) x z d clock rises plain (here x id) apart.ids own.0 own.1 calls free
 
   -- and it agrees with the executor after the calls
   pub alone_ends : (es : List Exchange) (d : Effects) (id : List ℕ) → Calls view x es z d
@@ -232,12 +234,14 @@ module _ {D : Type 0} (view : D → DiskView) (x z : ExecutorView D) where
 
   -- the law of a session
   pub session_alone : (inputs : List Input) (replies : List Reply) (d : Effects) (id : List ℕ) → DistinctKeys x.state
-      → Session view x inputs replies z d → AllByRecursion IsAnswered (part id (as_calls inputs replies))
+      → (session : Session view x inputs replies z d) → IsFreeSession view id x inputs replies z d session
+      → AllByRecursion IsAnswered (part id (as_calls inputs replies))
       → AreRising x.state.clock (as_calls inputs replies)
       → Alone id (isolated_of x id) (part id (as_calls inputs replies)) (entries_of_runs (own_runs id x.state d.events) d.entries)
       (events_of id d.events)
-  session_alone inputs replies d id apart session plain rises =
-      lemma_each_alone (as_calls inputs replies) d id apart (lemma_session_is_calls view x z inputs replies d session) plain rises
+  session_alone inputs replies d id apart session free plain rises =
+      lemma_each_alone (as_calls inputs replies) d id apart (lemma_session_is_calls view x z inputs replies d session)
+      (free_calls view id x z inputs replies d session free) plain rises
 
 -- the law of a batch
 pub commands_alone : {D : Type 0} (now : ℕ) (x : ExecutorView D) (commands : List Command) (replies : List Reply) (es : List Event) (id : List ℕ)

@@ -38,7 +38,7 @@ finish_done view now old new end takes clock is_done =
     let turns = takes.turns in
     let found = λ (at : ℕ). batch_start old.state (due_in old) old.position at old.refuses in
     let raw : OnlyResults (found (moment old.state now)) turns.effects new.reported =
-    subst (λ (e : TurnEnd). IsFinish e (found (moment old.state now)) turns.effects new.reported) is_done turns.does in
+    subst (λ (e : TurnEnd). IsFinish new.children.held e (found (moment old.state now)) turns.effects new.reported) is_done turns.does in
     let only : OnlyResults (found (cut now)) turns.effects new.reported =
     subst (λ (at : ℕ). OnlyResults (found at) turns.effects new.reported) (moment_is old.state now clock) raw in record {
       polled = only.0;

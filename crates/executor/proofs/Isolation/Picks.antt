@@ -17,8 +17,11 @@ use Rattle.ocf_types.specs.declared.operation.Op.{Op}
 use Rattle.ocf_types.specs.declared.operation.Recur.{Recur}
 use Rattle.ocf_types.specs.declared.operation.Running.{Running}
 use Rattle.ocf_types.specs.Lemmas.{each_weaken}
+use Rattle.child_model.specs.Children.{is_held}
 use Rattle.exec_ledger.specs.Actives.{Active, active_of}
-use Rattle.exec_turn.specs.Picks.{ArePicks, begin_of, begins, begun_in}
+use Rattle.exec_ledger.specs.LedgerView.{While}
+use Rattle.exec_ledger.specs.Lemmas.{of_closed}
+use Rattle.exec_turn.specs.Picks.{ArePicks, IsNext, begin_of, begins, begun_in}
 use Rattle.executor.proofs.Isolation.Changes.{AreFresh}
 use Rattle.executor.proofs.Isolation.Lists.{filter_alike}
 
@@ -73,6 +76,19 @@ picks_ready r due at call p =
     (All-from_recursion (λ q. is_some (of_call q.1 r.recurring) ≡ true) (due_pairs r.recurring due)
     (pairs_known (λ c. is_some (of_call c r.recurring) ≡ true) r.recurring due (calls_known r.recurring))) p.1
 
+-- a resource begins only what it picks, and it begins what it picks where it is not held
+pub next_pick : (held : List (List ℕ)) (due : Due) (at : ℕ) (e : List ℕ × Resource) (call : ℕ) → IsNext held due at e (Some call)
+    → IsPick e.1 (due e.0) at (Some call)
+next_pick held due at e call next = by (is_held held e.0) next
+  where
+    by : (b : Bool) → While b (Some call ≡ None) (IsPick e.1 (due e.0) at (Some call)) → IsPick e.1 (due e.0) at (Some call)
+    by true next = absurd (let no : Some call ≡ None = next in cc)
+    by false next = next
+
+free_pick : (held : List (List ℕ)) (due : Due) (at : ℕ) (e : List ℕ × Resource) (call : Option ℕ) → is_held held e.0 ≡ false
+    → IsNext held due at e call → IsPick e.1 (due e.0) at call
+free_pick held due at e call free next = of_closed (call ≡ None) (IsPick e.1 (due e.0) at call) free next
+
 -- a resource that picks a call begins it, under its run
 pub begun_one : (due : ℕ → Option ℕ) (at run : ℕ) (e : List ℕ × Resource) (call : ℕ) → IsPick e.1 due at (Some call)
     → (x : Running) × (begun_in at run e (Some call) ≡ record { id = e.0; running = x } ∷ []) × (x.call ≡ call) × (x.run ≡ run)
@@ -107,16 +123,17 @@ abbrev pub own_of : List ℕ → List Active → List Active
 own_of id all = filter (λ a. bytes_eq id a.id) all
 
 -- actions begun by entries none of which has the id are of others
-picks_absent : (moments : Due) (at run : ℕ) (rs : Registry) (begun : List Active) (id : List ℕ) → ArePicks moments at run rs begun
+picks_absent : (held : List (List ℕ)) (moments : Due) (at run : ℕ) (rs : Registry) (begun : List Active) (id : List ℕ)
+    → ArePicks held moments at run rs begun
     → AllByRecursion (λ k. bytes_eq id k ≡ false) (keys_of rs)
     → own_of id begun ≡ []
-picks_absent moments at run [] begun id h absent = ap (own_of id) h
-picks_absent moments at run (e ∷ es) begun id (call, rest, pick, later, is) absent =
+picks_absent held moments at run [] begun id h absent = ap (own_of id) h
+picks_absent held moments at run (e ∷ es) begun id (call, rest, pick, later, is) absent =
     let first = begun_in at run e call in
     let none : own_of id first ≡ [] = filter_alike (λ a. bytes_eq id a.id) false first
     (subst (λ b. AllByRecursion (λ (a : Active). bytes_eq id a.id ≡ b) first) absent.0 (begun_ids at run e call id)) in
     ap (own_of id) is ∙ filter-append (λ a. bytes_eq id a.id) first rest ∙ ap (λ (l : List Active). l ++ own_of id rest) none
-    ∙ picks_absent moments at (run + length first) es rest id later absent.1
+    ∙ picks_absent held moments at (run + length first) es rest id later absent.1
 
 -- the action that a resource begins under a run not below this one, if the resource is there
 abbrev pub IsChosen : Due → ℕ → ℕ → List ℕ → Option Resource → List Active → Type 0
@@ -129,16 +146,16 @@ chosen_from : (moments : Due) (at run n : ℕ) (id : List ℕ) (o : Option Resou
 chosen_from moments at run n id None mine le h = h
 chosen_from moments at run n id (Some r) mine le h = (h.0, h.1, omega (arith, h.2), h.3, h.4)
 
--- where ids differ, the action begun of an id is the one that its resource begins
-pub chosen : (moments : Due) (at run : ℕ) (rs : Registry) (begun : List Active) (id : List ℕ) → IsDistinct bytes_eq (keys_of rs)
-    → ArePicks moments at run rs begun
+-- where ids differ, the action begun of an id that is not held is the one that its resource picks
+pub chosen : (held : List (List ℕ)) (moments : Due) (at run : ℕ) (rs : Registry) (begun : List Active) (id : List ℕ)
+    → is_held held id ≡ false → IsDistinct bytes_eq (keys_of rs) → ArePicks held moments at run rs begun
     → IsChosen moments at run id (lookup (bytes_eq id) rs) (own_of id begun)
-chosen moments at run [] begun id distinct h = ap (own_of id) h
-chosen moments at run (e ∷ es) begun id distinct (call, rest, pick, later, is) =
+chosen held moments at run [] begun id free distinct h = ap (own_of id) h
+chosen held moments at run (e ∷ es) begun id free distinct (call, rest, pick, later, is) =
     subst (λ (l : List Active). IsChosen moments at run id (cond (bytes_eq id e.0) (Some e.1) (lookup (bytes_eq id) es)) l)
     (sym (ap (own_of id) is ∙ filter-append (λ a. bytes_eq id a.id) first rest))
     (by (bytes_eq id e.0) refl
-    (chosen moments at (run + length first) es rest id (IsDistinct-tail bytes_eq e.0 (keys_of es) distinct) later))
+    (chosen held moments at (run + length first) es rest id free (IsDistinct-tail bytes_eq e.0 (keys_of es) distinct) later))
   where
     first : List Active
     first = begun_in at run e call
@@ -147,15 +164,16 @@ chosen moments at run (e ∷ es) begun id distinct (call, rest, pick, later, is)
         → IsChosen moments at run id (cond b (Some e.1) (lookup (bytes_eq id) es)) (own_of id first ++ own_of id rest)
     by true same go =
         let k : id ≡ e.0 = (bytes_eq-Decides id e.0).0 same in
+        let picked = free_pick held moments at e call (subst (λ (j : List ℕ). is_held held j ≡ false) k free) pick in
         let mine : own_of id first ≡ first = filter_alike (λ a. bytes_eq id a.id) true first
         (subst (λ b. AllByRecursion (λ (a : Active). bytes_eq id a.id ≡ b) first) same (begun_ids at run e call id)) in
-        let none : own_of id rest ≡ [] = picks_absent moments at (run + length first) es rest id later
+        let none : own_of id rest ≡ [] = picks_absent held moments at (run + length first) es rest id later
         (subst (λ (j : List ℕ). AllByRecursion (λ y. bytes_eq j y ≡ false) (keys_of es)) (sym k)
         (IsDistinct-head bytes_eq e.0 (keys_of es) distinct)) in (
           call,
           run,
           le_refl run,
-          subst (λ (j : List ℕ). IsPick e.1 (moments j) at call) (sym k) pick,
+          subst (λ (j : List ℕ). IsPick e.1 (moments j) at call) (sym k) picked,
           rw (mine, none) (append-nil first ∙ ap (λ (j : List ℕ). begun_in at run (j, e.1) call) (sym k)),
         )
     by false other go =
@@ -164,14 +182,16 @@ chosen moments at run (e ∷ es) begun id distinct (call, rest, pick, later, is)
         rw none (chosen_from moments at run (run + length first) id (lookup (bytes_eq id) es) (own_of id rest) (omega arith) go)
 
 -- the begins of picks draw one run number after another
-pub begins_fresh : (moments : Due) (at run : ℕ) (rs : Registry) (begun : List Active) → ArePicks moments at run rs begun
+pub begins_fresh : (held : List (List ℕ)) (moments : Due) (at run : ℕ) (rs : Registry) (begun : List Active)
+    → ArePicks held moments at run rs begun
     → (s : State) (more : List Event) → s.next_run ≡ run
     → ((t : State) → AreFresh t more) → AreFresh s (begins at begun ++ more)
-begins_fresh moments at run [] begun h s more is fresh = subst (λ (l : List Active). AreFresh s (begins at l ++ more)) (sym h) (fresh s)
-begins_fresh moments at run (e ∷ es) begun (None, rest, pick, later, is) s more same fresh =
+begins_fresh held moments at run [] begun h s more is fresh = subst (λ (l : List Active). AreFresh s (begins at l ++ more)) (sym h) (fresh s)
+begins_fresh held moments at run (e ∷ es) begun (None, rest, pick, later, is) s more same fresh =
     subst (λ (l : List Active). AreFresh s (begins at l ++ more)) (sym is)
-    (begins_fresh moments at (run + 0) es rest later s more (omega (arith, same)) fresh)
-begins_fresh moments at run (e ∷ es) begun (Some call, rest, pick, later, is) s more same fresh =
+    (begins_fresh held moments at (run + 0) es rest later s more (omega (arith, same)) fresh)
+begins_fresh held moments at run (e ∷ es) begun (Some call, rest, is_next, later, is) s more same fresh =
+    let pick = next_pick held moments at e call is_next in
     let one = begun_one (moments e.0) at run e call pick in
     let a : Active = record { id = e.0; running = one.0 } in
     let all : begun ≡ a ∷ rest = is ∙ ap (λ (l : List Active). l ++ rest) one.1 in
@@ -179,6 +199,6 @@ begins_fresh moments at run (e ∷ es) begun (Some call, rest, pick, later, is) 
     (arith, same, ap (λ (l : List Active). length l) one.1) in
     subst (λ (l : List Active). AreFresh s (begins at l ++ more)) (sym all) (
       one.3 ∙ sym same,
-      begins_fresh moments at (run + length (begun_in at run e (Some call))) es rest later
+      begins_fresh held moments at (run + length (begun_in at run e (Some call))) es rest later
           (after s (begin_of at a)) more next fresh,
     )

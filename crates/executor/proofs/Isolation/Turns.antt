@@ -1,5 +1,5 @@
 -- A turn that ended done: the machine of one resource makes its part.
-use Rattle.std.proofs.Common.{◌≡◌, ℕ, ◌≤◌, Bool, not, List, [], ◌∷◌, ◌++◌, map, filter, Option, option_and_then, refl, sym, ap, subst, ◌∙◌, arith, ap₂, append_assoc, le_refl}
+use Rattle.std.proofs.Common.{◌≡◌, ℕ, ◌≤◌, Bool, false, not, List, [], ◌∷◌, ◌++◌, map, filter, Option, option_and_then, refl, sym, ap, subst, ◌∙◌, arith, ap₂, append_assoc, le_refl}
 use Rattle.std.specs.List.{AllByRecursion, IsDistinct}
 use Rattle.std.specs.Prelude.{⊤}
 use Rattle.std.specs.Map.{keys_of}
@@ -21,6 +21,7 @@ use Rattle.ocf_types.specs.declared.reply.TurnEnd.TheVariants.{Done}
 use Rattle.ocf_types.specs.RegistryLemmas.{absent_any, distinct_filter, each_filter, keys-at_id}
 use Rattle.ocf_types.specs.Lemmas.{each_append, each_weaken}
 use Rattle.disk_model.specs.Disk.{DiskView}
+use Rattle.child_model.specs.Children.{is_held}
 use Rattle.child_model.specs.declared.answer.Entry.{Entry}
 use Rattle.exec_ledger.specs.Actives.{Active, active, active_of}
 use Rattle.exec_turn.specs.Picks.{ArePicks, begin_of, begins}
@@ -95,7 +96,7 @@ own_polls mine id at y s ps each bytes apart runs resource =
 -- A turn that ended done, at the moment that was handed in.
 pub record TurnDone {D : Type 0} (now : ℕ) (old new : ExecutorView D) (given : Reply) (effects : Effects) : Type 0 where
   pub done : given ≡ reply.Turn Done
-  pub t : TurnAnswers Done (batch_start old.state (due_in old) old.position (cut now) old.refuses)
+  pub t : TurnAnswers new.children.held Done (batch_start old.state (due_in old) old.position (cut now) old.refuses)
   pub entries : effects.entries ≡ polls (cut now) t.polled ++ starts t.clock t.started
   pub events : effects.events ≡ results (cut now) t.polled ++ (begins (cut now) t.begun ++ refusals (cut now) t.started)
   pub state : new.state ≡ after_all old.state effects.events
@@ -107,11 +108,11 @@ pub turn_done : {D : Type 0} (view : D → DiskView) (now : ℕ) (old new : Exec
 turn_done {D} view now old new given effects clock plain takes =
     let turns = takes.takes.turns in
     let is_done : takes.end ≡ Done = subst IsPlain takes.replies plain in
-    let raw : Whole Done (batch_start old.state (due_in old) old.position (moment old.state now) old.refuses) turns.effects new.reported =
-    subst (λ (e : TurnEnd). IsTurn e
+    let raw : Whole new.children.held Done (batch_start old.state (due_in old) old.position (moment old.state now) old.refuses) turns.effects new.reported =
+    subst (λ (e : TurnEnd). IsTurn new.children.held e
     (batch_start old.state (due_in old) old.position (moment old.state now) old.refuses) turns.effects new.reported) is_done turns.does in
-    let whole : Whole Done (batch_start old.state (due_in old) old.position (cut now) old.refuses) turns.effects new.reported =
-    subst (λ (at : ℕ). Whole Done (batch_start old.state (due_in old) old.position at old.refuses) turns.effects new.reported)
+    let whole : Whole new.children.held Done (batch_start old.state (due_in old) old.position (cut now) old.refuses) turns.effects new.reported =
+    subst (λ (at : ℕ). Whole new.children.held Done (batch_start old.state (due_in old) old.position at old.refuses) turns.effects new.reported)
     (moment_is old.state now clock) raw in
     let batch : effects.events ≡ turns.effects.events = same_events takes.does in record {
       done = takes.replies ∙ ap (λ (e : TurnEnd). reply.Turn e) is_done;
@@ -138,7 +139,7 @@ module _ {D : Type 0} (now : ℕ) (old new : ExecutorView D) (given : Reply) (ef
   following : List Event
   following = begins at turn.t.begun ++ refusals at turn.t.started
 
-  picks : ArePicks moments at mid.next_run mid.resources turn.t.begun
+  picks : ArePicks new.children.held moments at mid.next_run mid.resources turn.t.begun
   unfolding at moments mid
   picks = turn.t.picked.0.0
 
@@ -147,7 +148,7 @@ module _ {D : Type 0} (now : ℕ) (old new : ExecutorView D) (given : Reply) (ef
 
   after_new : AreFresh mid following
   unfolding following
-  after_new = begins_fresh moments at mid.next_run mid.resources turn.t.begun picks mid (refusals at turn.t.started) refl
+  after_new = begins_fresh new.children.held moments at mid.next_run mid.resources turn.t.begun picks mid (refusals at turn.t.started) refl
       (ends_fresh at (refusals at turn.t.started) (refusals_end at turn.t.started))
 
   now_all : AllByRecursion (λ e. e.at ≡ at) (results at turn.t.polled ++ following)
@@ -181,10 +182,10 @@ module _ {D : Type 0} (now : ℕ) (old new : ExecutorView D) (given : Reply) (ef
 
     -- the machine makes its part of the turn
     pub turn_isolated : IsolatedAs y old.state (due_in old) id → AreApart old.state → AreOwn mine id (active old.state)
-        → AllBeginOwn mine id effects.events
+        → AllBeginOwn mine id effects.events → is_held new.children.held id ≡ false
         → IsolatedTurn id (cut now) y given (filter (λ e. mine e.run) effects.entries) (events_of id effects.events)
     unfolding at mid moments following own_begun own_started
-    turn_isolated holds apart runs own =
+    turn_isolated holds apart runs own free =
         let test : Entry → Bool = λ e. mine e.run in
         let polled : List Entry = polls at turn.t.polled in
         let batch : List Event = results at turn.t.polled in
@@ -213,5 +214,5 @@ module _ {D : Type 0} (now : ℕ) (old new : ExecutorView D) (given : Reply) (ef
           goes_on =
               isolated_begins (isolated_after_all y (events_of id batch)) id at turn.t.clock mid.next_run moments
               (resource_at mid id) own_begun own_started there.resource there.due there.runs
-              (chosen moments at mid.next_run mid.resources turn.t.begun id (ids_stay old.state batch results_new apart) picks) what;
+              (chosen new.children.held moments at mid.next_run mid.resources turn.t.begun id free (ids_stay old.state batch results_new apart) picks) what;
         }

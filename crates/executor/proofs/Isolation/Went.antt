@@ -147,4 +147,4 @@ module _ {D : Type 0} (view : D → DiskView) (mine : ℕ → Bool) (id : List �
   call_went at (Finished now end) old new d clock plain does = finish_went old.is_open now end old new d clock plain.0 does
   call_went at (Tidied end) old new d clock plain does = tidy_went old.is_open at end old new d clock does.1 does.0
   call_went at Cleared old new d clock plain does = went_nowhere at old new d clock (ap seen does.0) does.1
-  call_went at Abandoned old new d clock plain does = went_nowhere at old new d clock (ap seen does.0) does.1
+  call_went at Abandoned old new d clock plain does = went_nowhere at old new d clock (ap seen does.0.2) does.1

@@ -187,7 +187,7 @@ module _ {D : Type 0} (view : D → DiskView) where
   -- a turn of a kind, by its label
   turn_so : (kind : TurnKind) (each now : ℕ) (x y : ExecutorView D) (end : TurnEnd) (e : Exchange) (t : MakesTurn kind each view now x y end)
       → MovesTurn kind each end (moment x.state now)
-      (record { exchange = e; answers = t.turns.effects.entries; notices = y.reported; room = x.children.room; position = x.position; faults = ((view x.disk).failures, (view y.disk).failures) })
+      (record { exchange = e; answers = t.turns.effects.entries; notices = y.reported; held = y.children.held; room = x.children.room; position = x.position; faults = ((view x.disk).failures, (view y.disk).failures) })
       (machine_of x) (machine_of y) t.turns.effects
   turn_so kind each now x y end e t = record {
     turns = t.turns.does;
@@ -251,7 +251,7 @@ module _ {D : Type 0} (view : D → DiskView) where
       ((same_entries does.1, refl), one_tidy end x y d t.0 does.1 was)
   moves_open Cleared x y d was does = ((same_entries does.1, refl), (ap machine_of does.0, does.1))
   moves_open Abandoned x y d was does =
-      ((same_entries does.1, refl), (ap (λ (z : ExecutorView D). z.is_open) does.0, does.1))
+      ((same_entries does.1, refl), (ap (λ (z : ExecutorView D). z.is_open) does.0.2, does.1))
 
   moves : (o : Bool) (e : Exchange) (x y : ExecutorView D) (d : Effects) → x.is_open ≡ o → Does view e x y d
       → MovesWhile o (label_in view o e x y d) (machine_of x) (machine_of y) d

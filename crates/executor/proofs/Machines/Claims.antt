@@ -136,9 +136,9 @@ moved : (s : State) (ns ms : List Notice) (es fs : List Event) → ns ≡ ms →
 moved s ns ms es fs same same2 h =
     subst (λ (l : List Notice). AllRecorded s (map Ended l) es) (sym same) (subst (AllRecorded s (map Ended ms)) (sym same2) h)
 
-whole_recorded : (end : TurnEnd) (x : BatchStart) (did : Effects) (reported : List Notice) → Whole end x did reported
+whole_recorded : (held : List (List ℕ)) (end : TurnEnd) (x : BatchStart) (did : Effects) (reported : List Notice) → Whole held end x did reported
     → AllRecorded x.state (map Ended reported) did.events
-whole_recorded end x did reported (t, is, ns) =
+whole_recorded held end x did reported (t, is, ns) =
     let s = x.state in
     let early : List Event = results x.at t.polled ++ begins x.at t.begun in
     moved s reported (result_notices x.at t.polled ++ refusal_notices x.at t.started) did.events (early ++ refusals x.at t.started) ns (same_events is)
@@ -148,28 +148,28 @@ whole_recorded end x did reported (t, is, ns) =
     (begun_recorded s x.at t.polled t.begun)
     (each_recorded (after_all s early) x.at (λ a. a.what) (λ a. refused_end a.answer) t.started)))
 
-turn_recorded : (end : TurnEnd) (x : BatchStart) (did : Effects) (reported : List Notice) → IsTurn end x did reported
+turn_recorded : (held : List (List ℕ)) (end : TurnEnd) (x : BatchStart) (did : Effects) (reported : List Notice) → IsTurn held end x did reported
     → AllRecorded x.state (map Ended reported) did.events
-turn_recorded turn_end.Closed x did reported none = absurd none
-turn_recorded turn_end.BookFull x did reported (is, ns) = moved x.state reported [] did.events [] ns (same_events is) tt
-turn_recorded turn_end.Done x did reported whole = whole_recorded turn_end.Done x did reported whole
-turn_recorded turn_end.RunsSpent x did reported whole = whole_recorded turn_end.RunsSpent x did reported whole
-turn_recorded turn_end.Full x did reported whole = whole_recorded turn_end.Full x did reported whole
-turn_recorded turn_end.Memory x did reported whole = whole_recorded turn_end.Memory x did reported whole
-turn_recorded turn_end.Disk x did reported (inl (ps, _, is, ns)) = moved x.state reported [] did.events [] ns (same_events is) tt
-turn_recorded turn_end.Disk x did reported (inr (inl (ps, end, bs, _, _, is, ns))) =
+turn_recorded held turn_end.Closed x did reported none = absurd none
+turn_recorded held turn_end.BookFull x did reported (is, ns) = moved x.state reported [] did.events [] ns (same_events is) tt
+turn_recorded held turn_end.Done x did reported whole = whole_recorded held turn_end.Done x did reported whole
+turn_recorded held turn_end.RunsSpent x did reported whole = whole_recorded held turn_end.RunsSpent x did reported whole
+turn_recorded held turn_end.Full x did reported whole = whole_recorded held turn_end.Full x did reported whole
+turn_recorded held turn_end.Memory x did reported whole = whole_recorded held turn_end.Memory x did reported whole
+turn_recorded held turn_end.Disk x did reported (inl (ps, _, is, ns)) = moved x.state reported [] did.events [] ns (same_events is) tt
+turn_recorded held turn_end.Disk x did reported (inr (inl (ps, end, bs, _, _, is, ns))) =
     moved x.state reported (result_notices x.at ps) did.events (results x.at ps) ns (same_events is) (results_recorded x.state x.at ps)
-turn_recorded turn_end.Disk x did reported (inr (inr (end, t, is, ns))) =
+turn_recorded held turn_end.Disk x did reported (inr (inr (end, t, is, ns))) =
     moved x.state reported (result_notices x.at t.polled) did.events (results x.at t.polled ++ begins x.at t.begun) ns (same_events is)
     (begun_recorded x.state x.at t.polled t.begun)
 
-finish_recorded : (end : TurnEnd) (x : BatchStart) (did : Effects) (reported : List Notice) → IsFinish end x did reported
+finish_recorded : (held : List (List ℕ)) (end : TurnEnd) (x : BatchStart) (did : Effects) (reported : List Notice) → IsFinish held end x did reported
     → AllRecorded x.state (map Ended reported) did.events
-finish_recorded turn_end.Done x did reported (ps, _, is, ns) =
+finish_recorded held turn_end.Done x did reported (ps, _, is, ns) =
     moved x.state reported (result_notices x.at ps) did.events (results x.at ps) ns (same_events is) (results_recorded x.state x.at ps)
-finish_recorded turn_end.BookFull x did reported (is, ns) = moved x.state reported [] did.events [] ns (same_events is) tt
-finish_recorded turn_end.Disk x did reported (ps, _, is, ns) = moved x.state reported [] did.events [] ns (same_events is) tt
-finish_recorded _ x did reported none = absurd none
+finish_recorded held turn_end.BookFull x did reported (is, ns) = moved x.state reported [] did.events [] ns (same_events is) tt
+finish_recorded held turn_end.Disk x did reported (ps, _, is, ns) = moved x.state reported [] did.events [] ns (same_events is) tt
+finish_recorded held _ x did reported none = absurd none
 
 -- a step without a notice
 unnoticed : (s : State) (cs : List Claim) (ns : List Notice) (es : List Event) → ns ≡ [] → AllRecorded s cs es
@@ -185,11 +185,11 @@ open_recorded (Took (input.Request now (asked.Question q)) r) l m n did h = unno
 open_recorded (Took (input.Request now (asked.Command c)) r) l m n did h =
     unnoticed m.state (acknowledgements now (c ∷ []) (r ∷ [])) l.notices did.events h.0.1 (one_taken l now c r m n did h.1)
 open_recorded (Took (input.Turn now) r) l m n did (end, replies, t) =
-    turn_recorded end (batch_start m.state m.due l.position (moment m.state now) m.refuses) did l.notices t.turns
+    turn_recorded l.held end (batch_start m.state m.due l.position (moment m.state now) m.refuses) did l.notices t.turns
 open_recorded (Batch now cs rs) l m n did h =
     unnoticed m.state (acknowledgements now cs rs) l.notices did.events h.0.1 (takes_recorded l now cs rs m n did h.1)
 open_recorded (Finished now end) l m n did t =
-    finish_recorded end (batch_start m.state m.due l.position (moment m.state now) m.refuses) did l.notices t.turns
+    finish_recorded l.held end (batch_start m.state m.due l.position (moment m.state now) m.refuses) did l.notices t.turns
 open_recorded _ l m n did h = unnoticed m.state [] l.notices did.events h.0.1 tt
 
 closed_claims : (e : Exchange) (ns : List Notice) → AnswersClosed e → ns ≡ [] → acknowledged_in e ++ map Ended ns ≡ []

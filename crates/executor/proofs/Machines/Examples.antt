@@ -1,27 +1,29 @@
 -- Steps that the machine refuses, and claims of which nothing is recorded.
-use Rattle.std.proofs.Common.{◌≡◌, inl, inr, ℕ, ◌<◌, true, false, List, [], ◌∷◌, ◌++◌, length, map, None, Ok, refl, sym, ap, subst, ◌∙◌, arith}
+use Rattle.std.proofs.Common.{◌≡◌, inl, inr, ℕ, ◌+◌, ◌<◌, true, false, List, [], ◌∷◌, ◌++◌, length, map, None, Ok, refl, sym, ap, subst, ◌∙◌, arith}
+use Rattle.std.specs.List.{AllByRecursion}
 use Rattle.ocf_types.specs.Answer.{asked_event, moment, tests}
+use Rattle.ocf_types.specs.Due.{Due, IsPick}
 use Rattle.ocf_types.specs.Kinds.{Event}
 use Rattle.ocf_types.specs.RegistryLemmas.{passed}
 use Rattle.ocf_types.specs.Encoding.{encoded_event}
-use Rattle.ocf_types.specs.State.{State, after_all, empty}
+use Rattle.ocf_types.specs.State.{Registry, State, after_all, empty}
 use Rattle.ocf_types.specs.declared.command.CommandOf.TheVariants as command
 use Rattle.ocf_types.specs.declared.event.Change.TheVariants as change
 use Rattle.ocf_types.specs.declared.reply.Notice.{Notice}
 use Rattle.ocf_types.specs.declared.reply.ReplyOf.TheVariants as reply
 use Rattle.ocf_types.specs.declared.reply.TurnEnd.{TurnEnd}
 use Rattle.ocf_types.specs.declared.reply.TurnEnd.TheVariants as turn_end
-use Rattle.child_model.specs.Children.{start_answer}
+use Rattle.child_model.specs.Children.{is_held, start_answer}
 use Rattle.child_model.specs.declared.answer.Entry.{Entry}
 use Rattle.child_model.specs.declared.answer.Poll.{Poll}
 use Rattle.child_model.specs.declared.answer.Poll.TheVariants as poll
 use Rattle.exec_journal.specs.Position.{first_position}
-use Rattle.exec_ledger.specs.Actives.{active}
-use Rattle.exec_ledger.specs.BatchStarts.{BatchStart, batch_start}
-use Rattle.exec_turn.specs.Picks.{begin_of, begins as begins_at}
+use Rattle.exec_ledger.specs.Actives.{Active, active}
+use Rattle.exec_ledger.specs.BatchStarts.{BatchStart, batch_start, following}
+use Rattle.exec_turn.specs.Picks.{ArePicks, begin_of, begins as begins_at, begun_in}
 use Rattle.exec_turn.specs.Polls.{Polled, entries_of, polls, result_notices, results}
 use Rattle.exec_turn.specs.Starts.{Started, refusal_notices, refusals, starts}
-use Rattle.exec_ledger.specs.Lemmas.{same_entries, same_events}
+use Rattle.exec_ledger.specs.Lemmas.{of_open, same_entries, same_events}
 use Rattle.exec_ledger.specs.Pieces.{Effects}
 use Rattle.exec_turn.specs.Turn.{IsTurn, Whole}
 use Rattle.executor.specs.Incarnations.{Took}
@@ -60,7 +62,7 @@ no_polls at (p ∷ ps) is = absurd (by p.poll (none_before (entries_of at p.who.
 -- a turn at 10, by its end, its answers, the book's capacity and its notices
 abbrev pub turned : TurnEnd → List Entry → ℕ → List Notice → Label
 turned end answers room notices =
-    record { exchange = Took (input.Turn 10) (reply.Turn end); answers = answers; notices = notices; room = room; position = first_position; faults = (0, 0) }
+    record { exchange = Took (input.Turn 10) (reply.Turn end); answers = answers; notices = notices; held = []; room = room; position = first_position; faults = (0, 0) }
 
 -- an open machine with one action in its queue, and none running
 abbrev waiting : Machine
@@ -69,11 +71,11 @@ waiting = record { is_open = true; state = after_all empty (registered ∷ asked
 -- the answers in a turn that ends done
 done_so : (answers : List Entry) (room : ℕ) (notices : List Notice) (m n : Machine) (did : Effects)
     → MovesWhile true (turned turn_end.Done answers room notices) m n did
-    → (x : BatchStart) × (x.state ≡ m.state) × (answers ≡ did.entries) × Whole turn_end.Done x did notices
+    → (x : BatchStart) × (x.state ≡ m.state) × (answers ≡ did.entries) × Whole [] turn_end.Done x did notices
 done_so answers room notices m n did ((end, is, t), memory) =
     let same : end ≡ turn_end.Done = (let reported : reply.Turn turn_end.Done ≡ reply.Turn end = is in cc) in
     let x : BatchStart = batch_start m.state m.due first_position (moment m.state 10) m.refuses in
-    (x, refl, t.answers, subst (λ (e : TurnEnd). IsTurn e x did notices) same t.turns)
+    (x, refl, t.answers, subst (λ (e : TurnEnd). IsTurn [] e x did notices) same t.turns)
 
 -- a notice that no answer gives
 unanswered : (room : ℕ) (a : Notice) (more : List Notice) (m n : Machine) (did : Effects)
@@ -102,6 +104,30 @@ unbegun e room notices n did none moves =
     let each : map (λ p. p.who) t.polled ≡ [] = t.each_polled.each ∙ ap (λ (s : State). active s) here in
     let no_ps = none_mapped (λ (p : Polled). p.who) t.polled each in
     let bad : e ∷ [] ≡ [] = entries ∙ (λ i. polls x.at (no_ps i) ++ starts t.clock (no_xs i)) in
+    cc
+
+-- where all resources are held nothing is begun
+held_rest : (held : List (List ℕ)) (due : Due) (at run : ℕ) (rs : Registry) (bs : List Active)
+    → AllByRecursion (λ e. is_held held e.0 ≡ true) rs → ArePicks held due at run rs bs → bs ≡ []
+held_rest held due at run [] bs all picks = picks
+held_rest held due at run (e ∷ es) bs all (call, rest, next, later, is) =
+    let none : call ≡ None = of_open (call ≡ None) (IsPick e.1 (due e.0) at call) all.0 next in
+    let others = held_rest held due at (run + length (begun_in at run e call)) es rest all.1 later in
+    is ∙ (λ i. begun_in at run e (none i) ++ others i)
+
+-- a start of an agent of a resource that is held
+held_begun : (e : Entry) (room : ℕ) (notices : List Notice) (n : Machine) (did : Effects)
+    → MovesWhile true (record (turned turn_end.Done (e ∷ []) room notices) { held = r1 ∷ [] }) waiting n did → ⊥
+held_begun e room notices n did ((end, is, t), memory) =
+    let same : end ≡ turn_end.Done = (let reported : reply.Turn turn_end.Done ≡ reply.Turn end = is in cc) in
+    let x : BatchStart = batch_start waiting.state waiting.due first_position (moment waiting.state 10) waiting.refuses in
+    let whole : Whole (r1 ∷ []) turn_end.Done x did notices = subst (λ (k : TurnEnd). IsTurn (r1 ∷ []) k x did notices) same t.turns in
+    let no_ps = none_mapped (λ (p : Polled). p.who) whole.0.polled whole.0.each_polled.each in
+    let picks = subst (λ (ps : List Polled). ArePicks (r1 ∷ []) (following x (results x.at ps)).due x.at (following x (results x.at ps)).state.next_run
+    (following x (results x.at ps)).state.resources whole.0.begun) no_ps whole.0.picked.0.0 in
+    let no_bs = held_rest (r1 ∷ []) waiting.due x.at waiting.state.next_run waiting.state.resources whole.0.begun (refl, tt) picks in
+    let no_xs = none_mapped (λ (s : Started). s.what) whole.0.started (whole.0.each_started ∙ no_bs) in
+    let bad : e ∷ [] ≡ [] = t.answers ∙ same_entries whole.1 ∙ (λ i. polls x.at (no_ps i) ++ starts whole.0.clock (no_xs i)) in
     cc
 
 -- the book reported as full where it takes three answers for each resource

@@ -28,7 +28,7 @@ use Rattle.exec_turn.specs.Actives.{result_of}
 use Rattle.exec_turn.specs.Picks.{ArePicks, begin_of, begins, begun_in}
 use Rattle.executor.specs.Histories.{Follow}
 use Rattle.executor.proofs.Isolation.Lists.{each_both, each_first, each_map, each_unmap}
-use Rattle.executor.proofs.Isolation.Picks.{begun_one, picks_ready}
+use Rattle.executor.proofs.Isolation.Picks.{begun_one, next_pick, picks_ready}
 use Rattle.executor.proofs.History.Events.{lookup-own}
 use Rattle.executor.proofs.History.Runs.{running_at, runs_in}
 
@@ -229,13 +229,13 @@ begun_here id (Some y) x is =
     let same : a ≡ b = cc in ap (λ (c : Active). Some c.running) same
 
 -- ids of actions begun are ids of the resources
-begun_key : (P : List ℕ → Type 0) (moments : Due) (at run : ℕ) (rs : Registry) (bs out : List Active)
-    → ArePicks moments at run rs (bs ++ out) → AllByRecursion P (keys_of rs) → AllByRecursion (λ a. P a.id) (bs ++ out)
-begun_key P moments at run [] bs out h keys = subst (AllByRecursion (λ a. P a.id)) (sym h) tt
-begun_key P moments at run (e ∷ es) bs out (call, rest, pick, later, is) keys =
+begun_key : (P : List ℕ → Type 0) (held : List (List ℕ)) (moments : Due) (at run : ℕ) (rs : Registry) (bs out : List Active)
+    → ArePicks held moments at run rs (bs ++ out) → AllByRecursion P (keys_of rs) → AllByRecursion (λ a. P a.id) (bs ++ out)
+begun_key P held moments at run [] bs out h keys = subst (AllByRecursion (λ a. P a.id)) (sym h) tt
+begun_key P held moments at run (e ∷ es) bs out (call, rest, pick, later, is) keys =
     subst (AllByRecursion (λ a. P a.id)) (sym is)
     (each_append (λ a. P a.id) (begun_in at run e call) rest (first call)
-    (begun_key P moments at (run + length (begun_in at run e call)) es [] rest later keys.1))
+    (begun_key P held moments at (run + length (begun_in at run e call)) es [] rest later keys.1))
   where
     one : (o : Option Running) → AllByRecursion (λ a. P a.id) (active_of e.0 o)
     one None = tt
@@ -299,15 +299,16 @@ begun_more s at a bs applies runs apart rest = record {
   apart = IsDistinct-cons bytes_eq a.id (ids_of bs) (each_map (λ k. bytes_eq a.id k ≡ false) (λ b. b.id) bs apart) rest.apart;
 }
 
-pub begins_follow : (moments : Due) (at run : ℕ) (rs : Registry) (bs out : List Active) → ArePicks moments at run rs (bs ++ out)
-    → IsDistinct bytes_eq (keys_of rs)
+pub begins_follow : (held : List (List ℕ)) (moments : Due) (at run : ℕ) (rs : Registry) (bs out : List Active)
+    → ArePicks held moments at run rs (bs ++ out) → IsDistinct bytes_eq (keys_of rs)
     → (s : State) → s.next_run ≡ run → run + length bs ≤ num_max → AllByRecursion (λ e. resource_at s e.0 ≡ Some e.1) rs → BegunSo s at bs
-begins_follow moments at run rs [] out picks apart s next fits is = none_begun s at
-begins_follow moments at run [] (b ∷ bs) out picks apart s next fits is = absurd (let bad : b ∷ (bs ++ out) ≡ [] = picks in cc)
-begins_follow moments at run (e ∷ es) (b ∷ bs) out (None, rest, pick, later, is_all) apart s next fits is =
-    begins_follow moments at (run + 0) es (b ∷ bs) out (subst (ArePicks moments at (run + 0) es) (sym is_all) later)
+begins_follow held moments at run rs [] out picks apart s next fits is = none_begun s at
+begins_follow held moments at run [] (b ∷ bs) out picks apart s next fits is = absurd (let bad : b ∷ (bs ++ out) ≡ [] = picks in cc)
+begins_follow held moments at run (e ∷ es) (b ∷ bs) out (None, rest, pick, later, is_all) apart s next fits is =
+    begins_follow held moments at (run + 0) es (b ∷ bs) out (subst (ArePicks held moments at (run + 0) es) (sym is_all) later)
     (IsDistinct-tail bytes_eq e.0 (keys_of es) apart) s (omega (arith, next)) (omega (arith, fits)) is.1
-begins_follow moments at run (e ∷ es) (b ∷ bs) out (Some call, rest, pick, later, is_all) apart s next fits is =
+begins_follow held moments at run (e ∷ es) (b ∷ bs) out (Some call, rest, is_next, later, is_all) apart s next fits is =
+    let pick = next_pick held moments at e call is_next in
     let one = begun_one (moments e.0) at run e call pick in
     let a : Active = record { id = e.0; running = one.0 } in
     let all : b ∷ (bs ++ out) ≡ a ∷ rest = is_all ∙ ap (λ (l : List Active). l ++ rest) one.1 in
@@ -315,10 +316,10 @@ begins_follow moments at run (e ∷ es) (b ∷ bs) out (Some call, rest, pick, l
     let following : bs ++ out ≡ rest = cc in
     let n : ℕ = run + length (begun_in at run e (Some call)) in
     let counts : length (begun_in at run e (Some call)) ≡ 1 = ap (λ (l : List Active). length l) one.1 in
-    let picks = subst (ArePicks moments at n es) (sym following) later in
+    let picks = subst (ArePicks held moments at n es) (sym following) later in
     let keys = IsDistinct-head bytes_eq e.0 (keys_of es) apart in
     let s2 = after s (begin_of at a) in
-    let rest_so = begins_follow moments at n es bs out picks (IsDistinct-tail bytes_eq e.0 (keys_of es) apart) s2
+    let rest_so = begins_follow held moments at n es bs out picks (IsDistinct-tail bytes_eq e.0 (keys_of es) apart) s2
     (omega (arith, next, counts)) (omega (arith, fits, counts))
     (each_both (λ (x : List ℕ × Resource). bytes_eq e.0 x.0 ≡ false) (λ x. resource_at s x.0 ≡ Some x.1) (λ x. resource_at s2 x.0 ≡ Some x.1)
     (λ x other there. stays_apart s (begin_of at a) e.0 x.0 refl other ∙ there) es
@@ -326,4 +327,4 @@ begins_follow moments at run (e ∷ es) (b ∷ bs) out (Some call, rest, pick, l
     subst (λ (c : Active). BegunSo s at (c ∷ bs)) (sym first)
     (begun_more s at a bs (begin_applies moments at run e call pick s next is.0 (omega (arith, fits)))
     (begin_runs moments at run e call pick s next is.0)
-    (each_first (λ b. bytes_eq e.0 b.id ≡ false) bs out (begun_key (λ k. bytes_eq e.0 k ≡ false) moments at n es bs out picks keys)) rest_so)
+    (each_first (λ b. bytes_eq e.0 b.id ≡ false) bs out (begun_key (λ k. bytes_eq e.0 k ≡ false) held moments at n es bs out picks keys)) rest_so)

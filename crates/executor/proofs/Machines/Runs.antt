@@ -96,21 +96,22 @@ results_follow at s ps each fine =
     (subst (IsDistinct bytes_eq) (ap ids_of (sym each) ∙ map-map (λ (a : Active). a.id) (λ (p : Polled). p.who) ps) all.1)
 
 -- picks, and a prefix of them
-picks_so : (end : TurnEnd) (x : BatchStart) (bs : List Active) → PickedAt end x bs
-    → (out : List Active) × ArePicks x.due x.at x.state.next_run x.state.resources (bs ++ out) × (x.state.next_run + length bs ≤ num_max)
-picks_so turn_end.Done x bs p =
-    ([], subst (ArePicks x.due x.at x.state.next_run x.state.resources) (sym (append-nil bs)) p.0.0, p.0.1.runs)
-picks_so turn_end.RunsSpent x bs p = (p.0.0.next ∷ p.0.0.later, p.0.0.picks, p.0.1.runs)
-picks_so turn_end.Full x bs p = (p.0.0.next ∷ p.0.0.later, p.0.0.picks, p.0.1.runs)
-picks_so turn_end.Memory x bs p = (p.0.0.next ∷ p.0.0.later, p.0.0.picks, p.0.1.runs)
-picks_so turn_end.Closed x bs p = absurd p.0.0
-picks_so turn_end.BookFull x bs p = absurd p.0.0
-picks_so turn_end.Disk x bs p = absurd p.0.0
+picks_so : (held : List (List ℕ)) (end : TurnEnd) (x : BatchStart) (bs : List Active) → PickedAt held end x bs
+    → (out : List Active) × ArePicks held x.due x.at x.state.next_run x.state.resources (bs ++ out) × (x.state.next_run + length bs ≤ num_max)
+picks_so held turn_end.Done x bs p =
+    ([], subst (ArePicks held x.due x.at x.state.next_run x.state.resources) (sym (append-nil bs)) p.0.0, p.0.1.runs)
+picks_so held turn_end.RunsSpent x bs p = (p.0.0.next ∷ p.0.0.later, p.0.0.picks, p.0.1.runs)
+picks_so held turn_end.Full x bs p = (p.0.0.next ∷ p.0.0.later, p.0.0.picks, p.0.1.runs)
+picks_so held turn_end.Memory x bs p = (p.0.0.next ∷ p.0.0.later, p.0.0.picks, p.0.1.runs)
+picks_so held turn_end.Closed x bs p = absurd p.0.0
+picks_so held turn_end.BookFull x bs p = absurd p.0.0
+picks_so held turn_end.Disk x bs p = absurd p.0.0
 
-begun_so : (end : TurnEnd) (x : BatchStart) (bs : List Active) → PickedAt end x bs → Fine x.state → BegunSo x.state x.at bs
-begun_so end x bs picked fine =
-    let p = picks_so end x bs picked in
-    begins_follow x.due x.at x.state.next_run x.state.resources bs p.0 p.1 fine.apart x.state refl p.2
+begun_so : (held : List (List ℕ)) (end : TurnEnd) (x : BatchStart) (bs : List Active) → PickedAt held end x bs → Fine x.state
+    → BegunSo x.state x.at bs
+begun_so held end x bs picked fine =
+    let p = picks_so held end x bs picked in
+    begins_follow held x.due x.at x.state.next_run x.state.resources bs p.0 p.1 fine.apart x.state refl p.2
     (entries_found x.state.resources fine.apart)
 
 refusals_follow : (at : ℕ) (s : State) (bs : List Active) (xs : List Started) → map (λ x. x.what) xs ≡ bs
@@ -120,20 +121,20 @@ refusals_follow at s bs xs each runs apart =
     (each_unmap (RunsHere s) (λ x. x.what) xs (subst (AllByRecursion (RunsHere s)) (sym each) runs))
     (subst (IsDistinct bytes_eq) (ap ids_of (sym each) ∙ map-map (λ (a : Active). a.id) (λ (x : Started). x.what) xs) apart)
 
-two_follow : (end : TurnEnd) (x : BatchStart) (ps : List Polled) (bs : List Active) → EachPolled x ps
-    → PickedAt end (following x (results x.at ps)) bs
+two_follow : (held : List (List ℕ)) (end : TurnEnd) (x : BatchStart) (ps : List Polled) (bs : List Active) → EachPolled x ps
+    → PickedAt held end (following x (results x.at ps)) bs
     → Fine x.state → Follow x.state (results x.at ps ++ begins x.at bs)
-two_follow end x ps bs polled picked fine =
+two_follow held end x ps bs polled picked fine =
     let one = results_follow x.at x.state ps polled.each fine in
     follow_both x.state (results x.at ps) (begins x.at bs) one
-    (begun_so end (following x (results x.at ps)) bs picked (fine_on x.state (results x.at ps) one fine)).follow
+    (begun_so held end (following x (results x.at ps)) bs picked (fine_on x.state (results x.at ps) one fine)).follow
 
-three_follow : (end : TurnEnd) (x : BatchStart) (t : TurnAnswers end x) → Fine x.state
+three_follow : (held : List (List ℕ)) (end : TurnEnd) (x : BatchStart) (t : TurnAnswers held end x) → Fine x.state
     → Follow x.state (results x.at t.polled ++ begins x.at t.begun ++ refusals x.at t.started)
-three_follow end x t fine =
+three_follow held end x t fine =
     let es = results x.at t.polled in
     let one = results_follow x.at x.state t.polled t.each_polled.each fine in
-    let two = begun_so end (following x es) t.begun t.picked (fine_on x.state es one fine) in
+    let two = begun_so held end (following x es) t.begun t.picked (fine_on x.state es one fine) in
     subst (Follow x.state) (sym (append_assoc es (begins x.at t.begun) (refusals x.at t.started)))
     (follow_both x.state es (begins x.at t.begun ++ refusals x.at t.started) one
     (follow_both (after_all x.state es) (begins x.at t.begun) (refusals x.at t.started) two.follow
@@ -158,42 +159,42 @@ some_pending s es fs events pending is rest follow = record {
   whole = λ none. absurd (none refl);
 }
 
-whole_follows : (end : TurnEnd) (x : BatchStart) (did : Effects) (reported : List Notice) → Whole end x did reported
+whole_follows : (held : List (List ℕ)) (end : TurnEnd) (x : BatchStart) (did : Effects) (reported : List Notice) → Whole held end x did reported
     → TurnFollows end x.state did.events did.pending
-whole_follows end x did reported (t, is, reported_is) =
-    all_recorded end x.state _ did.events did.pending (same_events is) (same_pending is) (three_follow end x t)
+whole_follows held end x did reported (t, is, reported_is) =
+    all_recorded end x.state _ did.events did.pending (same_events is) (same_pending is) (three_follow held end x t)
 
-turn_follows : (end : TurnEnd) (x : BatchStart) (did : Effects) (reported : List Notice) → IsTurn end x did reported
+turn_follows : (held : List (List ℕ)) (end : TurnEnd) (x : BatchStart) (did : Effects) (reported : List Notice) → IsTurn held end x did reported
     → TurnFollows end x.state did.events did.pending
-turn_follows turn_end.Closed x did reported bad = absurd bad
-turn_follows turn_end.BookFull x did reported (is, none) =
+turn_follows held turn_end.Closed x did reported bad = absurd bad
+turn_follows held turn_end.BookFull x did reported (is, none) =
     all_recorded turn_end.BookFull x.state [] did.events did.pending (same_events is) (same_pending is) (λ fine. tt)
-turn_follows turn_end.Done x did reported does = whole_follows turn_end.Done x did reported does
-turn_follows turn_end.RunsSpent x did reported does = whole_follows turn_end.RunsSpent x did reported does
-turn_follows turn_end.Full x did reported does = whole_follows turn_end.Full x did reported does
-turn_follows turn_end.Memory x did reported does = whole_follows turn_end.Memory x did reported does
-turn_follows turn_end.Disk x did reported (inl (ps, polled, is, reported_is)) =
+turn_follows held turn_end.Done x did reported does = whole_follows held turn_end.Done x did reported does
+turn_follows held turn_end.RunsSpent x did reported does = whole_follows held turn_end.RunsSpent x did reported does
+turn_follows held turn_end.Full x did reported does = whole_follows held turn_end.Full x did reported does
+turn_follows held turn_end.Memory x did reported does = whole_follows held turn_end.Memory x did reported does
+turn_follows held turn_end.Disk x did reported (inl (ps, polled, is, reported_is)) =
     some_pending x.state [] (results x.at ps) did.events did.pending (same_events is) (same_pending is)
     (λ fine. results_follow x.at x.state ps polled.each fine)
-turn_follows turn_end.Disk x did reported (inr (inl (ps, end, bs, polled, picked, is, reported_is))) =
+turn_follows held turn_end.Disk x did reported (inr (inl (ps, end, bs, polled, picked, is, reported_is))) =
     some_pending x.state (results x.at ps) (begins x.at bs) did.events did.pending (same_events is) (same_pending is)
-    (two_follow end x ps bs polled picked)
-turn_follows turn_end.Disk x did reported (inr (inr (end, t, is, reported_is))) =
+    (two_follow held end x ps bs polled picked)
+turn_follows held turn_end.Disk x did reported (inr (inr (end, t, is, reported_is))) =
     some_pending x.state (results x.at t.polled ++ begins x.at t.begun) (refusals x.at t.started) did.events did.pending (same_events is)
-    (same_pending is) (three_follow end x t)
+    (same_pending is) (three_follow held end x t)
 
 -- those of a turn that begins nothing
-finish_follows : (end : TurnEnd) (x : BatchStart) (did : Effects) (reported : List Notice) → IsFinish end x did reported
+finish_follows : (held : List (List ℕ)) (end : TurnEnd) (x : BatchStart) (did : Effects) (reported : List Notice) → IsFinish held end x did reported
     → TurnFollows end x.state did.events did.pending
-finish_follows turn_end.Done x did reported (ps, polled, is, reported_is) =
+finish_follows held turn_end.Done x did reported (ps, polled, is, reported_is) =
     all_recorded turn_end.Done x.state (results x.at ps) did.events did.pending (same_events is) (same_pending is)
     (λ fine. results_follow x.at x.state ps polled.each fine)
-finish_follows turn_end.BookFull x did reported (is, none) =
+finish_follows held turn_end.BookFull x did reported (is, none) =
     all_recorded turn_end.BookFull x.state [] did.events did.pending (same_events is) (same_pending is) (λ fine. tt)
-finish_follows turn_end.Disk x did reported (ps, polled, is, reported_is) =
+finish_follows held turn_end.Disk x did reported (ps, polled, is, reported_is) =
     some_pending x.state [] (results x.at ps) did.events did.pending (same_events is) (same_pending is)
     (λ fine. results_follow x.at x.state ps polled.each fine)
-finish_follows _ x did reported bad = absurd bad
+finish_follows held _ x did reported bad = absurd bad
 
 -- The events of calls, from one machine to another: they apply, and they lead to its state where it is open.
 pub record Went (m n : Machine) (did : Effects) : Type 0 where
@@ -253,11 +254,11 @@ moves_open (Took (input.Request now (asked.Command c)) reply) l m n did opened (
 moves_open (Took (input.Request now (asked.Command c)) reply) l m n did opened (quiet, inr full) = goes_on m n [] did opened full.4 (λ fine. tt)
 moves_open (Took (input.Turn now) reply) l m n did opened (end, replies, t) =
     turn_went IsTurn 3 end (moment m.state now) l m n did opened t
-    (turn_follows end (batch_start m.state m.due l.position (moment m.state now) m.refuses) did l.notices t.turns)
+    (turn_follows l.held end (batch_start m.state m.due l.position (moment m.state now) m.refuses) did l.notices t.turns)
 moves_open (Batch now cs rs) l m n did opened takes = takes_all l m n now cs rs did opened takes.1
 moves_open (Finished now end) l m n did opened t =
     turn_went IsFinish 2 end (moment m.state now) l m n did opened t
-    (finish_follows end (batch_start m.state m.due l.position (moment m.state now) m.refuses) did l.notices t.turns)
+    (finish_follows l.held end (batch_start m.state m.due l.position (moment m.state now) m.refuses) did l.notices t.turns)
 moves_open (Tidied end) l m n did opened (quiet, ends) = tidied end l m n did opened ends
 moves_open Cleared l m n did opened crash = goes_on m n [] did opened crash.1 (λ fine. tt)
 moves_open Abandoned l m n did opened fails = went_wrong m n [] [] did opened fails.1.0 fails.1.1 (λ fine. tt)

@@ -63,6 +63,7 @@ module _ (p : Position) (fits : IsTooLong p.tail (begins_at 10 (begun ∷ [])) �
     exchange = Took (input.Request 0 (asked.Command (command.Exec r1 (task Start plain) 20000))) (acknowledged (exec_event 1).change);
     answers = [];
     notices = [];
+    held = [];
     room = 256;
     position = p;
     faults = (0, 0);
@@ -73,6 +74,7 @@ module _ (p : Position) (fits : IsTooLong p.tail (begins_at 10 (begun ∷ [])) �
     exchange = Took (input.Turn 10) (reply.Turn turn_end.Done);
     answers = answer ∷ [];
     notices = [];
+    held = [];
     room = 256;
     position = p;
     faults = (0, 0);
@@ -92,7 +94,7 @@ module _ (p : Position) (fits : IsTooLong p.tail (begins_at 10 (begun ∷ [])) �
     λ bad. absurd (cc),
   )
 
-  abbrev reported : TurnAnswers turn_end.Done (batch_start with_action.state with_action.due p 10 false)
+  abbrev reported : TurnAnswers [] turn_end.Done (batch_start with_action.state with_action.due p 10 false)
   reported = record {
     polled = [];
     begun = begun ∷ [];

@@ -6,7 +6,7 @@ use Rattle.ocf_types.specs.Due.{due_at}
 use Rattle.ocf_types.specs.Lemmas.{quiet}
 use Rattle.ocf_types.specs.State.{State, after}
 use Rattle.ocf_types.specs.declared.reply.Notice.{Notice}
-use Rattle.child_model.specs.Children.{Admits, ChildrenView, given_up}
+use Rattle.child_model.specs.Children.{Admits, AllEnded, ChildrenView}
 use Rattle.disk_model.specs.Image.{Image}
 use Rattle.disk_model.specs.Lemmas.{joined, passed_on, supposed, weakened}
 use Rattle.disk_model.specs.Runs.{CrashesTo}
@@ -91,7 +91,7 @@ module _ (old new : DiskView) (from : ChildrenView) (now : ℕ) where
       never_full journal.Memory is = cc
 
 -- memory was refused once the journal was opened, and the children were given up
-pub unready_memory : (old new : DiskView) (from to : ChildrenView) (now : ℕ) → Opens old new → to ≡ given_up from
+pub unready_memory : (old new : DiskView) (from to : ChildrenView) (now : ℕ) → Opens old new → AllEnded from to
     → (new.honest → IsOwn old.reads from) → (new.honest → IsForeign old.reads from → ⊥) → NotOpened old new from to now why.Memory
 unready_memory old new from to now opens kids theirs own = record {
   did = read_only old new now opens.crash opens.reserved opens.unwritten;
@@ -160,7 +160,7 @@ module _ {D : Type 0} (view : D → DiskView) (law : JournalLemmas) (once : (c :
   pub report_refused : (d : D) (to : ChildrenView) → d ≡ mid.disk → to ≡ mid.children → NotOpened old (view d) from to now why.Memory
   report_refused d to same kids =
       subst (λ (x : D). NotOpened old (view x) from to now why.Memory) (sym same)
-      (unready_memory old (view mid.disk) from to now opens.opens (kids ∙ over.children)
+      (unready_memory old (view mid.disk) from to now opens.opens (subst (AllEnded from) (sym kids) over.children)
       (λ h. record { state = mid.state; found = opens.found h; earlier = over.rising })
       (λ h. own_children once old.reads mid.state from (opens.found h) over.rising))
 
@@ -229,7 +229,7 @@ module _ {D : Type 0} (view : D → DiskView) (law : JournalLemmas) (once : (c :
         let honest_new : (view final.disk).honest → (view new.disk).honest = λ h. subst (λ (d : D). (view d).honest) disk h in
         let done : final.state ≡ booted mid.state now = state ∙ boots.state in
         let quiet_now : any_busy final.state ≡ false = ap any_busy done ∙ boot_quiet mid.state (moment mid.state now) in
-        let given : final.children ≡ given_up from = kids ∙ over.children in
+        let given : AllEnded from final.children = subst (AllEnded from) (sym kids) over.children in
         let next = ap (λ (u : State). u.next_run) done ∙ boot_next mid.state (moment mid.state now) in
         let low = over.rising in
         let rising : from.last_run < final.state.next_run = omega (arith, next, low) in record {
@@ -240,8 +240,9 @@ module _ {D : Type 0} (view : D → DiskView) (law : JournalLemmas) (once : (c :
                 (subst (λ (s : State). IsInSync new.position s (view final.disk)) (sym state)
                 (subst (λ (d : D). IsInSync new.position new.state (view d)) (sym disk) (boots.settled (honest_new h))));
             reserve = λ busy. absurd (true≢false (sym busy ∙ quiet_now));
-            matched = subst (λ (v : ChildrenView). ChildrenMatch final.state v) (sym given) (quiet_matched final.state from quiet_now rising);
-            admits = subst (λ (v : ChildrenView). Admits v.site final.site) (sym given) admits;
+            matched =
+                subst (λ (v : ChildrenView). ChildrenMatch final.state v) (sym given.1) (quiet_matched final.state from given.0 quiet_now rising);
+            admits = subst (λ (v : ChildrenView). Admits v.site final.site) (sym given.1) admits;
           };
           starts = λ h. record {
             state = mid.state;
@@ -262,10 +263,10 @@ module _ {D : Type 0} (view : D → DiskView) (law : JournalLemmas) (once : (c :
         → to ≡ mid.children → NotOpened old (view d) from to now (reported_slot fault)
     boot_refused fault d to boots same kids = subst (λ (x : D). NotOpened old (view x) from to now (reported_slot fault)) (sym same) (record {
       did = did_both boots.crash boots.reserved boots.quiet;
-      children = inr (kids ∙ over.children);
-      full_given_up = λ is. kids ∙ over.children;
+      children = inr gone;
+      full_given_up = λ is. gone;
       kept_unbooted = inr (
-        kids ∙ over.children,
+        gone,
         λ h.
             record { state = mid.state; found = opens.found (boots.crash.passed.honest h); earlier = over.rising },
       );
@@ -290,6 +291,9 @@ module _ {D : Type 0} (view : D → DiskView) (law : JournalLemmas) (once : (c :
           subst (λ (x : D). CrashesTo old (view x) (OpensLike old)) (sym (boots.unwritten (ap Err (else_full fault not_disk)))) opens.opens.crash;
     })
       where
+        gone : AllEnded from to
+        gone = subst (AllEnded from) (sym kids) over.children
+
         own : (view new.disk).honest → IsForeign old.reads from → ⊥
         own h = own_children once old.reads mid.state from (opens.found (boots.crash.passed.honest h)) over.rising
 

@@ -1,10 +1,11 @@
 -- A session is the calls of its inputs.
-use Rattle.std.proofs.Common.{List, [], ◌∷◌}
+use Rattle.std.proofs.Common.{ℕ, List, [], ◌∷◌}
 use Rattle.ocf_types.specs.Kinds.{Reply}
 use Rattle.disk_model.specs.Disk.{DiskView}
 use Rattle.executor.specs.Joins.{as_calls}
 use Rattle.executor.specs.Incarnations.{Calls}
 use Rattle.exec_ledger.specs.Pieces.{Effects}
+use Rattle.executor.specs.Projections.{IsFree, IsFreeSession}
 use Rattle.executor.specs.Sessions.{Input, Session}
 use Rattle.executor.specs.ExecutorView.{ExecutorView}
 
@@ -15,3 +16,13 @@ lemma_session_is_calls view x z [] (r ∷ rs) d session = absurd session
 lemma_session_is_calls view x z (i ∷ is) [] d session = absurd session
 lemma_session_is_calls view x z (i ∷ is) (r ∷ rs) d (mid, first, later, takes, rest, all) =
     (mid, first, later, takes, lemma_session_is_calls view mid z is rs later rest, all)
+
+-- a resource that is not held in its inputs is not held in these calls
+pub free_calls : {D : Type 0} (view : D → DiskView) (id : List ℕ) (x z : ExecutorView D) (is : List Input) (rs : List Reply) (d : Effects)
+    (session : Session view x is rs z d) → IsFreeSession view id x is rs z d session
+    → IsFree view id x (as_calls is rs) z d (lemma_session_is_calls view x z is rs d session)
+unfolding lemma_session_is_calls
+free_calls view id x z [] [] d session free = tt
+free_calls view id x z [] (r ∷ rs) d session free = absurd session
+free_calls view id x z (i ∷ is) [] d session free = absurd session
+free_calls view id x z (i ∷ is) (r ∷ rs) d (mid, first, later, takes, rest, all) free = (free.0, free_calls view id mid z is rs later rest free.1)

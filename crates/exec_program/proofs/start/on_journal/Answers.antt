@@ -9,8 +9,8 @@ start_agents-requires g c =
     record {
       may = ⊎_elim
           (λ (is : o.subcommand ≡ subcommand.Run).
-          allows_as (g.H.Host.asked c.args.host.now) g.H.Files.Disk.view (g.H.Host.may c.args.host.now) o o.subcommand subcommand.Run is c.requires.may)
+          allows_as (g.H.Host.asked c.args.host.now) (g.H.Host.may c.args.host.now) o o.subcommand subcommand.Run is c.requires.may)
           (λ (is : o.subcommand ≡ subcommand.Serve).
-          allows_as (g.H.Host.asked c.args.host.now) g.H.Files.Disk.view (g.H.Host.may c.args.host.now) o o.subcommand subcommand.Serve is c.requires.may)
+          allows_as (g.H.Host.asked c.args.host.now) (g.H.Host.may c.args.host.now) o o.subcommand subcommand.Serve is c.requires.may)
           c.in-Run.is;
     }

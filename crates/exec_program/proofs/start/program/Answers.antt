@@ -6,14 +6,14 @@ use Rattle.exec_program.proofs.start.program.Goals as goal
 
 pub on_journal-requires : goal.on_journal-requires
 on_journal-requires g c = record {
-  may = allows_journal (g.H.Host.asked c.args.host.now) g.H.Files.Disk.view (option_map (λ s. s.now) c.args.named) (map string_bytes c.args.arguments.now)
+  may = allows_journal (g.H.Host.asked c.args.host.now) (option_map (λ s. s.now) c.args.named) (map string_bytes c.args.arguments.now)
       (g.H.Host.may c.args.host.now) c.in-Ok-Journal.field-0 c.in-Ok-Journal.options c.in-Ok-Journal.ensures.ok c.in-Ok-Journal.field-0-is
       c.requires.may;
 }
 
 pub once-requires : goal.once-requires
 once-requires g c =
-    allows_once (g.H.Host.asked c.args.host.now) g.H.Files.Disk.view (option_map (λ s. s.now) c.args.named) (map string_bytes c.args.arguments.now)
+    allows_once (g.H.Host.asked c.args.host.now) (option_map (λ s. s.now) c.args.named) (map string_bytes c.args.arguments.now)
     (g.H.Host.may c.args.host.now) c.in-Ok-Once.field-0 c.in-Ok-Once.options c.in-Ok-Once.ensures.ok c.in-Ok-Once.field-0-is c.requires.may
 
 pub refuse-requires : goal.refuse-requires

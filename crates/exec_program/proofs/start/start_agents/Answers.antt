@@ -1,9 +1,7 @@
 use Rattle.std.proofs.Common.{ap, inl, inr, option_map, refl, subst}
 use Rattle.exec_options.specs.Arguments.{directory_of}
-use Rattle.file_disk.specs.RamDisk.{view_of}
 use Rattle.exec_program.specs.Requests.{OpenFiles, OpenLog}
 use Rattle.exec_program.proofs.ProgramLemmas.{runs_in_memory}
-use Rattle.exec_program.proofs.RequestLemmas.{allows_in_memory, allows_on_files}
 use Rattle.exec_program.proofs.start.start_agents.Goals as goal
 
 pub log-requires : goal.log-requires
@@ -12,16 +10,6 @@ log-requires g c =
 
 pub files-requires : goal.files-requires
 files-requires g c = c.requires.may (OpenFiles c.args.options c.in-Directory.directory.now) (inl (refl, ap directory_of c.in-Directory.is))
-
-pub serve_agents-requires-clause-may : goal.serve_agents-requires-clause-may
-serve_agents-requires-clause-may g c =
-    allows_on_files (g.H.Host.asked c.args.host.now) g.H.Files.Disk.view (g.H.Host.may c.args.host.now) c.args.options
-    c.in-Directory.directory c.in-Ok-files.disk c.in-Directory.is c.in-Ok-files.ensures.files c.requires.may
-
-pub serve_agents-requires-in-Memory-clause-may : goal.serve_agents-requires-in-Memory-clause-may
-serve_agents-requires-in-Memory-clause-may g c =
-    allows_in_memory (g.H.Host.asked c.args.host.now) g.H.Files.Disk.view view_of (g.H.Host.may c.args.host.now) c.args.options
-    c.new.result c.in-Memory.is c.requires.may
 
 pub returns-in-Memory-clause-runs : goal.returns-in-Memory-clause-runs
 returns-in-Memory-clause-runs g c = inr (inr (

@@ -1,4 +1,5 @@
 use Rattle.std.proofs.Common.{ap, subst, sym, ◌∙◌}
+use Rattle.child_model.specs.Children.{AllEnded, ChildrenView}
 use Rattle.executor.specs.ExecutorView.{ExecutorView}
 use Rattle.exec_client.proofs.Growing.{abandoned_holds, all_still_hold}
 use Rattle.exec_client.specs.MaySend.{IsBacked}
@@ -26,8 +27,11 @@ returns-clause-ends g c =
       ends =
           ends_from view source rules _ _ _ _ _ c.answer_lines-ended.result c.new-session.ensures.point
           (sym c.into_parts-edge.ensures.parts) c.answer_lines-ended.ensures.ends;
-      disk_is = c.close-disk.ensures.disk ∙ ap (λ (x : ExecutorView g.row.D.Denot). x.disk) c.abandon.ensures.abandoned;
-      children_are = c.close-disk.ensures.children ∙ ap (λ (x : ExecutorView g.row.D.Denot). x.children) c.abandon.ensures.abandoned;
+      disk_is = c.close-disk.ensures.disk ∙ ap (λ (x : ExecutorView g.row.D.Denot). x.disk) c.abandon.ensures.abandoned.2;
+      children_are =
+          subst (AllEnded executor.children)
+          (sym (c.close-disk.ensures.children ∙ ap (λ (x : ExecutorView g.row.D.Denot). x.children) c.abandon.ensures.abandoned.2))
+          c.abandon.ensures.abandoned.1;
     }
 
 pub returns-clause-reported : goal.returns-clause-reported
@@ -42,7 +46,7 @@ returns-clause-reported g c =
     record {
       last = last;
       holds = subst (λ (o : ExecutorView g.row.D.Denot). IsBacked view o last edge.client_view.reported) opened holds;
-      is_closed = ap (λ (x : ExecutorView g.row.D.Denot). x.is_open) c.abandon.ensures.abandoned;
+      is_closed = ap (λ (x : ExecutorView g.row.D.Denot). x.is_open) c.abandon.ensures.abandoned.2;
       disk_is = c.close-disk.ensures.disk;
       children_are = c.close-disk.ensures.children;
     }

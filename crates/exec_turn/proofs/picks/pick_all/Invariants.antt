@@ -14,7 +14,7 @@ invariant-loop-index g l =
     let s = l.state.state in
     let begun = actions_of_starts l.starts.items in
     record {
-      so_far : SoFar s (dues l.state) (journal_position l.journal).tail l.at l.index l.run begun;
+      so_far : SoFar (g.C.Children.view l.children).held s (dues l.state) (journal_position l.journal).tail l.at l.index l.run begun;
       batch : l.batch.items ≡ begins l.at begun;
       are_starts : AllByRecursion (IsStart l.site s) l.starts.items;
       len : l.len ≡ length (encoded_batch l.batch.items);

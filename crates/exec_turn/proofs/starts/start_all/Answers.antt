@@ -23,6 +23,7 @@ loop-start-init g c = record {
   rising = c.requires.rising;
   few = omega (arith, c.requires.few);
   room = omega (arith, c.requires.room);
+  ended = c.requires.ended;
   site = refl;
   batch_len = omega (arith, c.clear.ensures.len);
   notice_len = omega arith;
@@ -77,6 +78,7 @@ loop-start-preserved g c =
       few = let live = ap (λ (v : ChildrenView). length v.live) started.1 in
           omega (arith, inv.few, live, one_live x.running.run old.live answer);
       room = let left = ap (λ (v : ChildrenView). v.room) started.1 in omega (arith, inv.room, left);
+      ended = ap (λ (v : ChildrenView). v.given_up) started.1 ∙ inv.ended;
       site = ap (λ (v : ChildrenView). v.site) started.1 ∙ inv.site;
       batch_len = omega (arith, inv.batch_len, c.start_one.ensures.batch.few);
       notice_len = omega (arith, inv.notice_len, c.start_one.ensures.notices.few);

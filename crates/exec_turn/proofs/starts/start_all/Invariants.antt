@@ -1,4 +1,4 @@
-use Rattle.std.proofs.Common.{◌≡◌, ◌≤◌, ◌+◌, ◌++◌, List, take, drop, length, vec_len}
+use Rattle.std.proofs.Common.{◌≡◌, ◌≤◌, ◌+◌, ◌++◌, [], List, take, drop, length, vec_len}
 use Rattle.std.specs.Vec.{vec_capacity}
 use Rattle.ocf_types.specs.declared.reply.Notice.{Notice}
 use Rattle.child_model.specs.Children.{live_limit}
@@ -19,6 +19,7 @@ invariant-loop-start g l =
       rising : Rising (view l.children).last_run (actions_of_starts (drop i l.starts));
       few : length (view l.children).live + length l.starts ≤ live_limit + i;
       room : length l.starts ≤ (view l.children).room + i;
+      ended : (view l.children).given_up ≡ [];
       site : (view l.children).site ≡ (view l.fn.children).site;
       batch_len : vec_len l.batch ≤ i;
       notice_len : vec_len l.notices ≤ vec_len l.fn.notices + i;

@@ -13,9 +13,9 @@ pub returns-in_err-parent-clause-none : goal.returns-in_err-parent-clause-none
 returns-in_err-parent-clause-none c =
     rw c.from_residual-in_err-parent.ensures (λ p is. c.in_err-parent.ensures.none is.parent.0 is.parent.1)
 
-pub returns-in_err-session-clause-none : goal.returns-in_err-session-clause-none
-returns-in_err-session-clause-none c =
-    rw c.from_residual-in_err-session.ensures (λ p is. c.in_err-session.ensures.none is.session.0 is.session.1)
+pub returns-in_err-group-clause-none : goal.returns-in_err-group-clause-none
+returns-in_err-group-clause-none c =
+    rw c.from_residual-in_err-group.ensures (λ p is. c.in_err-group.ensures.none is.group.0 is.group.1)
 
 pub returns-in_err-start-clause-none : goal.returns-in_err-start-clause-none
 returns-in_err-start-clause-none c =
@@ -29,7 +29,7 @@ returns-in_err-id_of-2-clause-none c =
 pub returns-in_err-id_of-3-clause-none : goal.returns-in_err-id_of-3-clause-none
 returns-in_err-id_of-3-clause-none c =
     rw c.from_residual-in_err-id_of-3.ensures (λ p is.
-    no_number 32 c.args.fields.now c.in_ok-session.session.now 6 c.in_ok-session.ensures.some c.in_err-id_of-3.ensures.none p.session is.session)
+    no_number 32 c.args.fields.now c.in_ok-group.group.now 5 c.in_ok-group.ensures.some c.in_err-id_of-3.ensures.none p.group is.group)
 
 pub returns-in_err-number_of-clause-none : goal.returns-in_err-number_of-clause-none
 returns-in_err-number_of-clause-none c =

@@ -1,6 +1,8 @@
-use Rattle.std.proofs.Common.{◌≡◌, ap, arith, length, not, rules, sym, vec_len, ◌∙◌}
+use Rattle.std.proofs.Common.{◌≡◌, ap, arith, length, not, refl, rules, sym, vec_len, ◌∙◌}
 use Rattle.std.specs.Prelude.{◌==◌}
 use Rattle.std.proofs.lemmas.Fn.{filter_same}
+use Rattle.std.proofs.lemmas.List.{length-map}
+use Rattle.child_model.specs.Lemmas.{fewer}
 use Rattle.child_keeper.specs.Agents.{others_of, runs_of}
 use Rattle.child_keeper.proofs.AgentLemmas.{run_at, runs-others, taken}
 use Rattle.child_keeper.proofs.agents.Agents.take.Goals as goal
@@ -16,8 +18,20 @@ returns g c =
     (filter_same _ (λ a. not (a.run == c.args.run)) _ (λ x b f' t. search rules) _ _ c.retain.ensures.filtered) in
     let size : length children ≡ vec_len c.args.self.now.agents = search rules in
     let run_is = ap (λ a. a.run) c.remove-agent.ensures.value ∙ run_at (λ a. a.run) c.args.run index children agent at in
+    let gone = ap runs_of others ∙ runs-others (λ a. a.run) c.args.run children in
+    let left : length c.retain.new.self.items ≡ vec_len c.retain.new.self = search rules in
     record {
-      gone = ap runs_of others ∙ runs-others (λ a. a.run) c.args.run children;
+      gone = gone;
+      fewer = omega (
+        arith,
+        size,
+        left,
+        length-map children (λ a. a.run),
+        length-map c.retain.new.self.items (λ a. a.run),
+        ap length gone,
+        fewer c.args.run (runs_of children) c.requires.lives,
+      );
+      given_up = refl;
       agent = (index, omega (arith, size, c.index-index.ensures.within), sym c.remove-agent.ensures.value);
       run = run_is;
       others = others;

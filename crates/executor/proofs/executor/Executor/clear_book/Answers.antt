@@ -11,6 +11,6 @@ invariant_of-self g c is_open =
     let tends = c.self.invariant is_open in
     subst (λ (v : ChildrenView). ChildrenKeep (executor_view x.ledger v x.site (turn_notices x.buffers) (remembered_report x.opening_report))) (sym c.clear_book.ensures.emptied)
     (record {
-      matched = record { agents_live = tends.matched.agents_live; rising = tends.matched.rising };
+      matched = record { agents_live = tends.matched.agents_live; ended = tends.matched.ended; rising = tends.matched.rising };
       admits = tends.admits;
     })

@@ -41,7 +41,7 @@ returns g c =
       full = turn.full;
       unchanged = λ is.
           let same = turn.unchanged is in
-          let none = (subst (λ (end : TurnEnd). IsTurn end (batch_start_of e.ledger (moment e.ledger.state c.args.now)) turn.turns.effects y.reported) is
+          let none = (subst (λ (end : TurnEnd). IsTurn y.children.held end (batch_start_of e.ledger (moment e.ledger.state c.args.now)) turn.turns.effects y.reported) is
           turn.turns.does).1 in
           λ i. executor_view (same.0 i) (g.C.Children.view (same.1 i)) e.site (none i) (remembered_report e.opening_report);
       closes = turn.closes;

@@ -1,0 +1,38 @@
+use Rattle.std.proofs.Common.{◌∙◌, ℕ, List, Option, inl, inr, ap, not, refl, subst}
+use Rattle.ocf_env.specs.Locations.{SiteView}
+use Rattle.exec_commands.specs.declared.left.Left.{Left}
+use Rattle.exec_session.specs.Rules.{rules_of}
+use Rattle.exec_program.specs.Requests.{AskSite, OpenWriter, RecordMoment}
+use Rattle.exec_program.specs.Runs.{IsHeldTo}
+use Rattle.exec_program.proofs.RunLemmas.{edge_begins, ended_from}
+use Rattle.exec_program.proofs.lines.answer_lines.Goals as goal
+
+pub record_moment-requires : goal.record_moment-requires
+record_moment-requires g c = record { may = λ directory is. c.requires.may (RecordMoment directory) (inl is) }
+
+pub source-source-requires : goal.source-source-requires
+source-source-requires g c = c.requires.may (AskSite _ _) (inr (inl (c.requires.site, refl)))
+
+pub writer-requires : goal.writer-requires
+writer-requires g c = c.requires.may (OpenWriter _) (inr (inr c.served_directory.ensures))
+
+pub returns-clause-runs : goal.returns-clause-runs
+returns-clause-runs g c = record {
+  source = c.source-source.result;
+  writer = c.writer.result;
+  rules = rules_of c.context_of-context.result;
+  edge = c.run_lines-run.result.edge;
+  of_site = subst (λ (x : SiteView). (g.H.Host.asked c.args.host.now).source x (not c.args.options.no_groups) c.source-source.result) c.requires.site c.source-source.ensures;
+  writes = subst (λ (x : Option (List ℕ)). (g.H.Host.asked c.args.host.now).writer x c.writer.result) c.served_directory.ensures c.writer.ensures;
+  held = subst (λ (x : List Left). IsHeldTo c.args.options x (rules_of c.context_of-context.result)) c.as_slice.ensures.value c.context_of-context.ensures.held;
+  runs = ended_from g.D.Disk.view g.H.Agents.Children.view g.H.Source.Metadata.gives c.context_of-context.result.metadata.now c.source-source.result
+      (rules_of c.context_of-context.result) c.args.opened.1 c.args.opened.0 c.new-edge.result _ c.run_lines-run.result.edge
+      c.run_lines-run.result.ended c.run_lines-run.result.disk c.run_lines-run.result.children c.context_of-context.ensures.metadata
+      (edge_begins c.new-edge.result (g.H.Reader.Read.remaining c.args.parts.reader) c.new-client.result.client.opened.value c.args.opened.0
+      c.new-client.result.client.sent_log.items (g.H.Writer.Write.contents c.new-client.result.client.writer) (g.H.Writer.Write.contents c.writer.result)
+      c.new-edge.ensures
+      (ap (λ t. t.opened.value) c.new-client.ensures.client ∙ c.new-json_client.ensures.opened)
+      (ap (λ t. t.sent_log.items) c.new-client.ensures.client ∙ c.new-json_client.ensures.reported)
+      (ap (λ t. g.H.Writer.Write.contents t.writer) c.new-client.ensures.client ∙ ap g.H.Writer.Write.contents c.new-json_client.ensures.writer))
+      c.run_lines-run.ensures.ends;
+}
