@@ -313,7 +313,7 @@ class Fails(Played):
             run, again = self.play(*plan, *lines(LIST), "ocfexec run --journal /j")
             if run.ended == ["0"]:
                 self.assertEqual(run.out, whole)
-                self.assertGreater(calls, 30)
+                self.assertGreater(calls, 20)
                 return
             self.assertEqual(run.ended, ["5 disk"], calls)
             self.assertEqual(len(run.of("met")), 1, calls)

@@ -21,6 +21,7 @@ use exec_faults::Fault;
 use exec_program::program;
 use host::SystemHost;
 use process_ends::System;
+use std::mem;
 use std::process::ExitCode;
 
 fn main(rt: HostRuntime) -> ExitCode {
@@ -29,6 +30,8 @@ fn main(rt: HostRuntime) -> ExitCode {
     if let Err(fault) = ended {
         tell(&system, fault);
     }
+    // the shell that sends signals ends when this process does
+    mem::forget(system);
     exit_code(ended)
 }
 
