@@ -2,6 +2,7 @@
 
 With namespaces, a node is a namespace of processes and a network namespace, on a bridge; it ends with its first process, as the system
 then ends the others. Without namespaces, a node is a process group, and all nodes share the loopback interface."""
+import contextlib
 import json
 import os
 import signal
@@ -174,7 +175,17 @@ class Lab:
                 os.killpg(node.process.pid, signal.SIGKILL)
                 node.process.wait()
                 waits("a node's end", lambda: not self.group(node.process.pid), 20)
+                waits("the end of a node's services", lambda: self.are_ended(name), 20)
             node.process = None
+
+    def are_ended(self, name):
+        """Whether no service of a node is left; those that are found are ended. They are in process groups of their own."""
+        left = [pid for pid, words in command_lines() if len(words) >= 4 and words[-4].endswith("/counted")
+                and words[-2:] == [name, str(self.folder / "up")]]
+        for pid in left:
+            with contextlib.suppress(ProcessLookupError):
+                os.kill(pid, signal.SIGKILL)
+        return not left
 
     @staticmethod
     def group(number):
