@@ -139,8 +139,10 @@ takes '{"meta":38}
 /usr/lib/ocf/resource.d/p/t meta-data' --via echo
 takes '{"meta":28}
 /r/resource.d/p/t meta-data' --path=/usr/bin:/bin --root=/r --via=echo
-takes '{"end":"missing"}' --root /r --via echo --path /nowhere
-takes '{"end":"missing"}' --via=-x
+# a program without a slash is searched by the launcher, which ends with 127 where there is none
+takes '{"code":127,"end":"failed"}' --root /r --via echo --path /nowhere
+takes '{"code":127,"end":"failed"}' --via=-x
+takes '{"end":"missing"}' --via=/nowhere/x
 mkdir "$here/journal"
 ends 0 "" show --journal "$here/journal"
 wrote "show of a new journal" '{"ok":true,"resources":[]}'
