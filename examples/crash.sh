@@ -48,10 +48,11 @@ exec 3>&-
 cat "$here/out"
 
 say "Opened again, it reports: db's start was interrupted, so db may run or not; the promotion never began."
-"$@" < /dev/null
+"$@" < /dev/null 2> "$here/waits"
+cat "$here/waits"
 
 say "A second opening has nothing to report. What it knows of each:"
-printf '%s\n' '{"op":"history","id":"web"}' '{"op":"history","id":"db"}' | "$@"
+printf '%s\n' '{"op":"history","id":"web"}' '{"op":"history","id":"db"}' | "$@" 2> "$here/waits"
 
 say "So a cluster manager stops db before it starts it anywhere else. Meanwhile the agent that was under way has ended:"
 sleep 1.2
