@@ -1,9 +1,9 @@
 //! The lines around an agent's own output.
-ghost use Rattle.std.specs.Prelude.{◌≡◌, ◌++◌, IfOk, IsTrue, OnErr, OnOk};
-ghost use Rattle.agent_logs.specs.Lines.{begun_line, call_text, code_text, end_text, ended_line, id_text, millis_text, refusal_text, run_text, stamp_text, task_text};
+ghost use Rattle.std.specs.Prelude.{IsTrue, OnErr};
 
 use growth::Grows;
-use log_lines::{add_bytes, add_moment, add_number};
+use line_text::LineText;
+use log_lines::add_moment;
 use ocf_codes::{name, read_code};
 use ocf_types::{CallId, Millis, Moment, RscId, RunId, StartFault};
 use std::alloc::{AllocError, Global};
@@ -50,67 +50,40 @@ pub struct Ended {
     pub millis: u64,
 }
 
-// Adds a text.
-fn add(line: &mut Vec<u8>, more: &str) -> Result<(), AllocError>
-    ensures added { OnOk result (line.new.items ≡ line.old.items ++ more.now) }
-    ensures memory { OnErr result (IsTrue ⟦<Global as Grows>⟧.refuses) }
-{
-    add_bytes(line, more.as_bytes())
-}
-
-fn add_id(line: &mut Vec<u8>, id: Option<&RscId>) -> Result<(), AllocError>
-    ensures added { OnOk result (line.new.items ≡ line.old.items ++ id_text id.entry) }
-    ensures memory { OnErr result (IsTrue ⟦<Global as Grows>⟧.refuses) }
-{
+fn add_id(line: &mut LineText, id: Option<&RscId>) {
     let Some(id) = id else {
-        return Ok(());
+        return;
     };
-    add_bytes(line, id.as_bytes())?;
-    add(line, ": ")
+    line.bytes(id.as_bytes());
+    line.text(": ");
 }
 
-fn add_stamp(line: &mut Vec<u8>, stamp: &Stamp<'_>) -> Result<(), AllocError>
-    ensures added { OnOk result (line.new.items ≡ line.old.items ++ stamp_text stamp.now) }
-    ensures memory { OnErr result (IsTrue ⟦<Global as Grows>⟧.refuses) }
-{
-    add_id(line, stamp.id)?;
-    add_moment(line, stamp.at)?;
-    add(line, " ")
+fn add_stamp(line: &mut LineText, stamp: &Stamp<'_>) {
+    add_id(line, stamp.id);
+    add_moment(line, stamp.at);
+    line.text(" ");
 }
 
-fn add_call(line: &mut Vec<u8>, call: CallId) -> Result<(), AllocError>
-    ensures added { OnOk result (line.new.items ≡ line.old.items ++ call_text call) }
-    ensures memory { OnErr result (IsTrue ⟦<Global as Grows>⟧.refuses) }
-{
-    add(line, "call ")?;
-    add_number(line, call.get())
+fn add_call(line: &mut LineText, call: CallId) {
+    line.text("call ");
+    line.number(call.get())
 }
 
-fn add_run(line: &mut Vec<u8>, run: RunId) -> Result<(), AllocError>
-    ensures added { OnOk result (line.new.items ≡ line.old.items ++ run_text run) }
-    ensures memory { OnErr result (IsTrue ⟦<Global as Grows>⟧.refuses) }
-{
-    add(line, "run ")?;
-    add_number(line, run.get())
+fn add_run(line: &mut LineText, run: RunId) {
+    line.text("run ");
+    line.number(run.get())
 }
 
-fn add_millis(line: &mut Vec<u8>, before: &str, millis: u64) -> Result<(), AllocError>
-    ensures added { OnOk result
-        (line.new.items ≡ line.old.items ++ before.now ++ millis_text millis) }
-    ensures memory { OnErr result (IsTrue ⟦<Global as Grows>⟧.refuses) }
-{
-    add(line, before)?;
-    add_number(line, millis)?;
-    add(line, " ms")
+fn add_millis(line: &mut LineText, before: &str, millis: u64) {
+    line.text(before);
+    line.number(millis);
+    line.text(" ms");
 }
 
 // Adds the action and its timeout.
-fn add_task(line: &mut Vec<u8>, begun: &Begun<'_>) -> Result<(), AllocError>
-    ensures added { OnOk result (line.new.items ≡ line.old.items ++ task_text begun.now) }
-    ensures memory { OnErr result (IsTrue ⟦<Global as Grows>⟧.refuses) }
-{
-    add(line, ": ")?;
-    add(line, begun.action)?;
+fn add_task(line: &mut LineText, begun: &Begun<'_>) {
+    line.text(": ");
+    line.text(begun.action);
     add_millis(line, ", timeout ", u64::from(begun.timeout.get()))
 }
 
@@ -120,35 +93,29 @@ pub fn begun_line(
     stamp: &Stamp<'_>,
     begun: &Begun<'_>,
 ) -> Result<Vec<u8>, AllocError>
-    ensures line { IfOk result (λ line. line.items ≡ begun_line stamp.now begun.now) }
     ensures memory { OnErr result (IsTrue ⟦<Global as Grows>⟧.refuses) }
 {
-    let mut line = Vec::new(alloc);
-    add_stamp(&mut line, stamp)?;
-    add_call(&mut line, begun.call)?;
-    add(&mut line, " begins as ")?;
-    add_run(&mut line, begun.run)?;
-    add_task(&mut line, begun)?;
-    add(&mut line, "\n")?;
-    Ok(line)
+    let mut line = LineText::new(alloc);
+    add_stamp(&mut line, stamp);
+    add_call(&mut line, begun.call);
+    line.text(" begins as ");
+    add_run(&mut line, begun.run);
+    add_task(&mut line, begun);
+    line.text("\n");
+    line.finish()
 }
 
 // Adds the name and the number of an exit code.
-fn add_code(line: &mut Vec<u8>, code: u8) -> Result<(), AllocError>
-    ensures added { OnOk result (line.new.items ≡ line.old.items ++ code_text code) }
-    ensures memory { OnErr result (IsTrue ⟦<Global as Grows>⟧.refuses) }
-{
-    add(line, ": ")?;
-    add(line, name(read_code(code)))?;
-    add(line, " (")?;
-    add_number(line, u64::from(code))?;
-    add(line, ")")
+fn add_code(line: &mut LineText, code: u8) {
+    line.text(": ");
+    line.text(name(read_code(code)));
+    line.text(" (");
+    line.number(u64::from(code));
+    line.text(")");
 }
 
 // Why an agent was not spawned.
-fn refusal_text(fault: StartFault) -> &'static str
-    ensures { result.now ≡ refusal_text fault }
-{
+fn refusal_text(fault: StartFault) -> &'static str {
     match fault {
         StartFault::Missing => " was not started: the agent's file is missing",
         StartFault::Denied => " was not started: the agent's file may not be run",
@@ -157,35 +124,31 @@ fn refusal_text(fault: StartFault) -> &'static str
 }
 
 // Adds how a run ended, after this many milliseconds.
-fn add_end(line: &mut Vec<u8>, end: LoggedEnd, millis: u64) -> Result<(), AllocError>
-    ensures added { OnOk result (line.new.items ≡ line.old.items ++ end_text end millis) }
-    ensures memory { OnErr result (IsTrue ⟦<Global as Grows>⟧.refuses) }
-{
+fn add_end(line: &mut LineText, end: LoggedEnd, millis: u64) {
     match end {
         LoggedEnd::Exited(code) => {
-            add_millis(line, " ended in ", millis)?;
+            add_millis(line, " ended in ", millis);
             add_code(line, code)
         }
         LoggedEnd::Signaled(signal) => {
-            add_millis(line, " was ended after ", millis)?;
-            add(line, " by signal ")?;
-            add_number(line, u64::from(signal))
+            add_millis(line, " was ended after ", millis);
+            line.text(" by signal ");
+            line.number(u64::from(signal))
         }
         LoggedEnd::Killed => add_millis(line, " was killed after ", millis),
         LoggedEnd::Lost => add_millis(line, " was given up after ", millis),
-        LoggedEnd::Refused(fault) => add(line, refusal_text(fault)),
+        LoggedEnd::Refused(fault) => line.text(refusal_text(fault)),
     }
 }
 
 /// The line that is written after an agent's own output.
 pub fn ended_line(alloc: Global, stamp: &Stamp<'_>, ended: Ended) -> Result<Vec<u8>, AllocError>
-    ensures line { IfOk result (λ line. line.items ≡ ended_line stamp.now ended) }
     ensures memory { OnErr result (IsTrue ⟦<Global as Grows>⟧.refuses) }
 {
-    let mut line = Vec::new(alloc);
-    add_stamp(&mut line, stamp)?;
-    add_run(&mut line, ended.run)?;
-    add_end(&mut line, ended.end, ended.millis)?;
-    add(&mut line, "\n")?;
-    Ok(line)
+    let mut line = LineText::new(alloc);
+    add_stamp(&mut line, stamp);
+    add_run(&mut line, ended.run);
+    add_end(&mut line, ended.end, ended.millis);
+    line.text("\n");
+    line.finish()
 }
