@@ -1,3 +1,4 @@
 pub mod Sizes
 pub mod RanOn
+pub mod RecordedOn
 pub mod Tallied

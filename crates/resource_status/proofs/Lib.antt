@@ -1,4 +1,2 @@
-pub mod ConditionExamples
-pub mod ConditionLemmas
 pub mod ResultLemmas
 pub mod StatusLemmas

@@ -8,15 +8,15 @@ use Rattle.serde_json.specs.Written.{has_float}
 use Rattle.ocf_types.specs.Resource.{Resource}
 use Rattle.ocf_types.specs.declared.operation.Ended.{Ended}
 use Rattle.ocf_types.specs.declared.operation.Running.{Running}
-use Rattle.resource_status.specs.Conditions.{known_of}
+use Rattle.resource_condition.specs.Conditions.{known_of}
 use Rattle.resource_status.specs.Statuses.{doing_data, failure_data, reason_data, resource_data, since_data}
-use Rattle.resource_status.specs.declared.condition.Known.{Known}
+use Rattle.resource_condition.specs.declared.condition.Known.{Known}
 
-reason_no_float : (reason : Option (List ℕ)) → has_float (reason_data reason) ≡ false
+pub reason_no_float : (reason : Option (List ℕ)) → has_float (reason_data reason) ≡ false
 reason_no_float None = refl
 reason_no_float (Some text) = refl
 
-failure_no_float : (reason : Option (List ℕ)) (last : Option Ended) → has_float (failure_data reason last) ≡ false
+pub failure_no_float : (reason : Option (List ℕ)) (last : Option Ended) → has_float (failure_data reason last) ≡ false
 failure_no_float reason None = refl
 failure_no_float reason (Some e) = rw (reason_no_float reason) refl
 

@@ -9,8 +9,8 @@ use Rattle.ocf_types.specs.declared.operation.Ended.{Ended}
 use Rattle.ocf_types.specs.declared.operation.Running.{Running}
 use Rattle.ocf_codes.specs.ExitCodes.{name_read}
 use Rattle.exec_commands.specs.Objects.{natural_data, object_from}
-use Rattle.resource_status.specs.Conditions.{condition_of, condition_word, known_of}
-use Rattle.resource_status.specs.declared.condition.Known.{Known}
+use Rattle.resource_condition.specs.Conditions.{condition_of, condition_word, known_of}
+use Rattle.resource_condition.specs.declared.condition.Known.{Known}
 
 -- the reason that the agent gave, where one is known
 abbrev pub reason_data : Option (List ℕ) → Data

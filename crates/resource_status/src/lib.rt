@@ -1,14 +1,10 @@
-//! The condition of a resource by its results, and what results mean.
+//! What results mean, in words, and the status of a resource as JSON.
 #![tactic(auto)]
 
-mod condition;
 mod meanings;
 mod results;
-mod spans;
 mod status_data;
 
-pub use condition::{Condition, Known, condition_of, known_of};
 pub use meanings::{Tone, code_name, failure_meaning, meaning, tone_of};
 pub use results::last_run;
-pub use spans::{add_ago, add_due, add_exactly, add_since, add_span};
-pub use status_data::{resource_value, statuses_of};
+pub use status_data::{failure_value, id_text, reason_value, resource_value, statuses_of};

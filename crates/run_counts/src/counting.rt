@@ -58,8 +58,8 @@ fn forget_by(counts: &mut RunCounts, change: &Change<Params>)
     }
 }
 
-// The outcome by which a change ends the running action of a resource; `None` if it does not end it.
-fn end_of(change: &Change<Params>, id: &RscId) -> Option<Outcome>
+/// The outcome by which a change ends the running action of a resource; `None` if it does not end it.
+pub fn end_of(change: &Change<Params>, id: &RscId) -> Option<Outcome>
     ensures { result ≡ end_of change.now id.now }
 {
     match change {

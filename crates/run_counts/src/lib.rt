@@ -5,4 +5,4 @@ mod count;
 mod counting;
 
 pub use count::RunCount;
-pub use counting::{RunCounts, count_event, count_of};
+pub use counting::{RunCounts, count_event, count_of, end_of};

@@ -1,5 +1,4 @@
-pub mod AlarmLemmas
-pub mod ConditionExamples
+pub mod EndingLemmas
 pub mod FailedLemmas
 pub mod RowLemmas
 pub mod StatusLineLemmas

@@ -6,7 +6,7 @@ use Rattle.ocf_types.specs.Resource.{Resource}
 use Rattle.ocf_types.specs.State.{State}
 use Rattle.disk_model.specs.Image.{Image}
 use Rattle.exec_journal.specs.Found.{FoundAs}
-use Rattle.status_report.specs.Tables.{is_asked_for}
+use Rattle.status_report.specs.Rows.{is_asked_for}
 use Rattle.status_report.specs.declared.options.StatusOptions.{StatusOptions}
 
 -- the id of a resource, if it is asked for and has a failed action

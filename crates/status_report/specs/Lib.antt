@@ -1,8 +1,6 @@
-pub mod Colours
-pub mod ConditionTexts
+pub mod Endings
 pub mod Failed
 pub mod Remarks
+pub mod Rows
 pub mod Shown
 pub mod StatusLines
-pub mod Tables
-pub mod Written

@@ -1,9 +1,8 @@
 -- What `show` prints of a state.
-use Rattle.std.specs.Prelude.{◌≡◌, ◌<◌, ℕ, ⊤, List, ◌++◌, length, map, Option, Result, Ok, Err}
+use Rattle.std.specs.Prelude.{◌≡◌, ℕ, ⊤, List, ◌++◌, map, Option, Result, Ok, Err}
 use Rattle.std.specs.Io.KnownBytes.{Appends}
 use Rattle.std.specs.List.{flat_map}
 use Rattle.ocf_types.specs.Answer.{reply_to}
-use Rattle.ocf_types.specs.Indexes.{id_at}
 use Rattle.ocf_types.specs.State.{State}
 use Rattle.ocf_types.specs.declared.command.Question.{Question}
 use Rattle.ocf_types.specs.declared.command.Question.TheVariants as question
@@ -36,7 +35,3 @@ ShowsAs reads old new (Err fault.Memory) = new ≡ old
 ShowsAs reads old new (Err fault.InputOrOutput) = ⊤
 ShowsAs reads old new (Err fault.ReplyMemory) = ⊤
 ShowsAs reads old new (Err _) = ⊥
-
--- a resource with this id is registered
-abbrev pub IsRegistered : State → List ℕ → Type 0
-IsRegistered s id = (index : ℕ) × (index < length s.resources) × (id_at s index ≡ id)

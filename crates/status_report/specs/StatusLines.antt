@@ -1,74 +1,72 @@
 -- What a status prints for a program: what `show` prints, and then a line of JSON for each resource.
-use Rattle.std.specs.Prelude.{◌≡◌, ℕ, ⊤, true, false, List, [], ◌∷◌, ◌++◌, Option, Some, None, Result, Ok, Err}
+use Rattle.std.specs.Prelude.{◌≡◌, ℕ, ⊤, Bool, true, false, ◌==◌, ◌&&◌, not, if◌then◌else◌, List, [], ◌∷◌, ◌++◌, length, Option, Some, None, option_map}
+use Rattle.std.specs.Prelude.{MatchBool, codes}
 use Rattle.std.specs.List.{flat_map}
-use Rattle.std.specs.Borrow.{Bor}
-use Rattle.std.specs.Io.KnownBytes.{Appends}
-use Rattle.serde_json.specs.Data.{Data}
+use Rattle.serde_json.specs.Data.{Data, null, string, boolean}
 use Rattle.serde_json.specs.Written.{compact_text}
-use Rattle.ocf_types.specs.Resource.{Resource}
+use Rattle.ocf_types.specs.Actions.{action_word}
 use Rattle.ocf_types.specs.State.{State}
-use Rattle.disk_model.specs.Image.{Image}
-use Rattle.exec_journal.specs.Found.{FoundAs, HasDamage}
-use Rattle.exec_faults.specs.declared.fault.Fault.{Fault}
-use Rattle.exec_faults.specs.declared.fault.Fault.TheVariants as fault
-use Rattle.resource_status.specs.Statuses.{resource_data}
-use Rattle.status_report.specs.Remarks.{reason_of}
-use Rattle.status_report.specs.Shown.{IsRegistered, resource_lines, shown}
-use Rattle.status_report.specs.Tables.{asked_entries, is_alarm}
+use Rattle.ocf_types.specs.declared.operation.Running.{Running}
+use Rattle.exec_commands.specs.Objects.{natural_data, object_from}
+use Rattle.resource_condition.specs.Conditions.{condition_word}
+use Rattle.resource_status.specs.Statuses.{failure_data, reason_data}
+use Rattle.resource_condition.specs.declared.condition.Since.{Since}
+use Rattle.status_report.specs.Remarks.{reason_of, wait_of}
+use Rattle.status_report.specs.Shown.{resource_lines, shown}
 use Rattle.status_report.specs.declared.options.StatusOptions.{StatusOptions}
+use Rattle.status_report.specs.declared.rows.Row.{Row}
 
--- the status of a resource, with the reason that is known for its last failure
-abbrev pub status_data : StatusOptions → List ℕ × Resource → Data
-status_data options e = resource_data (reason_of options e.0) e
+-- the action that runs, since when, and after how long it is killed
+abbrev pub running_data : Option Running → Data
+running_data None = null
+running_data (Some x) = object_from (
+    (codes "action", string (action_word x.task.action)) ∷ (codes "since", natural_data x.since)
+    ∷ (codes "timeout", natural_data x.timeout) ∷ [])
 
--- the line of a resource
-abbrev pub status_line : StatusOptions → List ℕ × Resource → List ℕ
-status_line options e = compact_text (status_data options e) ++ 10 ∷ []
+-- since when a condition holds, and whether at least since then
+abbrev pub since_data : Option Since → Data
+since_data None = null
+since_data (Some since) = natural_data since.moment
 
--- the lines of the resources that are asked for, in order of registration
-abbrev pub status_lines : StatusOptions → State → List ℕ
-status_lines options s = flat_map (status_line options) (asked_entries options s.resources)
+abbrev pub is_at_least : Option Since → Bool
+is_at_least None = false
+is_at_least (Some since) = since.at_least
 
--- what `show` prints, of all resources or of the single one that is asked for
-abbrev pub prefix_lines : State → Option (Bor (List ℕ)) → List ℕ
-prefix_lines s None = shown s
-prefix_lines s (Some id) = resource_lines s id.now
+-- whether an executor has the journal, where that is known
+abbrev pub executor_data : Option Bool → Data
+executor_data None = null
+executor_data (Some there) = boolean there
 
--- all that a status prints of a state for a program
-abbrev pub written_lines : StatusOptions → State → List ℕ
-written_lines options s = prefix_lines s options.only ++ status_lines options s
+-- the status of a resource, with the reason that is known for its last failure, and what it waits for
+abbrev pub status_data : StatusOptions → Row → Data
+status_data options r = object_from (
+    (codes "at_least", boolean (is_at_least r.since)) ∷ (codes "executor", executor_data options.executor)
+    ∷ (codes "failed", failure_data (reason_of options r.id) r.failed) ∷ (codes "held", reason_data (wait_of options r.id))
+    ∷ (codes "id", string r.id) ∷ (codes "identity", reason_data (option_map (λ t. t.now) options.identity))
+    ∷ (codes "queued", natural_data r.queued) ∷ (codes "running", running_data r.running)
+    ∷ (codes "since", since_data r.since) ∷ (codes "state", string (condition_word r.condition)) ∷ [])
 
--- the single resource that is asked for is registered
-abbrev pub IsThere : State → Option (Bor (List ℕ)) → Type 0
-IsThere s None = ⊤
-IsThere s (Some id) = IsRegistered s id.now
+-- the line of a resource, if it is shown
+abbrev pub status_line : StatusOptions → Row → List ℕ
+status_line options r = if r.is_shown then compact_text (status_data options r) ++ 10 ∷ [] else []
 
--- the single resource that is asked for is not registered
-abbrev pub IsMissed : State → Option (Bor (List ℕ)) → Type 0
-IsMissed s None = ⊥
-IsMissed s (Some id) = ¬ IsRegistered s id.now
+-- the lines of the resources that are shown, in order of registration
+abbrev pub status_lines : StatusOptions → List Row → List ℕ
+status_lines options rows = flat_map (status_line options) rows
 
--- what is written of a state before the lines of status, by the result
-abbrev pub IsPrefixWritten : {T : Type 0} → State → Option (Bor (List ℕ)) → Option (List ℕ) → Option (List ℕ) → Result T Fault → Type 0
-IsPrefixWritten s only old new (Ok done) = IsThere s only × Appends old new (prefix_lines s only)
-IsPrefixWritten s only old new (Err fault.NoResource) = IsMissed s only × (new ≡ old)
-IsPrefixWritten s only old new (Err fault.ReplyMemory) = ⊤
-IsPrefixWritten s only old new (Err fault.InputOrOutput) = ⊤
-IsPrefixWritten s only old new (Err _) = ⊥
+-- the replies to `info` and `history` of a resource, if it is shown
+abbrev pub row_lines : State → Row → List ℕ
+row_lines s r = if r.is_shown then resource_lines s r.id else []
 
--- what is written of a state, by the result
-abbrev pub AreLinesWritten : {T : Type 0} → StatusOptions → State → Option (List ℕ) → Option (List ℕ) → Result T Fault → Type 0
-AreLinesWritten options s old new (Ok done) = IsThere s options.only × Appends old new (written_lines options s) × (is_alarm options s ≡ false)
-AreLinesWritten options s old new (Err fault.NotWell) = IsThere s options.only × Appends old new (written_lines options s) × (is_alarm options s ≡ true)
-AreLinesWritten options s old new (Err fault.NoResource) = IsMissed s options.only × (new ≡ old)
-AreLinesWritten options s old new (Err fault.ReplyMemory) = ⊤
-AreLinesWritten options s old new (Err fault.InputOrOutput) = ⊤
-AreLinesWritten options s old new (Err _) = ⊥
+-- what `show` prints, of all resources or of those that are shown
+abbrev pub prefix_lines : StatusOptions → State → List Row → List ℕ
+prefix_lines options s rows =
+    if (length options.ids.now == 0) && not options.only_bad then shown s else flat_map (row_lines s) rows
 
--- what is written, by the result: what a status prints of the state that is found on these parts, or nothing if the parts are not read;
--- damage that is reported is the damage that is found
-abbrev pub WritesLinesAs : {T : Type 0} → Image → StatusOptions → Option (List ℕ) → Option (List ℕ) → Result T Fault → Type 0
-WritesLinesAs reads options old new (Err (fault.Damaged damage)) = HasDamage reads damage × (new ≡ old)
-WritesLinesAs reads options old new (Err fault.Disk) = new ≡ old
-WritesLinesAs reads options old new (Err fault.Memory) = new ≡ old
-WritesLinesAs reads options old new ended = (s : State) × FoundAs s reads × AreLinesWritten options s old new ended
+-- this is all that a status prints of these rows for a program
+abbrev pub IsLinesOf : StatusOptions → State → List Row → List ℕ → Type 0
+IsLinesOf options s rows text = text ≡ prefix_lines options s rows ++ status_lines options rows
+
+-- this is what a status prints of these rows; no contract says the words of a table
+abbrev pub IsText : StatusOptions → State → List Row → List ℕ → Type 0
+IsText options s rows text = MatchBool options.json (IsLinesOf options s rows text) ⊤

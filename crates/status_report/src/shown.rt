@@ -33,6 +33,7 @@ pub(crate) fn send_plain<W: Write>(
     let tagged = Tagged {
         form: NoticeForm::Short,
         tag: None,
+        reason: None,
     };
     send_reply(alloc, writer, tagged, reply)
 }

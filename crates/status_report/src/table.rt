@@ -1,42 +1,91 @@
-//! A journal's state as a table for a person: a row of each resource, with lines below it.
-ghost use Rattle.std.specs.Prelude.{◌≡◌, ◌<◌, ◌-◌, ◌++◌, [], length, option_map, OnOk, IfOk, IfSome, IfNone, IsTrue, OnErr};
-ghost use Rattle.ocf_types.specs.Indexes.{entry_at, at_index, id_at};
-ghost use Rattle.status_report.specs.Remarks.{reason_of, wait_of};
-ghost use Rattle.status_report.specs.Tables.{agent_text, AreRows, gap, IsHead, IsRow, IsTable, asked_entries};
-ghost use Rattle.status_report.specs.Written.{now_text, queued_text, running_text, written};
+//! The status of resources as a table for a person: a row of each, and lines below it where something is wrong.
+ghost use Rattle.std.specs.Prelude.{◌<◌, length, IsTrue, OnErr};
 
-use crate::add::{add, add_number};
-use crate::condition_text::condition_text;
-use crate::lines::{add_lines, pad};
+use crate::details::{add_details, has_details, is_degraded};
 use crate::options::StatusOptions;
+use crate::phrases::{add_condition, add_painted, add_running, tone_of_condition};
+use crate::rows::Row;
+use crate::summary::{add_left, add_summary};
+use crate::widths::{add_column, add_fitted, pad, width_of};
 use exec_state::State;
-use growth::{Grows, append, vec_of};
-use ocf_types::{Running, StateView};
-use resource_status::add_since;
+use growth::{Grows, append, push, vec_of};
+use line_text::LineText;
+use ocf_types::StateView;
 use std::alloc::{AllocError, Global};
-use std::str::from_utf8;
-use unicode_width::UnicodeWidthStr;
 
-// The widths of the columns of a table, without the gaps after them.
+// The columns between two cells of a row.
+const GAP: usize = 2;
+
+// The fewest columns to which an id or an agent is cut.
+const LEAST: usize = 12;
+
+// The cells of a row.
+#[derive(Drop)]
+struct Cells {
+    agent: Vec<u8>,
+    condition: Vec<u8>,
+    now: Vec<u8>,
+}
+
+// The widths of the cells of all rows.
 #[derive(Clone, Copy)]
-struct Columns {
+struct Widths {
     id: usize,
     agent: usize,
     condition: usize,
+    now: usize,
 }
 
-// The width of a text on a terminal, in columns.
-fn width(text: &[u8]) -> usize {
-    match from_utf8(text) {
-        Ok(text) => text.width(),
-        Err(_) => text.len(),
+impl Widths {
+    // Widths for the headings.
+    fn of_head() -> Widths {
+        Widths {
+            id: "RESOURCE".len(),
+            agent: "AGENT".len(),
+            condition: "STATE".len(),
+            now: "NOW".len(),
+        }
     }
+
+    // Widths for one more row.
+    fn with(self, row: &Row, cells: &Cells) -> Widths {
+        Widths {
+            id: self.id.max(width_of(row.id.as_bytes())),
+            agent: self.agent.max(width_of(cells.agent.as_slice())),
+            condition: self.condition.max(width_of(cells.condition.as_slice())),
+            now: self.now.max(width_of(cells.now.as_slice())),
+        }
+    }
+
+    // The columns by which a row is longer than a terminal of this width.
+    fn excess(self, width: usize) -> usize {
+        let cells = self
+            .id
+            .saturating_add(self.agent)
+            .saturating_add(self.condition)
+            .saturating_add(self.now);
+        cells.saturating_add(3 * GAP).saturating_sub(width)
+    }
+
+    // Widths with which no row is longer than a terminal of this width: ids are cut first, then agents, and then what runs now.
+    fn within(self, width: usize) -> Widths {
+        let id = cut(self.id, self.excess(width));
+        let narrow = Widths { id, ..self };
+        let agent = cut(narrow.agent, narrow.excess(width));
+        let narrow = Widths { agent, ..narrow };
+        let now = narrow.now.saturating_sub(narrow.excess(width));
+        Widths { now, ..narrow }
+    }
+}
+
+// A width with some columns less, but for the least ones.
+fn cut(width: usize, columns: usize) -> usize {
+    width.saturating_sub(columns).max(width.min(LEAST))
 }
 
 // The agent of a resource, as `heartbeat:nginx`.
 fn agent_of(alloc: Global, state: &State, index: usize) -> Result<Vec<u8>, AllocError>
     requires { index < length state.now.state.resources }
-    ensures text { IfOk result (λ text. text.items ≡ agent_text (at_index state.now.state index)) }
     ensures memory { OnErr result (IsTrue ⟦<Global as Grows>⟧.refuses) }
 {
     let mut text = vec_of(alloc, state.provider_at(index).as_bytes())?;
@@ -45,188 +94,199 @@ fn agent_of(alloc: Global, state: &State, index: usize) -> Result<Vec<u8>, Alloc
     Ok(text)
 }
 
-// The width of the text of a resource's condition, in columns.
-fn condition_width(
+// The condition of a resource, without colour.
+fn condition_of(
     alloc: Global,
     options: &StatusOptions,
     state: &State,
     index: usize,
-) -> Result<usize, AllocError>
+    row: &Row,
+) -> Result<Vec<u8>, AllocError>
     requires { index < length state.now.state.resources }
     ensures memory { OnErr result (IsTrue ⟦<Global as Grows>⟧.refuses) }
 {
-    let text = condition_text(alloc, options.moment, false, state, index)?;
-    Ok(width(text.as_slice()))
+    let mut line = LineText::new(alloc);
+    add_condition(alloc, &mut line, options, row);
+    if is_degraded(state, index, row) {
+        line.text(", degraded");
+    }
+    line.finish()
 }
 
-// Columns wide enough for the resources that are asked for.
-fn columns_of(alloc: Global, options: &StatusOptions, state: &State) -> Result<Columns, AllocError>
+// What a resource does now: what runs, whether it is held, and how many actions are queued.
+fn now_of(alloc: Global, options: &StatusOptions, row: &Row) -> Result<Vec<u8>, AllocError>
     ensures memory { OnErr result (IsTrue ⟦<Global as Grows>⟧.refuses) }
 {
-    let mut ids = "RESOURCE".len();
-    let mut agents = "AGENT".len();
-    let mut conditions = "STATE".len();
-    for index in 0..state.len() {
-        if options.asks_for(state.id_at(index)) {
-            ids = ids.max(width(state.id_at(index).as_bytes()));
-            agents = agents.max(width(agent_of(alloc, state, index)?.as_slice()));
-            conditions = conditions.max(condition_width(alloc, options, state, index)?);
+    let mut line = LineText::new(alloc);
+    let mut sign = "";
+    match &row.running {
+        Some(running) => {
+            add_running(&mut line, options, running);
+            sign = ", ";
+        }
+        None => {
+            if options.wait_of(&row.id).is_some() {
+                line.text("held");
+                sign = ", ";
+            }
         }
     }
-    Ok(Columns {
-        id: ids,
-        agent: agents,
-        condition: conditions,
+    if row.queued > 0 {
+        line.text(sign);
+        line.number(row.queued as u64);
+        line.text(" queued");
+    }
+    line.finish()
+}
+
+// The cells of a row.
+fn cells_of(
+    alloc: Global,
+    options: &StatusOptions,
+    state: &State,
+    index: usize,
+    row: &Row,
+) -> Result<Cells, AllocError>
+    requires { index < length state.now.state.resources }
+    ensures memory { OnErr result (IsTrue ⟦<Global as Grows>⟧.refuses) }
+{
+    Ok(Cells {
+        agent: agent_of(alloc, state, index)?,
+        condition: condition_of(alloc, options, state, index, row)?,
+        now: now_of(alloc, options, row)?,
     })
 }
 
-// Adds the gap after the text of a column.
-fn add_gap(text: &mut Vec<u8>, taken: usize, column: usize) -> Result<(), AllocError>
-    ensures text { OnOk result (text.new.items ≡ text.old.items ++ gap (column - taken)) }
-    ensures memory { OnErr result (IsTrue ⟦<Global as Grows>⟧.refuses) }
-{
-    pad(text, taken, column)?;
-    add(text, "  ")
-}
-
-// Adds what runs, and since when; else what is waited for, if that is known.
-fn add_running(
-    text: &mut Vec<u8>,
-    options: &StatusOptions,
-    wait: Option<&str>,
-    running: Option<Running>,
-) -> Result<(), AllocError>
-    ensures text { OnOk result (text.new.items
-        ≡ text.old.items ++ running_text options.now.moment
-        (option_map (λ t. t.now) wait.entry) running) }
-    ensures memory { OnErr result (IsTrue ⟦<Global as Grows>⟧.refuses) }
-{
-    match (running, wait) {
-        (Some(running), _) => {
-            add(text, running.task.action().word())?;
-            add_since(text, options.moment.get(), running.since.get())
-        }
-        (None, Some(wait)) => add(text, wait),
-        (None, None) => add(text, "idle"),
-    }
-}
-
-// Adds how many actions are queued.
-fn add_queued(text: &mut Vec<u8>, queued: usize) -> Result<(), AllocError>
-    ensures text { OnOk result (text.new.items ≡ text.old.items ++ queued_text queued) }
-    ensures memory { OnErr result (IsTrue ⟦<Global as Grows>⟧.refuses) }
-{
-    if queued == 0 {
-        return Ok(());
-    }
-    add(text, ", ")?;
-    add_number(text, queued as u64)?;
-    add(text, " queued")
-}
-
-// Adds the last column of a row, and the lines below the row.
-fn add_written(
-    alloc: Global,
-    text: &mut Vec<u8>,
-    options: &StatusOptions,
-    state: &State,
-    index: usize,
-) -> Result<(), AllocError>
-    requires { index < length state.now.state.resources }
-    ensures text { OnOk result (text.new.items
-        ≡ text.old.items ++ written options.now
-        (reason_of options.now (id_at state.now.state index))
-        (wait_of options.now (id_at state.now.state index)) (at_index state.now.state index)) }
-    ensures memory { OnErr result (IsTrue ⟦<Global as Grows>⟧.refuses) }
-{
-    let wait = options.wait_of(state.id_at(index));
-    add_running(text, options, wait, state.running_at(index))?;
-    add_queued(text, state.queue_len(index))?;
-    add_lines(alloc, text, options, state, index)?;
-    add(text, "\n")
-}
-
-// A row, with the lines below it.
-fn row_of(
+// The cells of each row.
+fn all_cells(
     alloc: Global,
     options: &StatusOptions,
     state: &State,
-    index: usize,
-    columns: Columns,
-) -> Result<Vec<u8>, AllocError>
-    requires { index < length state.now.state.resources }
-    ensures row { IfOk result (λ row. IsRow options.now (entry_at state.now.state index) row.items) }
+    rows: &[Row],
+) -> Result<Vec<Cells>, AllocError>
     ensures memory { OnErr result (IsTrue ⟦<Global as Grows>⟧.refuses) }
 {
-    let id = state.id_at(index).as_bytes();
-    let agent = agent_of(alloc, state, index)?;
-    let condition = condition_text(alloc, options.moment, options.colours, state, index)?;
-    let taken = condition_width(alloc, options, state, index)?;
-    let mut row = vec_of(alloc, id)?;
-    add_gap(&mut row, width(id), columns.id)?;
-    append(&mut row, agent.as_slice())?;
-    add_gap(&mut row, width(agent.as_slice()), columns.agent)?;
-    append(&mut row, condition.as_slice())?;
-    add_gap(&mut row, taken, columns.condition)?;
-    add_written(alloc, &mut row, options, state, index)?;
-    Ok(row)
-}
-
-// The rows of the resources that are asked for.
-fn rows_of(
-    alloc: Global,
-    options: &StatusOptions,
-    state: &State,
-    columns: Columns,
-) -> Result<Vec<u8>, AllocError>
-    ensures rows { IfOk result
-        (λ rows. AreRows options.now (asked_entries options.now state.now.state.resources) rows.items) }
-    ensures memory { OnErr result (IsTrue ⟦<Global as Grows>⟧.refuses) }
-{
-    let mut rows = Vec::new(alloc);
+    let mut cells = Vec::new(alloc);
     for index in 0..state.len() {
-        if options.asks_for(state.id_at(index)) {
-            let row = row_of(alloc, options, state, index, columns)?;
-            append(&mut rows, row.as_slice())?;
+        if let Some(row) = rows.get(index) {
+            push(&mut cells, cells_of(alloc, options, state, index, row)?)?;
         }
     }
-    Ok(rows)
+    Ok(cells)
 }
 
-// The line above the rows.
-fn head_of(alloc: Global, columns: Columns) -> Result<Vec<u8>, AllocError>
-    ensures head { IfOk result (λ head. IsHead head.items) }
-    ensures memory { OnErr result (IsTrue ⟦<Global as Grows>⟧.refuses) }
+// Widths wide enough for the rows that are shown, within the terminal.
+fn widths_of(options: &StatusOptions, rows: &[Row], cells: &[Cells]) -> Widths {
+    let mut widths = Widths::of_head();
+    for (row, cells) in rows.iter().zip(cells) {
+        if row.is_shown {
+            widths = widths.with(row, cells);
+        }
+    }
+    match options.width {
+        Some(width) => widths.within(width),
+        None => widths,
+    }
+}
+
+// Appends a cell and the gap after it.
+fn add_cell(line: &mut LineText, text: &[u8], columns: usize) {
+    add_column(line, text, columns);
+    line.text("  ");
+}
+
+// Appends the line above the rows.
+fn add_head(line: &mut LineText, widths: Widths) {
+    add_cell(line, b"RESOURCE", widths.id);
+    add_cell(line, b"AGENT", widths.agent);
+    add_cell(line, b"STATE", widths.condition);
+    line.text("NOW\n");
+}
+
+// Appends the condition of a resource in its colour, and what it does now.
+fn add_state(
+    line: &mut LineText,
+    options: &StatusOptions,
+    row: &Row,
+    cells: &Cells,
+    widths: Widths,
+) {
+    let condition = cells.condition.as_slice();
+    add_painted(
+        line,
+        options.colours,
+        tone_of_condition(row.condition),
+        condition,
+    );
+    if !cells.now.as_slice().is_empty() {
+        pad(
+            line,
+            width_of(condition),
+            widths.condition.saturating_add(GAP),
+        );
+        add_fitted(line, cells.now.as_slice(), widths.now);
+    }
+}
+
+// Appends a row, and the lines below it.
+fn add_row(
+    alloc: Global,
+    line: &mut LineText,
+    options: &StatusOptions,
+    state: &State,
+    place: (usize, Widths),
+    shown: (&Row, &Cells),
+)
+    requires { place.0 < length state.now.state.resources }
 {
-    let mut head = vec_of(alloc, b"RESOURCE")?;
-    add_gap(&mut head, "RESOURCE".len(), columns.id)?;
-    add(&mut head, "AGENT")?;
-    add_gap(&mut head, "AGENT".len(), columns.agent)?;
-    add(&mut head, "STATE")?;
-    add_gap(&mut head, "STATE".len(), columns.condition)?;
-    add(&mut head, "NOW\n")?;
-    Ok(head)
+    let (index, widths) = place;
+    let (row, cells) = shown;
+    add_cell(line, row.id.as_bytes(), widths.id);
+    add_cell(line, cells.agent.as_slice(), widths.agent);
+    add_state(line, options, row, cells, widths);
+    if has_details(options, state, index, row) {
+        add_details(alloc, line, options, state, index, row);
+    }
+    line.byte(b'\n');
 }
 
-/// The state as a table: a line of headings, and a row of each resource that is asked for, in order of registration. `None` if a single
-/// resource is asked for that is not registered.
-pub fn table_of(
+// Appends the rows that are shown.
+fn add_rows(
+    alloc: Global,
+    line: &mut LineText,
+    options: &StatusOptions,
+    state: &State,
+    rows: &[Row],
+    cells: &[Cells],
+) {
+    let widths = widths_of(options, rows, cells);
+    add_head(line, widths);
+    for index in 0..state.len() {
+        if let (Some(row), Some(cells)) = (rows.get(index), cells.get(index)) {
+            if row.is_shown {
+                add_row(alloc, line, options, state, (index, widths), (row, cells));
+            }
+        }
+    }
+}
+
+/// The status of resources as a table: a line of headings, a row of each that is shown, and how many there are in each condition.
+pub(crate) fn table_of(
     alloc: Global,
     options: &StatusOptions,
     state: &State,
-) -> Result<Option<Vec<u8>>, AllocError>
-    ensures table { IfOk result
-        (λ found. IfSome found (λ text. IsTable options.now state.now.state text.items)) }
-    ensures none { IfOk result
-        (λ found. IfNone found (asked_entries options.now state.now.state.resources ≡ [])) }
+    rows: &[Row],
+) -> Result<Vec<u8>, AllocError>
     ensures memory { OnErr result (IsTrue ⟦<Global as Grows>⟧.refuses) }
 {
-    let columns = columns_of(alloc, options, state)?;
-    let rows = rows_of(alloc, options, state, columns)?;
-    if rows.as_slice().is_empty() && options.only.is_some() {
-        return Ok(None);
+    let cells = all_cells(alloc, options, state, rows)?;
+    let mut line = LineText::new(alloc);
+    add_left(alloc, &mut line, options, state);
+    if rows.iter().any(|row| row.is_shown) {
+        add_rows(alloc, &mut line, options, state, rows, cells.as_slice());
     }
-    let mut text = head_of(alloc, columns)?;
-    append(&mut text, rows.as_slice())?;
-    Ok(Some(text))
+    if options.ids.is_empty() {
+        add_summary(&mut line, rows);
+    }
+    line.finish()
 }

@@ -1,0 +1,4 @@
+pub mod ConditionExamples
+pub mod ConditionLemmas
+pub mod FactLemmas
+pub mod LawLemmas
