@@ -1,4 +1,4 @@
-//! Runs one action of an agent at once: without a journal, and with this program's standard output and error for the agent's.
+//! Runs one action of an agent at once and records nothing, with this program's standard output and error for the agent's.
 #![tactic(auto)]
 
 mod call;
@@ -8,5 +8,5 @@ mod run;
 
 pub use call::{OnceCall, What};
 pub use ending::OnceEnd;
-pub use parse::{OnceFault, read_agent, read_parameters, read_what};
+pub use parse::{OnceFault, read_agent, read_id, read_parameters, read_what};
 pub use run::{OnceSite, run_once};

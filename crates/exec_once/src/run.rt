@@ -63,10 +63,11 @@ fn command_for<S: Allocator>(
 // Spawns the agent and lets it run. The launcher ends by itself if it is not let run.
 fn spawned<R: Processes + Programs>(
     rt: &R,
+    alloc: Global,
     leading: &Leading,
     called: &mut Called,
 ) -> io::Result<Child<R::Started>> {
-    check_program(rt, leading, called.invocation.program())?;
+    check_program(rt, alloc, leading, &called.invocation)?;
     let mut child = called.command.spawn(rt)?;
     open_gate(&mut child)?;
     Ok(child)
@@ -113,7 +114,7 @@ where
         let _ = rt.eprintln("ocfexec: no memory to start the agent");
         return OnceEnd::NotStarted;
     };
-    match spawned(rt, at.leading, &mut called) {
+    match spawned(rt, alloc, at.leading, &mut called) {
         Ok(mut child) => {
             let end_of = await_end(rt, &mut child, millis);
             if matches!(end_of, OnceEnd::TimedOut | OnceEnd::Lost) {

@@ -1,6 +1,8 @@
 -- The command line after adding arguments and subcommands, and the result of a parse.
-use Rattle.std.proofs.Common.{◌≡◌, Bool, false, ◌||◌, List, Option, Some, None, option_map, refl, ap, ap₂, ◌∙◌, sym}
+use Rattle.std.proofs.Common.{◌≡◌, ◌+◌, ◌<◌, ◌++◌, ℕ, Bool, false, ◌||◌, List, [], ◌∷◌, Option, Some, None, get_or, length, map, take, option_map, refl, ap, ap₂, ◌∙◌, sym}
 use Rattle.std.proofs.Math.Bool.{or-false}
+use Rattle.std.proofs.lemmas.List.{map_more}
+use Rattle.std.proofs.lemmas.List.Sums.{fold-append}
 use Rattle.std.proofs.lemmas.Option.{none-some}
 use Rattle.clap.specs.Words.{App, Row, Rule, Text, AddsArg, AddsSubcommand, app_of, rule_of, subcommand_rows_of, subcommand_name_of}
 use Rattle.clap.specs.Words.{with_rule, with_subcommand}
@@ -9,6 +11,8 @@ use Rattle.clap.specs.declared.builder.command.Command.TheViews.{out-Command}
 use Rattle.clap.specs.declared.builder.arg.Arg.{Arg}
 use Rattle.clap.specs.declared.parser.matches.ArgMatches.{ArgMatches}
 use Rattle.ocf_types.specs.Lemmas.{some_is}
+use Rattle.exec_options.specs.declared.table.Argument.{Argument}
+use Rattle.exec_options.specs.App.{rule_for, with_rules}
 use Rattle.clap.specs.declared.parser.matches.ArgMatches.TheViews.{out-ArgMatches}
 
 pub app-arg : (old : Command) (a : Arg) (new : Command) (r : Rule) (app : App) → AddsArg old a new → a.global ≡ false → rule_of a ≡ r
@@ -22,6 +26,16 @@ local-arg old a new g h l f = h.globals ∙ ap₂ (λ x y. x || y) f l ∙ or-fa
 pub app-sub : (old sub new : Command) (app s : App) → AddsSubcommand old sub new → (out-Command sub).has_globals ≡ false → app_of sub ≡ s
     → app_of old ≡ app → app_of new ≡ with_subcommand app s.top
 app-sub old sub new app s h l e f = h.shape l ∙ ap₂ with_subcommand f (ap (λ (a : App). a.top) e)
+
+-- one argument more of a group
+pub added_rules : (group : List Argument) (i : ℕ) (x : Argument) (first : App) (old : Command) (a : Arg) (new : Command)
+    → i < length group → AddsArg old a new → a.global ≡ false → rule_of a ≡ rule_for (get_or group i x)
+    → app_of old ≡ with_rules first (map rule_for (take i group))
+    → app_of new ≡ with_rules first (map rule_for (take (i + 1) group))
+added_rules group i x first old a new h adds local is so_far =
+    app-arg old a new (rule_for (get_or group i x)) (with_rules first (map rule_for (take i group))) adds local is so_far
+    ∙ sym (fold-append with_rule first (map rule_for (take i group)) (rule_for (get_or group i x) ∷ []))
+    ∙ ap (with_rules first) (sym (map_more rule_for group i x h))
 
 pub both_parts : {A B : Type 0} (o : Option (A × B)) (a : A) (b : B) → Some a ≡ option_map (λ p. p.0) o → Some b ≡ option_map (λ p. p.1) o
     → o ≡ Some (a, b)

@@ -6,13 +6,12 @@ use Rattle.clap.specs.declared.builder.command.Command.{Command}
 use Rattle.clap.specs.declared.parser.matches.ArgMatches.{ArgMatches}
 use Rattle.exec_options.specs.declared.options.Subcommand.{Subcommand}
 use Rattle.exec_options.specs.declared.fault.ArgumentsFault.{ArgumentsFault}
-use Rattle.exec_options.specs.declared.fault.ArgumentsFault.TheVariants.{Help, Usage, Choice, TidyAt, Root, Orphans, Since, Timeout, Memory}
+use Rattle.exec_options.specs.declared.fault.ArgumentsFault.TheVariants.{Help, Usage, Choice, Value, Memory}
 use Rattle.exec_options.specs.declared.arguments.Wanted.TheVariants as wanted
 use Rattle.exec_options.specs.App.{ocfexec_app}
-use Rattle.exec_options.specs.Faults.{Flawed, HasFaultKind, HasOnceFlaw, HasPlacedFlaw, IsFault, OnceFlawed, OrphansFlaw, RootFlaw}
-use Rattle.exec_options.specs.Faults.{SinceFlaw, TidyAtFlaw, TimeoutFlaw, Unnamed}
+use Rattle.exec_options.specs.Faults.{HasFault, HasFaultKind, HasPlacedFault, IsFault, Unnamed}
 use Rattle.exec_options.specs.Subcommands.{once_word, subcommand_word}
-use Rattle.exec_options.specs.Arguments.{location_in, AsksFor, IsJournalWanted, IsOnceWanted}
+use Rattle.exec_options.specs.Arguments.{AsksFor, IsJournalWanted, IsOnceWanted}
 use Rattle.exec_options.specs.declared.arguments.Wanted.{Wanted}
 use Rattle.ocf_types.specs.Lemmas.{some_is}
 use Rattle.exec_options.proofs.AppLemmas.{both_parts, name_in_rows}
@@ -49,7 +48,7 @@ given home arguments name rows s (wanted.Once o) named is none = absurd none
 
 -- and so do those of an action that is run once
 pub given_once : (home : Option Text) (arguments : List Text) (name : Text) (rows : List Row) (w : Wanted)
-    → subcommand_of ocfexec_app arguments ≡ Some (name, rows) → name ≡ once_word → IsOnceWanted rows w → AsksFor home arguments w
+    → subcommand_of ocfexec_app arguments ≡ Some (name, rows) → name ≡ once_word → IsOnceWanted home rows w → AsksFor home arguments w
 given_once home arguments name rows (wanted.Journal o) named is none = absurd none
 given_once home arguments name rows (wanted.Once o) named is read = record {
   rows = rows;
@@ -57,51 +56,29 @@ given_once home arguments name rows (wanted.Once o) named is read = record {
   read = read;
 }
 
-shown : (home : Option Text) (arguments : List Text) (name : Text) (rows : List Row) (s : Subcommand) (P : List Row → Type 0)
-    → subcommand_of ocfexec_app arguments ≡ Some (name, rows) → name ≡ subcommand_word s → is_some (location_in s home rows) ≡ true → P rows
-    → Flawed home arguments P
-shown home arguments name rows s P named is placed flaw = record {
-  subcommand = s;
-  rows = rows;
-  names = named ∙ ap (λ t. Some (t, rows)) is;
-  placed = placed;
-  has_flaw = flaw;
-}
-
-shown_once : (arguments : List Text) (name : Text) (rows : List Row) (P : List Row → Type 0)
-    → subcommand_of ocfexec_app arguments ≡ Some (name, rows) → name ≡ once_word → P rows → OnceFlawed arguments P
-shown_once arguments name rows P named is flaw = record {
-  rows = rows;
-  names = named ∙ ap (λ t. Some (t, rows)) is;
-  has_flaw = flaw;
-}
-
--- arguments that name no journal, or have another flaw, give no options
+-- arguments that name no journal, or have a value that is refused, give no options
 pub flawed : (home : Option Text) (arguments : List Text) (name : Text) (rows : List Row) (s : Subcommand) (fault : ArgumentsFault)
     → fault_of ocfexec_app arguments ≡ [] → subcommand_of ocfexec_app arguments ≡ Some (name, rows) → name ≡ subcommand_word s
-    → HasPlacedFlaw s home rows fault → IsFault home arguments fault
+    → HasPlacedFault s home rows fault → IsFault home arguments fault
 flawed home arguments name rows s Choice parsed named is none = (
   parsed,
   inl (record { subcommand = s; rows = rows; names = named ∙ ap (λ t. Some (t, rows)) is; none = none }),
 )
-flawed home arguments name rows s TidyAt parsed named is (placed, flaw) = (parsed, shown home arguments name rows s TidyAtFlaw named is placed flaw)
-flawed home arguments name rows s Root parsed named is (placed, flaw) = (parsed, inl (shown home arguments name rows s RootFlaw named is placed flaw))
-flawed home arguments name rows s Orphans parsed named is (placed, flaw) =
-    (parsed, shown home arguments name rows s OrphansFlaw named is placed flaw)
-flawed home arguments name rows s Since parsed named is (placed, flaw) = (parsed, shown home arguments name rows s SinceFlaw named is placed flaw)
-flawed home arguments name rows s Timeout parsed named is (placed, flaw) = absurd flaw
-flawed home arguments name rows s (Help e) parsed named is (placed, flaw) = absurd flaw
-flawed home arguments name rows s (Usage e) parsed named is (placed, flaw) = absurd flaw
-flawed home arguments name rows s Memory parsed named is (placed, flaw) = tt
+flawed home arguments name rows s (Value value) parsed named is (placed, flaw) = (
+  parsed,
+  inl (record { subcommand = s; rows = rows; names = named ∙ ap (λ t. Some (t, rows)) is; placed = placed; has_flaw = flaw }),
+)
+flawed home arguments name rows s (Help e) parsed named is flaw = absurd flaw
+flawed home arguments name rows s (Usage e) parsed named is flaw = absurd flaw
+flawed home arguments name rows s Memory parsed named is flaw = absurd flaw
 
 pub flawed_once : (home : Option Text) (arguments : List Text) (name : Text) (rows : List Row) (fault : ArgumentsFault)
-    → fault_of ocfexec_app arguments ≡ [] → subcommand_of ocfexec_app arguments ≡ Some (name, rows) → name ≡ once_word → HasOnceFlaw rows fault
+    → fault_of ocfexec_app arguments ≡ [] → subcommand_of ocfexec_app arguments ≡ Some (name, rows) → name ≡ once_word → HasFault rows fault
     → IsFault home arguments fault
-flawed_once home arguments name rows Root parsed named is flaw = (parsed, inr (shown_once arguments name rows RootFlaw named is flaw))
-flawed_once home arguments name rows Timeout parsed named is flaw = (parsed, shown_once arguments name rows TimeoutFlaw named is flaw)
-flawed_once home arguments name rows TidyAt parsed named is flaw = absurd flaw
-flawed_once home arguments name rows Orphans parsed named is flaw = absurd flaw
-flawed_once home arguments name rows Since parsed named is flaw = absurd flaw
+flawed_once home arguments name rows (Value value) parsed named is flaw = (
+  parsed,
+  inr (record { rows = rows; names = named ∙ ap (λ t. Some (t, rows)) is; has_flaw = flaw }),
+)
 flawed_once home arguments name rows (Help e) parsed named is flaw = absurd flaw
 flawed_once home arguments name rows (Usage e) parsed named is flaw = absurd flaw
 flawed_once home arguments name rows Choice parsed named is flaw = absurd flaw
@@ -113,11 +90,7 @@ pub fault_kind : (home : Option Text) (arguments : List Text) (fault : Arguments
 fault_kind home arguments (Help e) h = h
 fault_kind home arguments (Usage e) h = h
 fault_kind home arguments Choice h = absurd h
-fault_kind home arguments TidyAt h = absurd h
-fault_kind home arguments Root h = absurd h
-fault_kind home arguments Orphans h = absurd h
-fault_kind home arguments Since h = absurd h
-fault_kind home arguments Timeout h = absurd h
+fault_kind home arguments (Value value) h = absurd h
 fault_kind home arguments Memory h = h
 
 -- the texts of an argument, or no texts if it is absent

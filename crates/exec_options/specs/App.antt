@@ -1,115 +1,100 @@
--- The command line of `ocfexec` as `clap` reads it: `run` and `serve` with all options of the journal, of the agents' site and of the
--- output of agents; `show`, `status`, `log` and `metrics` with the directory of a journal and options of their own; and `once`.
-use Rattle.std.specs.Prelude.{[], ◌∷◌, Some, true, codes}
-use Rattle.clap.specs.Words.{App, Rule, Text, new_app, new_rule, with_rule, with_subcommand}
+-- The command line of `ocfexec`: the arguments of its subcommands, and how `clap` reads them.
+use Rattle.std.specs.Prelude.{ℕ, [], ◌∷◌, List, Some, true, codes, fold}
+use Rattle.clap.specs.Words.{App, Rule, new_app, new_rule, with_rule, with_subcommand}
 use Rattle.clap.specs.declared.builder.ArgAction.TheVariants.{Append, SetTrue}
+use Rattle.exec_options.specs.declared.table.Argument.{Argument}
+use Rattle.exec_options.specs.declared.table.Form.{Form}
+use Rattle.exec_options.specs.declared.table.Form.TheVariants.{Flag, Letter, Text, LetterText, TextOr, Word, Words}
+use Rattle.exec_options.specs.declared.table.TheConstants.{ORPHANS, PATH, ROOT, TIDY_AT, TIMEOUT}
 
--- an option with one text
-abbrev pub text_rule : Text → Rule
-text_rule id = record (new_rule id) { long = Some id; value_names = 1 }
+-- a flag; an option with a text, or with a default; an argument that is no option, and any number of these; a letter for one of them
+abbrev pub flag : List ℕ → Rule
+flag name = record (new_rule name) { long = Some name; action = Some SetTrue }
 
--- an option with one text, and a default
-abbrev pub text_rule_or : Text → Text → Rule
-text_rule_or id default = record (text_rule id) { defaults = default ∷ [] }
+abbrev pub text : List ℕ → Rule
+text name = record (new_rule name) { long = Some name; value_names = 1 }
 
--- an argument that is no option
-abbrev pub word_rule : Text → Rule
-word_rule id = record (new_rule id) { value_names = 1 }
+abbrev pub text_or : List ℕ → List ℕ → Rule
+text_or name default = record (text name) { defaults = default ∷ [] }
 
--- a required argument
-abbrev pub needed_rule : Text → Rule
-needed_rule id = record (word_rule id) { required = true }
+abbrev pub word : List ℕ → Rule
+word name = record (new_rule name) { value_names = 1 }
 
--- any number of arguments that are no options
-abbrev pub arguments_rule : Text → Rule
-arguments_rule id = record (word_rule id) { action = Some Append }
+abbrev pub words : List ℕ → Rule
+words name = record (word name) { action = Some Append }
 
--- an option without a text
-abbrev pub flag_rule : Text → Rule
-flag_rule id = record (new_rule id) { long = Some id; action = Some SetTrue }
+abbrev pub by_letter : ℕ → Rule → Rule
+by_letter c rule = record rule { short = Some c }
 
-abbrev pub default_root : Text
-default_root = codes "/usr/lib/ocf"
+-- the rule of an argument of this name and form
+abbrev pub rule_of_form : List ℕ → Form → Rule
+rule_of_form name Flag = flag name
+rule_of_form name (Letter c) = by_letter c (flag name)
+rule_of_form name (Text value) = text name
+rule_of_form name (LetterText c value) = by_letter c (text name)
+rule_of_form name (TextOr value default) = text_or name default.now
+rule_of_form name (Word value) = word name
+rule_of_form name (Words value) = words name
 
-abbrev pub default_path : Text
-default_path = codes "/usr/sbin:/usr/bin:/sbin:/bin"
+abbrev pub rule_for : Argument → Rule
+rule_for a = rule_of_form a.name.now a.form
 
--- three quarters of a part's limit
-abbrev pub default_tidy_at : Text
-default_tidy_at = codes "6291456"
+-- a command with these arguments too
+abbrev pub with_rules : App → List Rule → App
+with_rules app rules = fold with_rule app rules
 
--- the default timeout of an action
-abbrev pub default_orphans : Text
-default_orphans = codes "20000"
+-- where the journal is, and how it is opened and tidied
+abbrev pub location_rules : List Rule
+location_rules = text (codes "journal") ∷ (flag (codes "memory") ∷ [])
 
--- the defaults of an action that is run once
-abbrev pub default_id : Text
-default_id = codes "once"
+abbrev pub kept_rules : List Rule
+kept_rules = flag (codes "existing") ∷ (flag (codes "any-owner") ∷ (text_or (codes "tidy-at") TIDY_AT.now ∷ []))
 
-abbrev pub default_timeout : Text
-default_timeout = codes "20000"
+-- where the agents are, and how they are called
+abbrev pub site_rules : List Rule
+site_rules =
+    text_or (codes "root") ROOT.now ∷ (text (codes "via") ∷ (text_or (codes "path") PATH.now
+    ∷ (flag (codes "meta-variables") ∷ (flag (codes "no-groups") ∷ []))))
 
--- the options for where the journal is kept
-abbrev pub with_location_app : App → App
-with_location_app a =
-    let a₁ = with_rule a (text_rule (codes "journal")) in
-    with_rule a₁ (flag_rule (codes "memory"))
+-- the output of agents, the lines of results, and what interrupted actions left
+abbrev pub agent_rules : List Rule
+agent_rules =
+    text (codes "log") ∷ (text (codes "logs") ∷ (flag (codes "events")
+    ∷ (text_or (codes "orphans") ORPHANS.now ∷ (flag (codes "leave-orphans") ∷ []))))
 
--- these options, whether root opens a journal that other users can write, and when the journal is tidied
-abbrev pub with_journal_app : App → App
-with_journal_app a =
-    let a₁ = with_location_app a in
-    let a₂ = with_rule a₁ (flag_rule (codes "any-owner")) in
-    with_rule a₂ (text_rule_or (codes "tidy-at") default_tidy_at)
+-- what `status` and `log` print
+abbrev pub shown_rules : List Rule
+shown_rules = words (codes "resource") ∷ (flag (codes "json") ∷ (flag (codes "failed") ∷ (text (codes "color") ∷ [])))
 
--- the options for where the agents are, what they are run with, whether they get Pacemaker's own variables, and whether they run in the
--- process group of the program
-abbrev pub with_site_app : App → App
-with_site_app a =
-    let a₁ = with_rule a (text_rule_or (codes "root") default_root) in
-    let a₂ = with_rule a₁ (text_rule (codes "via")) in
-    let a₃ = with_rule a₂ (text_rule_or (codes "path") default_path) in
-    let a₄ = with_rule a₃ (flag_rule (codes "meta-variables")) in
-    with_rule a₄ (flag_rule (codes "no-groups"))
+abbrev pub status_rules : List Rule
+status_rules = flag (codes "exit-code") ∷ (text (codes "logs") ∷ (flag (codes "times") ∷ (text (codes "watch") ∷ [])))
 
--- the options for the output of agents and the lines of results, for how long a resource waits for what an interrupted action left, and
--- whether that is left alone
-abbrev pub with_agent_app : App → App
-with_agent_app a =
-    let a₁ = with_rule a (text_rule (codes "log")) in
-    let a₂ = with_rule a₁ (text_rule (codes "logs")) in
-    let a₃ = with_rule a₂ (flag_rule (codes "events")) in
-    let a₄ = with_rule a₃ (text_rule_or (codes "orphans") default_orphans) in
-    with_rule a₄ (flag_rule (codes "leave-orphans"))
+abbrev pub log_rules : List Rule
+log_rules =
+    text (codes "since") ∷ (text (codes "until") ∷ (by_letter 110 (text (codes "last"))
+    ∷ (by_letter 102 (flag (codes "follow")) ∷ (flag (codes "changes") ∷ (flag (codes "salvage") ∷ [])))))
 
--- all options of `run` and `serve`
-abbrev pub with_options_app : App → App
-with_options_app a = with_agent_app (with_site_app (with_journal_app a))
+-- what is run once
+abbrev pub call_rules : List Rule
+call_rules =
+    word (codes "agent") ∷ (word (codes "action") ∷ (words (codes "parameters") ∷ (text_or (codes "timeout") TIMEOUT.now
+    ∷ (text (codes "level") ∷ (text (codes "id") ∷ (text (codes "of") ∷ (text (codes "journal") ∷ (flag (codes "beside") ∷ []))))))))
 
--- the arguments of `status`: a resource, JSON, the exit status for failed resources, and the directory of the agents' logs
-abbrev pub with_status_app : App → App
-with_status_app a =
-    let a₁ = with_rule a (word_rule (codes "resource")) in
-    let a₂ = with_rule a₁ (flag_rule (codes "json")) in
-    let a₃ = with_rule a₂ (flag_rule (codes "exit-code")) in
-    with_rule a₃ (text_rule (codes "logs"))
+-- a subcommand that reads commands, and one that reads a journal
+abbrev pub session_app : List ℕ → App
+session_app name = with_rules (with_rules (with_rules (with_rules (new_app name) location_rules) kept_rules) site_rules) agent_rules
 
--- the arguments of `log`: a resource, the first moment, JSON, and whether a damaged journal is read
-abbrev pub with_log_app : App → App
-with_log_app a =
-    let a₁ = with_rule a (word_rule (codes "resource")) in
-    let a₂ = with_rule a₁ (text_rule (codes "since")) in
-    let a₃ = with_rule a₂ (flag_rule (codes "json")) in
-    with_rule a₃ (flag_rule (codes "salvage"))
+abbrev pub query_app : List ℕ → App
+query_app name = with_rules (new_app name) location_rules
 
--- the arguments of `once`: the agent, the action, the parameters, the timeout, and the id of the resource
-abbrev pub with_call_app : App → App
-with_call_app a =
-    let a₁ = with_rule a (needed_rule (codes "agent")) in
-    let a₂ = with_rule a₁ (needed_rule (codes "action")) in
-    let a₃ = with_rule a₂ (arguments_rule (codes "parameters")) in
-    let a₄ = with_rule a₃ (text_rule_or (codes "timeout") default_timeout) in
-    with_rule a₄ (text_rule_or (codes "id") default_id)
+abbrev pub status_app : App
+status_app = with_rules (with_rules (query_app (codes "status")) shown_rules) status_rules
+
+abbrev pub log_app : App
+log_app = with_rules (with_rules (query_app (codes "log")) shown_rules) log_rules
+
+abbrev pub once_app : App
+once_app = with_rules (with_rules (new_app (codes "once")) call_rules) site_rules
 
 -- the top level: a subcommand is required, and `--version` prints the version
 abbrev pub top_app : App
@@ -117,35 +102,13 @@ top_app =
     let a = new_app (codes "ocfexec") in
     record a { top = record a.top { has_version = true; subcommand_required = true } }
 
--- the subcommands
-abbrev pub run_app : App
-run_app = with_options_app (new_app (codes "run"))
-
-abbrev pub serve_app : App
-serve_app = with_options_app (new_app (codes "serve"))
-
-abbrev pub show_app : App
-show_app = with_location_app (new_app (codes "show"))
-
-abbrev pub status_app : App
-status_app = with_status_app (with_location_app (new_app (codes "status")))
-
-abbrev pub log_app : App
-log_app = with_log_app (with_location_app (new_app (codes "log")))
-
-abbrev pub metrics_app : App
-metrics_app = with_location_app (new_app (codes "metrics"))
-
-abbrev pub once_app : App
-once_app = with_site_app (with_call_app (new_app (codes "once")))
-
 -- the whole command line
 abbrev pub ocfexec_app : App
 ocfexec_app =
-    let with_run = with_subcommand top_app run_app.top in
-    let with_serve = with_subcommand with_run serve_app.top in
-    let with_show = with_subcommand with_serve show_app.top in
+    let with_run = with_subcommand top_app (session_app (codes "run")).top in
+    let with_serve = with_subcommand with_run (session_app (codes "serve")).top in
+    let with_show = with_subcommand with_serve (query_app (codes "show")).top in
     let with_status = with_subcommand with_show status_app.top in
     let with_log = with_subcommand with_status log_app.top in
-    let with_metrics = with_subcommand with_log metrics_app.top in
+    let with_metrics = with_subcommand with_log (query_app (codes "metrics")).top in
     with_subcommand with_metrics once_app.top

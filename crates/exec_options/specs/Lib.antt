@@ -1,4 +1,5 @@
 pub mod Subcommands
 pub mod App
+pub mod Times
 pub mod Arguments
 pub mod Faults

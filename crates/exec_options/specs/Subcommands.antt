@@ -1,5 +1,7 @@
--- The names of the subcommands.
+-- The names of the subcommands, and the words of `--color`.
 use Rattle.std.specs.Prelude.{ℕ, Bool, true, false, List, codes}
+use Rattle.exec_options.specs.declared.options.Color.{Color}
+use Rattle.exec_options.specs.declared.options.Color.TheVariants.{Auto, Always, Never}
 use Rattle.exec_options.specs.declared.options.Subcommand.{Subcommand}
 use Rattle.exec_options.specs.declared.options.Subcommand.TheVariants.{Run, Serve, Show, Status, Log, Metrics}
 
@@ -11,7 +13,7 @@ subcommand_word Status = codes "status"
 subcommand_word Log = codes "log"
 subcommand_word Metrics = codes "metrics"
 
--- the name of the subcommand that has no journal
+-- the name of the subcommand that has no journal of its own
 abbrev pub once_word : List ℕ
 once_word = codes "once"
 
@@ -23,3 +25,8 @@ is_query Show = true
 is_query Status = true
 is_query Log = true
 is_query Metrics = true
+
+abbrev pub color_word : Color → List ℕ
+color_word Auto = codes "auto"
+color_word Always = codes "always"
+color_word Never = codes "never"

@@ -1,45 +1,29 @@
 //! Reads the options from the arguments.
-ghost use Rattle.std.specs.Prelude.{◌≡◌, ℕ, [], true, map, string_bytes, codes, option_map, unwrap_or, IfOk, IfErr, IsTrue, OnErr, OnOk, IfSome, IfNone};
-ghost use Rattle.clap.specs.Words.{all_of, first_of, rows_of, found_of, fault_of};
+ghost use Rattle.std.specs.Prelude.{◌≡◌, [], map, string_bytes, codes, option_map, IfOk, IfErr, IsTrue, OnErr, OnOk};
+ghost use Rattle.clap.specs.Words.{rows_of, found_of, fault_of};
 ghost use Rattle.exec_options.specs.App.{ocfexec_app};
-ghost use Rattle.ocf_types.specs.Limits.{part_limit};
-ghost use Rattle.exec_options.specs.Arguments.{directory_of, is_absolute, is_true_text, longest_wait, orphans_text, location_in, default_directory, root_text, tidy_text, timeout_text};
-ghost use Rattle.exec_options.specs.Arguments.{AsksFor, IsJournalWanted, IsNumberTo, IsOnceWanted, IsReadFrom, IsSince, IsTimeout};
-ghost use Rattle.exec_options.specs.Faults.{HasFlaw, HasOnceFlaw, HasPlacedFlaw, IsFault, OrphansFlaw, RootFlaw, TidyAtFlaw, TimeoutFlaw};
+ghost use Rattle.exec_options.specs.Arguments.{default_directory, directory_of, is_clear, is_once, location_in, once_action, texts_in};
+ghost use Rattle.exec_options.specs.Arguments.{AsksFor, IsJournalWanted, IsOnceWanted, IsReadFrom, IsTarget};
+ghost use Rattle.exec_options.specs.Faults.{HasFault, HasFlaw, HasPlacedFault, IsFault};
 
-use crate::app::{ID, JOURNAL, ORPHANS, PATH, ROOT, TIDY_AT, TIMEOUT};
-use crate::fault::ArgumentsFault;
-use crate::line::command_line;
-use crate::once::OnceOptions;
+use crate::app::command_line;
+use crate::fault::{ArgumentsFault, BadValue};
+use crate::once::{JournalResource, NamedAgent, OnceOptions, OnceTarget};
 use crate::options::{JournalLocation, Options, Subcommand};
+use crate::rows::{is_set, text_of, texts_of};
+use crate::table::{ID, JOURNAL, PATH};
+use crate::values;
 use clap::ArgMatches;
 use growth::{Grows, vec_of};
-use log_lines::moment_begun;
-use ocf_types::{ORPHANS_LIMIT, PART_LIMIT};
 use std::alloc::{AllocError, Global};
 
 /// The options that the arguments of the command line give.
-#[derive(Debug, Drop)]
+#[derive(Drop)]
 pub enum Wanted<'a> {
     /// Those of a subcommand with a journal.
     Journal(Options<'a>),
-    /// Those of an action that is run once, without a journal.
+    /// Those of an action that is run once.
     Once(OnceOptions<'a>),
-}
-
-fn text_of<'a>(matches: &ArgMatches<'a>, id: &str) -> Option<&'a str>
-    ensures { option_map (λ s. s.now) result ≡ first_of id.now (rows_of (found_of matches.now)) }
-{
-    matches.get_str(id)
-}
-
-fn is_set(matches: &ArgMatches<'_>, id: &str) -> bool
-    ensures { result ≡ is_true_text (first_of id.now (rows_of (found_of matches.now))) }
-{
-    match text_of(matches, id) {
-        Some(text) => text == "true",
-        None => false,
-    }
 }
 
 // The directory to read if no journal is named; a subcommand that starts agents has none.
@@ -74,115 +58,10 @@ fn journal_location<'a>(
     }
 }
 
-// The number that a text denotes, if it is at most this limit.
-fn number_to(limit: u64, text: &str) -> Option<u64>
-    ensures number { IfSome result (IsNumberTo limit text.now) }
-    ensures none { IfNone result ((n : ℕ) → ¬ IsNumberTo limit text.now n) }
-{
-    match text.parse::<u64>() {
-        Ok(number) if number <= limit => Some(number),
-        _ => None,
-    }
-}
-
-fn tidy_at(matches: &ArgMatches<'_>) -> Result<u64, ArgumentsFault>
-    ensures number { IfOk result
-        (IsNumberTo part_limit (tidy_text (rows_of (found_of matches.now)))) }
-    ensures fault { IfErr result
-        (λ f. (f ≡ ArgumentsFault.TidyAt) × TidyAtFlaw (rows_of (found_of matches.now))) }
-{
-    match number_to(PART_LIMIT, text_of(matches, "tidy-at").unwrap_or(TIDY_AT)) {
-        Some(bytes) => Ok(bytes),
-        None => Err(ArgumentsFault::TidyAt),
-    }
-}
-
-fn orphans(matches: &ArgMatches<'_>) -> Result<u64, ArgumentsFault>
-    ensures number { IfOk result
-        (IsNumberTo longest_wait (orphans_text (rows_of (found_of matches.now)))) }
-    ensures fault { IfErr result
-        (λ f. (f ≡ ArgumentsFault.Orphans) × OrphansFlaw (rows_of (found_of matches.now))) }
-{
-    match number_to(
-        ORPHANS_LIMIT,
-        text_of(matches, "orphans").unwrap_or(ORPHANS),
-    ) {
-        Some(millis) => Ok(millis),
-        None => Err(ArgumentsFault::Orphans),
-    }
-}
-
-// Whether a path begins at the root directory.
-fn is_absolute(path: &str) -> bool
-    ensures { result ≡ is_absolute path.now }
-{
-    match path.as_bytes().first() {
-        Some(byte) => *byte == b'/',
-        None => false,
-    }
-}
-
-fn root<'a>(matches: &ArgMatches<'a>) -> Result<&'a str, ArgumentsFault>
-    ensures path { IfOk result
-        (λ p. (p.now ≡ root_text (rows_of (found_of matches.now))) × (is_absolute p.now ≡ true)) }
-    ensures fault { IfErr result
-        (λ f. (f ≡ ArgumentsFault.Root) × RootFlaw (rows_of (found_of matches.now))) }
-{
-    let path = text_of(matches, "root").unwrap_or(ROOT);
-    if is_absolute(path) {
-        Ok(path)
-    } else {
-        Err(ArgumentsFault::Root)
-    }
-}
-
-// The moment from which on records are printed; 0 if none is named.
-fn since(alloc: Global, matches: &ArgMatches<'_>) -> Result<u64, ArgumentsFault>
-    ensures moment { IfOk result
-        (IsSince (first_of (codes "since") (rows_of (found_of matches.now)))) }
-    ensures fault { IfErr result (HasFlaw (rows_of (found_of matches.now))) }
-    ensures memory { IfErr result (λ f. f ≡ ArgumentsFault.Memory → IsTrue ⟦<Global as Grows>⟧.refuses) }
-{
-    let Some(text) = text_of(matches, "since") else {
-        return Ok(0);
-    };
-    if text.is_empty() {
-        return Err(ArgumentsFault::Since);
-    }
-    match moment_begun(alloc, text) {
-        Ok(Some(at)) => Ok(at.get()),
-        Ok(None) => Err(ArgumentsFault::Since),
-        Err(_) => Err(ArgumentsFault::Memory),
-    }
-}
-
-// The timeout of an action, in milliseconds.
-fn timeout(matches: &ArgMatches<'_>) -> Result<u32, ArgumentsFault>
-    ensures number { IfOk result (IsTimeout (timeout_text (rows_of (found_of matches.now)))) }
-    ensures fault { IfErr result
-        (λ f. (f ≡ ArgumentsFault.Timeout) × TimeoutFlaw (rows_of (found_of matches.now))) }
-{
-    match text_of(matches, "timeout")
-        .unwrap_or(TIMEOUT)
-        .parse::<u32>()
-    {
-        Ok(millis) if millis > 0 => Ok(millis),
-        _ => Err(ArgumentsFault::Timeout),
-    }
-}
-
-// All texts of this argument.
-fn texts_of<'a, 'm>(matches: &'m ArgMatches<'a>, id: &str) -> Option<&'m [&'a str]>
-    ensures { option_map (λ texts. map (λ s. s.now) texts.now) result
-        ≡ all_of id.now (rows_of (found_of matches.now)) }
-{
-    matches.get_raw(id)
-}
-
 // The parameters of an action.
 fn parameters<'a>(alloc: Global, matches: &ArgMatches<'a>) -> Result<Vec<&'a str>, AllocError>
     ensures texts { IfOk result (λ texts. map (λ s. s.now) texts.items
-        ≡ unwrap_or (all_of (codes "parameters") (rows_of (found_of matches.now))) []) }
+        ≡ texts_in (codes "parameters") (rows_of (found_of matches.now))) }
     ensures memory { OnErr result (IsTrue ⟦<Global as Grows>⟧.refuses) }
 {
     match texts_of(matches, "parameters") {
@@ -191,23 +70,79 @@ fn parameters<'a>(alloc: Global, matches: &ArgMatches<'a>) -> Result<Vec<&'a str
     }
 }
 
+// Whether it is clear what is run once: an agent and its action, or a resource of a journal and its action.
+fn is_clear(matches: &ArgMatches<'_>) -> bool
+    ensures { result ≡ is_clear (rows_of (found_of matches.now)) }
+{
+    let agent = text_of(matches, "agent").is_some();
+    let action = text_of(matches, "action").is_some();
+    let journal = text_of(matches, "journal").is_some() || is_set(matches, "beside");
+    if text_of(matches, "of").is_some() {
+        agent && !action && text_of(matches, "id").is_none()
+    } else {
+        agent && action && !journal
+    }
+}
+
+// Whose action is run once, if the environment names the directory `named`.
+fn target<'a>(
+    alloc: Global,
+    named: Option<&'a str>,
+    matches: &ArgMatches<'a>,
+) -> Result<OnceTarget<'a>, AllocError>
+    ensures target { IfOk result
+        (IsTarget (option_map (λ s. s.now) named.entry) (rows_of (found_of matches.now))) }
+    ensures memory { OnErr result (IsTrue ⟦<Global as Grows>⟧.refuses) }
+{
+    match text_of(matches, "of") {
+        Some(id) => Ok(OnceTarget::Resource(JournalResource {
+            id,
+            directory: text_of(matches, "journal").unwrap_or(named.unwrap_or(JOURNAL)),
+            beside: is_set(matches, "beside"),
+        })),
+        None => Ok(OnceTarget::Agent(NamedAgent {
+            agent: text_of(matches, "agent").unwrap_or(""),
+            id: text_of(matches, "id").unwrap_or(ID),
+            parameters: parameters(alloc, matches)?,
+        })),
+    }
+}
+
+// The name of the action that is run once; the only word after `--of`.
+fn action<'a>(matches: &ArgMatches<'a>) -> &'a str
+    ensures { result.now ≡ once_action (rows_of (found_of matches.now)) }
+{
+    match text_of(matches, "of") {
+        Some(_) => text_of(matches, "agent").unwrap_or(""),
+        None => text_of(matches, "action").unwrap_or(""),
+    }
+}
+
 // The options of an action that is run once.
-fn once_of<'a>(alloc: Global, matches: &ArgMatches<'a>) -> Result<Wanted<'a>, ArgumentsFault>
-    ensures read { IfOk result (IsOnceWanted (rows_of (found_of matches.now))) }
-    ensures fault { IfErr result (HasOnceFlaw (rows_of (found_of matches.now))) }
+fn once_of<'a>(
+    alloc: Global,
+    named: Option<&'a str>,
+    matches: &ArgMatches<'a>,
+) -> Result<Wanted<'a>, ArgumentsFault>
+    ensures read { IfOk result
+        (IsOnceWanted (option_map (λ s. s.now) named.entry) (rows_of (found_of matches.now))) }
+    ensures fault { IfErr result (HasFault (rows_of (found_of matches.now))) }
     ensures memory { IfErr result (λ f. f ≡ ArgumentsFault.Memory → IsTrue ⟦<Global as Grows>⟧.refuses) }
 {
-    let timeout = timeout(matches)?;
-    let root = root(matches)?;
-    let Ok(parameters) = parameters(alloc, matches) else {
+    if !is_clear(matches) {
+        return Err(ArgumentsFault::Value(BadValue::Target));
+    }
+    let level = values::level(matches)?;
+    let timeout = values::timeout(matches)?;
+    let root = values::root(matches)?;
+    let Ok(target) = target(alloc, named, matches) else {
         return Err(ArgumentsFault::Memory);
     };
     Ok(Wanted::Once(OnceOptions {
-        agent: text_of(matches, "agent").unwrap_or(""),
-        action: text_of(matches, "action").unwrap_or(""),
-        parameters,
+        target,
+        action: action(matches),
+        level,
         timeout,
-        id: text_of(matches, "id").unwrap_or(ID),
         root,
         via: text_of(matches, "via"),
         path: text_of(matches, "path").unwrap_or(PATH),
@@ -218,26 +153,21 @@ fn once_of<'a>(alloc: Global, matches: &ArgMatches<'a>) -> Result<Wanted<'a>, Ar
 
 // The options of a subcommand with this journal.
 fn options_of<'a>(
-    alloc: Global,
     subcommand: Subcommand,
     journal: JournalLocation<'a>,
     matches: &ArgMatches<'a>,
-) -> Result<Options<'a>, ArgumentsFault>
+) -> Result<Options<'a>, BadValue>
     ensures read { IfOk result (λ o. (o.subcommand ≡ subcommand) × (o.journal ≡ journal.entry)
         × IsReadFrom (rows_of (found_of matches.now)) o) }
     ensures fault { IfErr result (HasFlaw (rows_of (found_of matches.now))) }
-    ensures memory { IfErr result (λ f. f ≡ ArgumentsFault.Memory → IsTrue ⟦<Global as Grows>⟧.refuses) }
 {
-    let tidy_at = tidy_at(matches)?;
-    let root = root(matches)?;
-    let orphans = orphans(matches)?;
-    let since = since(alloc, matches)?;
     Ok(Options {
         subcommand,
         journal,
         any_owner: is_set(matches, "any-owner"),
-        tidy_at,
-        root,
+        existing: is_set(matches, "existing"),
+        tidy_at: values::tidy_at(matches)?,
+        root: values::root(matches)?,
         via: text_of(matches, "via"),
         path: text_of(matches, "path").unwrap_or(PATH),
         meta_variables: is_set(matches, "meta-variables"),
@@ -245,19 +175,26 @@ fn options_of<'a>(
         log: text_of(matches, "log"),
         logs: text_of(matches, "logs"),
         events: is_set(matches, "events"),
-        orphans,
+        orphans: values::orphans(matches)?,
         leave_orphans: is_set(matches, "leave-orphans"),
-        resource: text_of(matches, "resource"),
+        resources: values::resources(matches)?,
         json: is_set(matches, "json"),
         exit_code: is_set(matches, "exit-code"),
-        since,
+        failed: is_set(matches, "failed"),
+        times: is_set(matches, "times"),
+        watch: values::watch(matches)?,
+        color: values::color(matches)?,
+        changes: is_set(matches, "changes"),
+        last: values::last(matches)?,
+        follow: is_set(matches, "follow"),
+        since: values::since(matches)?,
+        until: values::until(matches)?,
         salvage: is_set(matches, "salvage"),
     })
 }
 
 // The options of a subcommand with a journal, from its arguments.
 fn journal_of<'a>(
-    alloc: Global,
     subcommand: Subcommand,
     named: Option<&'a str>,
     matches: &ArgMatches<'a>,
@@ -266,16 +203,25 @@ fn journal_of<'a>(
         (IsJournalWanted subcommand (option_map (λ s. s.now) named.entry)
         (rows_of (found_of matches.now))) }
     ensures fault { IfErr result
-        (HasPlacedFlaw subcommand (option_map (λ s. s.now) named.entry)
+        (HasPlacedFault subcommand (option_map (λ s. s.now) named.entry)
         (rows_of (found_of matches.now))) }
-    ensures memory { IfErr result (λ f. f ≡ ArgumentsFault.Memory → IsTrue ⟦<Global as Grows>⟧.refuses) }
 {
     let Some(journal) = journal_location(subcommand, named, matches) else {
         return Err(ArgumentsFault::Choice);
     };
-    match options_of(alloc, subcommand, journal, matches) {
+    match options_of(subcommand, journal, matches) {
         Ok(options) => Ok(Wanted::Journal(options)),
-        Err(fault) => Err(fault),
+        Err(value) => Err(ArgumentsFault::Value(value)),
+    }
+}
+
+/// Whether the arguments, which begin with the name of the program, are those of an action that is run once.
+pub fn is_once(arguments: &[String]) -> bool
+    ensures { result ≡ is_once (map string_bytes arguments.now) }
+{
+    match arguments.get(1) {
+        Some(word) => word.as_str() == "once",
+        None => false,
     }
 }
 
@@ -304,10 +250,10 @@ pub fn read_arguments<'a>(
         return Err(ArgumentsFault::Choice);
     };
     if name == "once" {
-        return once_of(alloc, matches);
+        return once_of(alloc, named, matches);
     }
     let Some(subcommand) = Subcommand::of(name) else {
         return Err(ArgumentsFault::Choice);
     };
-    journal_of(alloc, subcommand, named, matches)
+    journal_of(subcommand, named, matches)
 }

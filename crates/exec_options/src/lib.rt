@@ -4,13 +4,18 @@
 mod app;
 mod arguments;
 mod fault;
-mod line;
 mod once;
 mod options;
+mod resources;
+mod rows;
+mod table;
 mod texts;
+mod times;
+mod values;
 
-pub use arguments::{Wanted, read_arguments};
-pub use fault::ArgumentsFault;
-pub use once::OnceOptions;
-pub use options::{JournalLocation, Options, Subcommand};
+pub use arguments::{Wanted, is_once, read_arguments};
+pub use fault::{ArgumentsFault, BadValue};
+pub use once::{JournalResource, NamedAgent, OnceOptions, OnceTarget};
+pub use options::{Color, JournalLocation, Options, Since, Subcommand};
+pub use resources::Resources;
 pub use texts::VERSION;

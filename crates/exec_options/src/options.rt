@@ -1,7 +1,11 @@
 //! The options of the subcommands with a journal.
 ghost use Rattle.std.specs.Prelude.{◌≡◌, ◌≢◌, IfSome, IfNone};
+ghost use Rattle.exec_options.specs.declared.options.Color.{Color};
 ghost use Rattle.exec_options.specs.declared.options.Subcommand.{Subcommand};
-ghost use Rattle.exec_options.specs.Subcommands.{is_query, subcommand_word};
+ghost use Rattle.exec_options.specs.Arguments.{moment_of};
+ghost use Rattle.exec_options.specs.Subcommands.{color_word, is_query, subcommand_word};
+
+use crate::resources::Resources;
 
 /// A subcommand that has a journal.
 #[derive(Clone, Copy, Debug, PartialEq, Eq)]
@@ -60,6 +64,54 @@ pub enum JournalLocation<'a> {
     Memory,
 }
 
+/// A moment that an option names.
+#[derive(Clone, Copy, Debug, PartialEq, Eq)]
+pub enum Since {
+    /// This many milliseconds after the beginning of 1970.
+    Moment(u64),
+    /// This many milliseconds before now.
+    Before(u64),
+}
+
+impl Since {
+    /// The moment in milliseconds since 1970, where it is `now`.
+    pub fn at(self, now: u64) -> u64
+        ensures { result ≡ moment_of self now }
+    {
+        match self {
+            Since::Moment(at) => at,
+            Since::Before(millis) => now.saturating_sub(millis),
+        }
+    }
+}
+
+/// Where colours are used.
+#[derive(Clone, Copy, Debug, PartialEq, Eq)]
+pub enum Color {
+    /// On a terminal that has them, unless the environment refuses them.
+    Auto,
+    Always,
+    Never,
+}
+
+impl Color {
+    /// The value of `--color`.
+    pub(crate) fn of(word: &str) -> Option<Color>
+        ensures found { IfSome result (λ c. word.now ≡ color_word c) }
+        ensures none { IfNone result ((c : Color) → word.now ≢ color_word c) }
+    {
+        if word == "auto" {
+            Some(Color::Auto)
+        } else if word == "always" {
+            Some(Color::Always)
+        } else if word == "never" {
+            Some(Color::Never)
+        } else {
+            None
+        }
+    }
+}
+
 /// The options of a subcommand with a journal.
 #[derive(Clone, Copy, Debug, PartialEq, Eq)]
 pub struct Options<'a> {
@@ -67,6 +119,8 @@ pub struct Options<'a> {
     pub journal: JournalLocation<'a>,
     /// Whether root also opens a journal whose directory or files other users can write.
     pub any_owner: bool,
+    /// Whether a directory that has no journal yet is refused.
+    pub existing: bool,
     /// The directory of the agents, an absolute path: an agent is the file `resource.d/PROVIDER/TYPE` in it.
     pub root: &'a str,
     /// The program that each agent is run through, or `None`.
@@ -91,14 +145,30 @@ pub struct Options<'a> {
     pub orphans: u64,
     /// Whether processes that an interrupted action left are left alone: its resource does not wait for them.
     pub leave_orphans: bool,
-    /// The id of the only resource whose status or records are printed, or `None` for all.
-    pub resource: Option<&'a str>,
+    /// The resources whose status or records are printed.
+    pub resources: Resources<'a>,
     /// Whether the status or the records are printed as lines of JSON.
     pub json: bool,
     /// Whether `status` ends with another exit status than 0 if a resource is failed or unknown.
     pub exit_code: bool,
-    /// Records before this moment are not printed; in milliseconds since 1970, 0 for all.
-    pub since: u64,
+    /// Whether only what failed is printed.
+    pub failed: bool,
+    /// Whether `status` prints moments in place of ages.
+    pub times: bool,
+    /// The seconds after which `status` prints anew, again and again, at most a day.
+    pub watch: Option<u64>,
+    /// Where colours are used.
+    pub color: Color,
+    /// Whether `log` folds equal results of a monitor into one line.
+    pub changes: bool,
+    /// How many records `log` prints at most: the last ones.
+    pub last: Option<u64>,
+    /// Whether `log` goes on with the records that are added later.
+    pub follow: bool,
+    /// Records before this moment are not printed.
+    pub since: Since,
+    /// Records after this moment are not printed.
+    pub until: Since,
     /// Whether the records of a damaged journal are printed, and where they end.
     pub salvage: bool,
 }
