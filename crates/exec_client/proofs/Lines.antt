@@ -8,11 +8,13 @@ use Rattle.ocf_types.specs.declared.reply.Notice.{Notice}
 use Rattle.ocf_types.specs.declared.reply.ReplyOf.TheVariants as reply
 use Rattle.exec_commands.specs.Replies.{formed_line}
 use Rattle.exec_commands.specs.declared.notice.NoticeForm.{NoticeForm}
+use Rattle.exec_commands.specs.declared.notice.Origin.TheVariants.{Opening}
 use Rattle.child_model.specs.declared.answer.Entry.{Entry}
 use Rattle.exec_client.specs.SentItem.{Noticed, Reported, answered, line_of, lines_of, noticed_by}
 use Rattle.exec_client.specs.Signals.{signal_of}
 use Rattle.exec_client.specs.Tags.{TagsView, after_notice, after_reply, first_tag, next_line, tag_of_call}
 use Rattle.exec_client.specs.MessageTags.{after_notices, after_replies, notice_tags}
+use Rattle.exec_client.specs.declared.reasons.RunReason.{RunReason}
 use Rattle.exec_client.proofs.Along.{Along, along_all, along_more, along_part, drop_next, drop_none}
 
 -- bytes that are equal
@@ -30,9 +32,10 @@ pub err_same : {T E : Type 0} (r : Result T E) (a b : Option (List ℕ)) (l m : 
 err_same r a b l m same part = subst (λ (t : List ℕ). OnErr r (AppendsPrefix a b t)) (sym same) part
 
 -- the lines of a report have no tags
-pub report_lines : (form : NoticeForm) (ns : List Notice) → lines_of form [] (map Reported ns) ≡ flat_map (formed_line form None None) ns
-report_lines form [] = refl
-report_lines form (n ∷ ns) = ap (λ (l : List ℕ). formed_line form None None n ++ l) (report_lines form ns)
+pub report_lines : (form : NoticeForm) (reasons : List RunReason) (ns : List Notice)
+    → lines_of form reasons [] (map Reported ns) ≡ flat_map (formed_line form None None Opening) ns
+report_lines form reasons [] = refl
+report_lines form reasons (n ∷ ns) = ap (λ (l : List ℕ). formed_line form None None Opening n ++ l) (report_lines form reasons ns)
 
 -- a reply removes no line that waits
 reply_lines : (r : Reply) (v : TagsView) → (after_reply r v).lines ≡ v.lines
@@ -44,10 +47,10 @@ reply_lines (reply.Info info) v = refl
 reply_lines (reply.History results) v = refl
 reply_lines (reply.Turn end) v = refl
 
-module _ (form : NoticeForm) where
+module _ (form : NoticeForm) (reasons : List RunReason) where
   -- the lines of these replies
   abbrev pub reply_rest : TagsView → List Reply → List ℕ
-  reply_rest v rs = lines_of form v.lines (map answered rs)
+  reply_rest v rs = lines_of form reasons v.lines (map answered rs)
 
   -- the first replies are sent, and those from this index on are left
   pub record Answers (was now : TagsView) (rs : List Reply) (i : ℕ) (old new : Option (List ℕ)) : Type 0 where
@@ -57,28 +60,28 @@ module _ (form : NoticeForm) where
   -- the next reply, and what is then left
   next_rest : (v : TagsView) (rs : List Reply) (i : ℕ) (r : Reply) → drop i rs ≡ r ∷ drop (i + 1) rs
       → reply_rest v (drop i rs)
-      ≡ line_of form (first_tag v.lines) (answered r) ++ reply_rest (after_reply r (next_line v)) (drop (i + 1) rs)
+      ≡ line_of form reasons (first_tag v.lines) (answered r) ++ reply_rest (after_reply r (next_line v)) (drop (i + 1) rs)
   next_rest v rs i r is =
       ap (λ (xs : List Reply). reply_rest v xs) is
-      ∙ ap (λ ts. line_of form (first_tag v.lines) (answered r) ++ lines_of form ts (map answered (drop (i + 1) rs)))
+      ∙ ap (λ ts. line_of form reasons (first_tag v.lines) (answered r) ++ lines_of form reasons ts (map answered (drop (i + 1) rs)))
       (sym (reply_lines r (next_line v)))
 
   pub answers_more : (was v w : TagsView) (rs : List Reply) (i : ℕ) (r : Reply) (a b c : Option (List ℕ)) → i < length rs → r ≡ get_or rs i r
-      → Answers was v rs i a b → Appends b c (line_of form (first_tag v.lines) (answered r)) → w ≡ after_reply r (next_line v)
+      → Answers was v rs i a b → Appends b c (line_of form reasons (first_tag v.lines) (answered r)) → w ≡ after_reply r (next_line v)
       → Answers was w rs (i + 1) a c
   answers_more was v w rs i r a b c lt at so_far sent is =
       let next = drop_next rs i r lt at in
       subst (λ (u : TagsView). Answers was u rs (i + 1) a c) (sym is) (record {
-        lines = along_more (reply_rest was rs) (line_of form (first_tag v.lines) (answered r))
+        lines = along_more (reply_rest was rs) (line_of form reasons (first_tag v.lines) (answered r))
             (reply_rest (after_reply r (next_line v)) (drop (i + 1) rs)) a b c
             (subst (λ (l : List ℕ). Along (reply_rest was rs) l a b) (next_rest v rs i r next) so_far.lines) sent;
         kept = so_far.kept ∙ ap (λ (xs : List Reply). after_replies xs v) next;
       })
 
   pub answers_part : (was v : TagsView) (rs : List Reply) (i : ℕ) (r : Reply) (a b c : Option (List ℕ)) → i < length rs → r ≡ get_or rs i r
-      → Answers was v rs i a b → AppendsPrefix b c (line_of form (first_tag v.lines) (answered r)) → AppendsPrefix a c (reply_rest was rs)
+      → Answers was v rs i a b → AppendsPrefix b c (line_of form reasons (first_tag v.lines) (answered r)) → AppendsPrefix a c (reply_rest was rs)
   answers_part was v rs i r a b c lt at so_far part =
-      along_part (reply_rest was rs) (line_of form (first_tag v.lines) (answered r))
+      along_part (reply_rest was rs) (line_of form reasons (first_tag v.lines) (answered r))
       (reply_rest (after_reply r (next_line v)) (drop (i + 1) rs)) a b c
       (subst (λ (l : List ℕ). Along (reply_rest was rs) l a b) (next_rest v rs i r (drop_next rs i r lt at)) so_far.lines) part
 
@@ -92,7 +95,7 @@ module _ (form : NoticeForm) where
   -- the same of notices, with the signals of this book
   module _ (book : List Entry) where
     abbrev pub notice_rest : TagsView → List Notice → List ℕ
-    notice_rest v ns = lines_of form (notice_tags v ns) (map (noticed_by book) ns)
+    notice_rest v ns = lines_of form reasons (notice_tags v ns) (map (noticed_by book) ns)
 
     pub record Noticing (was now : TagsView) (ns : List Notice) (i : ℕ) (old new : Option (List ℕ)) : Type 0 where
       pub lines : Along (notice_rest was ns) (notice_rest now (drop i ns)) old new
@@ -100,14 +103,14 @@ module _ (form : NoticeForm) where
 
     -- the line of the next notice
     abbrev pub notice_line : TagsView → Notice → List ℕ
-    notice_line v n = line_of form (tag_of_call n.result.call v.calls) (noticed_by book n)
+    notice_line v n = line_of form reasons (tag_of_call n.result.call v.calls) (noticed_by book n)
 
     -- it is the line of a notice with this signal
     pub signaled_line : (v : TagsView) (m n : Notice) (s : Option ℕ) → m ≡ n → s ≡ signal_of book n.result.run
-        → line_of form (tag_of_call m.result.call v.calls) (Noticed m s) ≡ notice_line v n
+        → line_of form reasons (tag_of_call m.result.call v.calls) (Noticed m s) ≡ notice_line v n
     signaled_line v m n s same is =
-        ap (λ (k : Notice). line_of form (tag_of_call k.result.call v.calls) (Noticed k s)) same
-        ∙ ap (λ (t : Option ℕ). line_of form (tag_of_call n.result.call v.calls) (Noticed n t)) is
+        ap (λ (k : Notice). line_of form reasons (tag_of_call k.result.call v.calls) (Noticed k s)) same
+        ∙ ap (λ (t : Option ℕ). line_of form reasons (tag_of_call n.result.call v.calls) (Noticed n t)) is
 
     pub notices_more : (was v w : TagsView) (ns : List Notice) (i : ℕ) (n : Notice) (a b c : Option (List ℕ)) → i < length ns → n ≡ get_or ns i n
         → Noticing was v ns i a b → Appends b c (notice_line v n) → w ≡ after_notice n v → Noticing was w ns (i + 1) a c

@@ -6,6 +6,7 @@ use Rattle.exec_lines.specs.Prefixes.{AppendsPrefix}
 use Rattle.exec_commands.specs.declared.notice.NoticeForm.{NoticeForm}
 use Rattle.exec_client.specs.SentItem.{SentItem, lines_of}
 use Rattle.exec_client.specs.Tags.{LineTag}
+use Rattle.exec_client.specs.declared.reasons.RunReason.{RunReason}
 
 -- the executor as it was opened, the messages that were sent since, in order, and the bytes that the writer holds, if they are known
 pub record ClientView (D : Type 0) : Type 0 where
@@ -17,14 +18,16 @@ pub record ClientView (D : Type 0) : Type 0 where
 abbrev pub IsSent : {D : Type 0} → ClientView D → ClientView D → List SentItem → Type 0
 IsSent old new more = (new.opened ≡ old.opened) × (new.reported ≡ old.reported ++ more)
 
--- These messages were sent, and exactly their lines were written, each with some tag or none.
+-- These messages were sent, and exactly their lines were written, each with some tag or none, and notices with some reason or none.
 pub record Receives {D : Type 0} (form : NoticeForm) (old new : ClientView D) (more : List SentItem) : Type 0 where
   pub reported : IsSent old new more
   pub tags : List LineTag
-  pub written : Appends old.written new.written (lines_of form tags more)
+  pub reasons : List RunReason
+  pub written : Appends old.written new.written (lines_of form reasons tags more)
 
 -- These messages were sent in part: a prefix of their lines was written, and maybe a prefix of the next line.
 pub record ReceivesPart {D : Type 0} (form : NoticeForm) (old new : ClientView D) (more : List SentItem) : Type 0 where
   pub reported : IsSent old new more
   pub tags : List LineTag
-  pub written : AppendsPrefix old.written new.written (lines_of form tags more)
+  pub reasons : List RunReason
+  pub written : AppendsPrefix old.written new.written (lines_of form reasons tags more)

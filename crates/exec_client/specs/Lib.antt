@@ -1,4 +1,5 @@
 pub mod Signals
+pub mod Reasons
 pub mod Tags
 pub mod Waiting
 pub mod SentItem

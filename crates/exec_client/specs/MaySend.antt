@@ -42,11 +42,12 @@ MayAnswer x (reply.Info info) = IsAnswer x (reply.Info info)
 MayAnswer x (reply.History results) = IsAnswer x (reply.History results)
 MayAnswer x _ = ⊤
 
--- these are the numbers of the executor's resources, and of the results that its opening reported as interrupted and as dropped
+-- these are the numbers of the executor's resources, and of the results that its opening reported as interrupted and as dropped, and its
+-- next call
 abbrev pub IsCounted : {D : Type 0} → ExecutorView D → Counts → Type 0
 IsCounted x counts =
     (counts.resources ≡ length x.state.resources) × (counts.interrupted ≡ length x.opening_report.interrupted)
-    × (counts.dropped ≡ length x.opening_report.dropped)
+    × (counts.dropped ≡ length x.opening_report.dropped) × (counts.next_call ≡ x.state.next_call)
 
 -- a reply to a line may be sent: a reply to a request as above; a status is that of the state of an open executor, and the
 -- counts of the line that the session is ready are those of its opening

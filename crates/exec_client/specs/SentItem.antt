@@ -4,13 +4,16 @@ use Rattle.ocf_types.specs.Kinds.{Reply}
 use Rattle.ocf_types.specs.declared.reply.Notice.{Notice}
 use Rattle.exec_commands.specs.Replies.{formed_line, sent_reply_line}
 use Rattle.exec_commands.specs.declared.notice.NoticeForm.{NoticeForm}
+use Rattle.exec_commands.specs.declared.notice.Origin.TheVariants.{Opening, Turn}
 use Rattle.exec_commands.specs.declared.reply.LineReply.{LineReply}
 use Rattle.exec_commands.specs.declared.reply.LineReply.TheVariants.{Request}
 use Rattle.child_model.specs.declared.answer.Entry.{Entry}
+use Rattle.exec_client.specs.Reasons.{reason_of}
 use Rattle.exec_client.specs.Signals.{signal_of}
 use Rattle.exec_client.specs.Tags.{LineTag, first_tag}
 use Rattle.exec_client.specs.declared.message.Message.{Message}
 use Rattle.exec_client.specs.declared.message.Message.TheVariants as message
+use Rattle.exec_client.specs.declared.reasons.RunReason.{RunReason}
 
 -- a reply to a line or other news; a notice of a turn, with the signal that ended its run, if one did; or a line of the opening's report
 pub data SentItem : Type 0 where
@@ -34,13 +37,13 @@ sent_in (message.Replies replies) = map answered replies.now
 sent_in (message.Notices turn) = map (noticed_by turn.book.now) turn.notices.now
 sent_in (message.Report notices) = map Reported notices.now
 
--- the bytes of a line in a session whose notices have this form, with this tag
-abbrev pub line_of : NoticeForm → LineTag → SentItem → List ℕ
-line_of form tag (Answered reply) = sent_reply_line form tag reply
-line_of form tag (Noticed notice signal) = formed_line form tag signal notice
-line_of form tag (Reported notice) = formed_line form tag None notice
+-- the bytes of a line in a session whose notices have this form, with this tag; a notice has the reason of its run among these, if any
+abbrev pub line_of : NoticeForm → List RunReason → LineTag → SentItem → List ℕ
+line_of form reasons tag (Answered reply) = sent_reply_line form tag reply
+line_of form reasons tag (Noticed notice signal) = formed_line form (reason_of reasons notice.result.run) tag (Turn signal) notice
+line_of form reasons tag (Reported notice) = formed_line form None tag Opening notice
 
 -- the bytes of lines, the first with the first of these tags and so on; if there are fewer tags, the other lines have none
-abbrev pub lines_of : NoticeForm → List LineTag → List SentItem → List ℕ
-lines_of form tags [] = []
-lines_of form tags (s ∷ ss) = line_of form (first_tag tags) s ++ lines_of form (drop 1 tags) ss
+abbrev pub lines_of : NoticeForm → List RunReason → List LineTag → List SentItem → List ℕ
+lines_of form reasons tags [] = []
+lines_of form reasons tags (s ∷ ss) = line_of form reasons (first_tag tags) s ++ lines_of form reasons (drop 1 tags) ss

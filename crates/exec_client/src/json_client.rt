@@ -10,6 +10,7 @@ ghost use Rattle.exec_client.specs.MessageTags.{after_sent, sent_tags};
 use crate::client::Client;
 use crate::message::Message;
 use crate::notices::send_turn;
+use crate::reasons::{Reasons, reasons_for};
 use crate::replies::{Making, send_answer, send_answers, send_news};
 use crate::sent_log::SentLog;
 use crate::tags::Tags;
@@ -24,11 +25,12 @@ use past::Seen;
 use std::alloc::{AllocError, Global};
 use std::io::Write;
 
-/// A client of an executor of this type, which writes messages as lines. It owns the writer.
+/// A client of an executor of this type, which writes messages as lines. It owns the writer, and what knows the reasons of failures.
 #[derive(Drop)]
-pub struct JsonClient<E, W> {
+pub struct JsonClient<E, W, R> {
     alloc: Global,
     pub(crate) writer: W,
+    reasons: R,
     pub(crate) opened: Seen<E>,
     pub(crate) sent_log: SentLog,
     tags: Tags,
@@ -43,10 +45,10 @@ fn write_sent<W: Output>(
 ) -> Result<(), IoFault>
     ensures sent { OnOk result
         (Appends (W.contents writer.old) (W.contents writer.new)
-        (lines_of making.now.form (sent_tags tags.old what.now) (sent_in what.now))) }
+        (lines_of making.now.form making.now.reasons.now (sent_tags tags.old what.now) (sent_in what.now))) }
     ensures prefix { OnErr result
         (AppendsPrefix (W.contents writer.old) (W.contents writer.new)
-        (lines_of making.now.form (sent_tags tags.old what.now) (sent_in what.now))) }
+        (lines_of making.now.form making.now.reasons.now (sent_tags tags.old what.now) (sent_in what.now))) }
     ensures kept { OnOk result (tags.new ≡ after_sent what.now tags.old) }
     ensures memory { IfErr result (λ f. f ≡ Memory → IsTrue ⟦<Global as Grows>⟧.refuses) }
 {
@@ -59,9 +61,9 @@ fn write_sent<W: Output>(
     }
 }
 
-impl<E, W: Output> JsonClient<E, W> {
+impl<E, W: Output, R: Reasons> JsonClient<E, W, R> {
     /// A client of an executor that was just opened. It was sent nothing yet.
-    pub fn new(alloc: Global, writer: W, executor: &E) -> JsonClient<E, W>
+    pub fn new(alloc: Global, writer: W, reasons: R, executor: &E) -> JsonClient<E, W, R>
         ensures opened { result.opened.value ≡ executor.now }
         ensures reported { result.sent_log.items ≡ [] }
         ensures writer { result.writer ≡ writer }
@@ -69,6 +71,7 @@ impl<E, W: Output> JsonClient<E, W> {
         JsonClient {
             alloc,
             writer,
+            reasons,
             opened: Seen::of(executor),
             sent_log: SentLog::new(),
             tags: Tags::new(alloc),
@@ -83,7 +86,8 @@ impl<E, W: Output> JsonClient<E, W> {
     }
 }
 
-impl<D: Disk + Drop, C: Children + Drop, W: Output> Client<D, C> for JsonClient<Executor<D, C>, W> {
+impl<D: Disk + Drop, C: Children + Drop, W: Output, R: Reasons> Client<D, C>
+    for JsonClient<Executor<D, C>, W, R> {
     ghost client_view = { λ t. record { opened = t.opened.value; reported = t.sent_log.items; written = W.contents t.writer } };
 
     ghost refuses = { ⟦<Global as Grows>⟧.refuses };
@@ -95,9 +99,11 @@ impl<D: Disk + Drop, C: Children + Drop, W: Output> Client<D, C> for JsonClient<
         what: &Message,
     ) -> Result<(), IoFault> {
         self.sent_log.note(what);
+        let reasons = reasons_for(self.alloc, &mut self.reasons, what);
         let making = Making {
             alloc: self.alloc,
             form,
+            reasons: reasons.as_slice(),
         };
         write_sent(&making, &mut self.writer, &mut self.tags, what)
     }

@@ -9,11 +9,12 @@ ghost use Rattle.exec_client.specs.Tags.{after_notice, tag_of_call};
 ghost use Rattle.exec_client.specs.MessageTags.{after_notices, notice_tags};
 
 use crate::message::TurnNotices;
+use crate::reasons::reason_of;
 use crate::replies::Making;
 use crate::signals::signal_of;
 use crate::tags::Tags;
 use child_model::Entry;
-use exec_commands::Tagged;
+use exec_commands::{Origin, Tagged};
 use exec_messages::{IoFault, send_notice};
 use growth::Grows;
 use ocf_types::Notice;
@@ -47,11 +48,11 @@ fn send_signaled<W: Write>(
 ) -> Result<(), IoFault>
     ensures sent { OnOk result
         (Appends (W.contents writer.old) (W.contents writer.new)
-        (line_of making.now.form (tag_of_call signaled.now.notice.now.result.call tags.old.calls)
+        (line_of making.now.form making.now.reasons.now (tag_of_call signaled.now.notice.now.result.call tags.old.calls)
         (Noticed signaled.now.notice.now signaled.now.signal))) }
     ensures prefix { OnErr result
         (AppendsPrefix (W.contents writer.old) (W.contents writer.new)
-        (line_of making.now.form (tag_of_call signaled.now.notice.now.result.call tags.old.calls)
+        (line_of making.now.form making.now.reasons.now (tag_of_call signaled.now.notice.now.result.call tags.old.calls)
         (Noticed signaled.now.notice.now signaled.now.signal))) }
     ensures kept { OnOk result (tags.new ≡ after_notice signaled.now.notice.now tags.old) }
     ensures memory { IfErr result (λ f. f ≡ Memory → IsTrue ⟦<Global as Grows>⟧.refuses) }
@@ -59,19 +60,20 @@ fn send_signaled<W: Write>(
     let tagged = Tagged {
         form: making.form,
         tag: tags.of_call(signaled.notice.result.call),
+        reason: reason_of(making.reasons, signaled.notice.result.run),
     };
     send_notice(
         making.alloc,
         writer,
         tagged,
         signaled.notice,
-        signaled.signal,
+        Origin::Turn(signaled.signal),
     )?;
     tags.forget_by(signaled.notice);
     Ok(())
 }
 
-/// Writes the notices of a turn, a line each, and flushes each line. On error a prefix of the lines was written.
+/// Writes the notices of a turn, a line each with its reason if that is known, and flushes each line. On error a prefix of the lines was written.
 pub(crate) fn send_turn<W: Write>(
     making: &Making,
     writer: &mut W,
@@ -80,11 +82,11 @@ pub(crate) fn send_turn<W: Write>(
 ) -> Result<(), IoFault>
     ensures sent { OnOk result
         (Appends (W.contents writer.old) (W.contents writer.new)
-        (lines_of making.now.form (notice_tags tags.old turn.now.notices.now)
+        (lines_of making.now.form making.now.reasons.now (notice_tags tags.old turn.now.notices.now)
         (map (noticed_by turn.now.book.now) turn.now.notices.now))) }
     ensures prefix { OnErr result
         (AppendsPrefix (W.contents writer.old) (W.contents writer.new)
-        (lines_of making.now.form (notice_tags tags.old turn.now.notices.now)
+        (lines_of making.now.form making.now.reasons.now (notice_tags tags.old turn.now.notices.now)
         (map (noticed_by turn.now.book.now) turn.now.notices.now))) }
     ensures kept { OnOk result (tags.new ≡ after_notices turn.now.notices.now tags.old) }
     ensures memory { IfErr result (λ f. f ≡ Memory → IsTrue ⟦<Global as Grows>⟧.refuses) }

@@ -1,12 +1,15 @@
 //! Replies to lines, each with the tag of the line that it answers.
 ghost use Rattle.std.specs.Prelude.{◌≡◌, IfErr, IsTrue, None, OnErr, OnOk, map};
 ghost use Rattle.std.specs.Io.KnownBytes.{Appends};
+ghost use Rattle.exec_commands.specs.Service.{lent};
+ghost use Rattle.exec_commands.specs.Tags.{written_tag};
 ghost use Rattle.exec_lines.specs.Prefixes.{AppendsPrefix};
 ghost use Rattle.exec_messages.specs.declared.send.IoFault.TheVariants.{Memory};
 ghost use Rattle.exec_client.specs.SentItem.{Answered, answered, line_of, lines_of};
 ghost use Rattle.exec_client.specs.Tags.{after_line_reply, after_reply, first_tag, next_line};
 ghost use Rattle.exec_client.specs.MessageTags.{after_replies};
 
+use crate::reasons::RunReason;
 use crate::tags::Tags;
 use exec_commands::{LineReply, NoticeForm, Tagged};
 use exec_messages::{IoFault, put_reply, send_reply};
@@ -15,11 +18,24 @@ use ocf_types::Reply;
 use std::alloc::Global;
 use std::io::Write;
 
-/// With which allocator and in which form lines are made.
+/// With which allocator, in which form and with which reasons lines are made.
 #[derive(Clone, Copy)]
 pub(crate) struct Making<'a> {
     pub(crate) alloc: Global,
     pub(crate) form: NoticeForm<'a>,
+    pub(crate) reasons: &'a [RunReason],
+}
+
+// How a reply with this tag is written: no reason belongs to it.
+fn tagged_reply<'a>(form: NoticeForm<'a>, tag: Option<&'a str>) -> Tagged<'a>
+    ensures form { result.form ≡ form.entry }
+    ensures tag { written_tag result ≡ lent tag.entry }
+{
+    Tagged {
+        form,
+        tag,
+        reason: None,
+    }
 }
 
 /// Writes the reply to the oldest line that waits and flushes it. On error a prefix of the line was written.
@@ -31,18 +47,15 @@ pub(crate) fn send_answer<W: Write>(
 ) -> Result<(), IoFault>
     ensures sent { OnOk result
         (Appends (W.contents writer.old) (W.contents writer.new)
-        (line_of making.now.form (first_tag tags.old.lines) (Answered reply.now))) }
+        (line_of making.now.form making.now.reasons.now (first_tag tags.old.lines) (Answered reply.now))) }
     ensures prefix { OnErr result
         (AppendsPrefix (W.contents writer.old) (W.contents writer.new)
-        (line_of making.now.form (first_tag tags.old.lines) (Answered reply.now))) }
+        (line_of making.now.form making.now.reasons.now (first_tag tags.old.lines) (Answered reply.now))) }
     ensures kept { OnOk result (tags.new ≡ after_line_reply reply.now (next_line tags.old)) }
     ensures memory { IfErr result (λ f. f ≡ Memory → IsTrue ⟦<Global as Grows>⟧.refuses) }
 {
     tags.next();
-    let tagged = Tagged {
-        form: making.form,
-        tag: tags.given(),
-    };
+    let tagged = tagged_reply(making.form, tags.given());
     send_reply(making.alloc, writer, tagged, reply)?;
     tags.keep_by_line(reply);
     Ok(())
@@ -57,18 +70,15 @@ fn put_answer<W: Write>(
 ) -> Result<(), IoFault>
     ensures sent { OnOk result
         (Appends (W.contents writer.old) (W.contents writer.new)
-        (line_of making.now.form (first_tag tags.old.lines) (answered reply.now))) }
+        (line_of making.now.form making.now.reasons.now (first_tag tags.old.lines) (answered reply.now))) }
     ensures prefix { OnErr result
         (AppendsPrefix (W.contents writer.old) (W.contents writer.new)
-        (line_of making.now.form (first_tag tags.old.lines) (answered reply.now))) }
+        (line_of making.now.form making.now.reasons.now (first_tag tags.old.lines) (answered reply.now))) }
     ensures kept { OnOk result (tags.new ≡ after_reply reply.now (next_line tags.old)) }
     ensures memory { IfErr result (λ f. f ≡ Memory → IsTrue ⟦<Global as Grows>⟧.refuses) }
 {
     tags.next();
-    let tagged = Tagged {
-        form: making.form,
-        tag: tags.given(),
-    };
+    let tagged = tagged_reply(making.form, tags.given());
     put_reply(making.alloc, writer, tagged, reply)?;
     tags.keep_by(reply);
     Ok(())
@@ -83,10 +93,10 @@ fn put_answers<W: Write>(
 ) -> Result<(), IoFault>
     ensures sent { OnOk result
         (Appends (W.contents writer.old) (W.contents writer.new)
-        (lines_of making.now.form tags.old.lines (map answered replies.now))) }
+        (lines_of making.now.form making.now.reasons.now tags.old.lines (map answered replies.now))) }
     ensures prefix { OnErr result
         (AppendsPrefix (W.contents writer.old) (W.contents writer.new)
-        (lines_of making.now.form tags.old.lines (map answered replies.now))) }
+        (lines_of making.now.form making.now.reasons.now tags.old.lines (map answered replies.now))) }
     ensures kept { OnOk result (tags.new ≡ after_replies replies.now tags.old) }
     ensures memory { IfErr result (λ f. f ≡ Memory → IsTrue ⟦<Global as Grows>⟧.refuses) }
 {
@@ -106,10 +116,10 @@ pub(crate) fn send_answers<W: Write>(
 ) -> Result<(), IoFault>
     ensures sent { OnOk result
         (Appends (W.contents writer.old) (W.contents writer.new)
-        (lines_of making.now.form tags.old.lines (map answered replies.now))) }
+        (lines_of making.now.form making.now.reasons.now tags.old.lines (map answered replies.now))) }
     ensures prefix { OnErr result
         (AppendsPrefix (W.contents writer.old) (W.contents writer.new)
-        (lines_of making.now.form tags.old.lines (map answered replies.now))) }
+        (lines_of making.now.form making.now.reasons.now tags.old.lines (map answered replies.now))) }
     ensures kept { OnOk result (tags.new ≡ after_replies replies.now tags.old) }
     ensures memory { IfErr result (λ f. f ≡ Memory → IsTrue ⟦<Global as Grows>⟧.refuses) }
 {
@@ -126,15 +136,12 @@ pub(crate) fn send_news<W: Write>(
 ) -> Result<(), IoFault>
     ensures sent { OnOk result
         (Appends (W.contents writer.old) (W.contents writer.new)
-        (line_of making.now.form None (Answered news.now))) }
+        (line_of making.now.form making.now.reasons.now None (Answered news.now))) }
     ensures prefix { OnErr result
         (AppendsPrefix (W.contents writer.old) (W.contents writer.new)
-        (line_of making.now.form None (Answered news.now))) }
+        (line_of making.now.form making.now.reasons.now None (Answered news.now))) }
     ensures memory { IfErr result (λ f. f ≡ Memory → IsTrue ⟦<Global as Grows>⟧.refuses) }
 {
-    let tagged = Tagged {
-        form: making.form,
-        tag: None,
-    };
+    let tagged = tagged_reply(making.form, None);
     send_reply(making.alloc, writer, tagged, news)
 }

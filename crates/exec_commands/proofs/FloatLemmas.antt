@@ -1,5 +1,5 @@
 -- No reply and no notice has a float.
-use Rattle.std.proofs.Common.{◌≡◌, ℕ, Bool, true, false, if◌then◌else◌, Bor, List, [], ◌∷◌, map, Option, Some, None, Result, Ok, Err}
+use Rattle.std.proofs.Common.{◌≡◌, ℕ, Bool, true, false, if◌then◌else◌, List, [], ◌∷◌, map, Option, Some, None, Result, Ok, Err}
 use Rattle.std.proofs.Common.{refl}
 use Rattle.std.specs.Global.{Vec}
 use Rattle.std.specs.Str.{is_utf8}
@@ -15,7 +15,7 @@ use Rattle.ocf_types.specs.declared.reply.ReplyOf.TheVariants as reply
 use Rattle.exec_commands.specs.Objects.{natural_data, param_members}
 use Rattle.exec_commands.specs.Replies.{recur_data, running_data, failed_data, info_data, ended_data, formed_data, lives_of, timed_notice_data, request_data}
 use Rattle.exec_commands.specs.Replies.{keyed_data, refused_data, served_meta_data, served_request_data}
-use Rattle.exec_commands.specs.Service.{journal_data, no_text_data, ready_data, text_data}
+use Rattle.exec_commands.specs.Service.{identity_in, lent, no_text_data, ready_data, text_data, text_or_null}
 use Rattle.ocf_types.specs.Refusals.{refusal_row}
 use Rattle.line_keys.specs.Messages.{about_key, message_of}
 use Rattle.line_keys.specs.declared.refused.About.TheVariants.{Whole}
@@ -26,6 +26,9 @@ use Rattle.ocf_types.specs.declared.outcome.MetaFault.{MetaFault}
 use Rattle.ocf_types.specs.declared.outcome.MetaFault.TheVariants as fault
 use Rattle.exec_commands.specs.declared.notice.NoticeForm.{NoticeForm}
 use Rattle.exec_commands.specs.declared.notice.NoticeForm.TheVariants as notice_form
+use Rattle.exec_commands.specs.declared.notice.Origin.{Origin}
+use Rattle.exec_commands.specs.declared.notice.Origin.TheVariants as origin
+use Rattle.exec_commands.specs.declared.kind.LineKind.TheVariants as kind
 use Rattle.exec_commands.specs.declared.service.Counts.{Counts}
 use Rattle.exec_commands.specs.declared.service.Service.{Service}
 use Rattle.exec_commands.specs.declared.reply.LineReply.{LineReply}
@@ -88,6 +91,7 @@ refused_no_float r =
 pub reply_has_no_float : (r : LineReply) → has_float (reply_data r) ≡ false
 reply_has_no_float (line.Request r) = request_has_no_float r
 reply_has_no_float (line.Drain end) = refl
+reply_has_no_float (line.Trouble end) = refl
 reply_has_no_float (line.Tidy end) = refl
 reply_has_no_float line.Left = refl
 reply_has_no_float (line.Meta (Ok metadata)) = refl
@@ -114,18 +118,23 @@ pub served_meta_no_float : (found : Result (Vec ℕ) MetaFault) → has_float (s
 served_meta_no_float (Ok metadata) = text_no_float metadata.items (is_utf8 metadata.items)
 served_meta_no_float (Err f) = fault_no_float f
 
-journal_no_float : (journal : Option (Bor (List ℕ))) → has_float (journal_data journal) ≡ false
-journal_no_float None = refl
-journal_no_float (Some directory) = refl
+named_no_float : (text : Option (List ℕ)) → has_float (text_or_null text) ≡ false
+named_no_float None = refl
+named_no_float (Some text) = refl
 
 pub ready_no_float : (service : Service) (counts : Counts) → has_float (ready_data service counts) ≡ false
-ready_no_float service counts = rw (journal_no_float service.journal) refl
+ready_no_float service counts = rw (named_no_float (identity_in service), named_no_float (lent service.journal)) refl
 
-timed_no_float : (lives : Option ℕ) (n : Notice) → has_float (timed_notice_data lives None n) ≡ false
-timed_no_float None n = refl
-timed_no_float (Some pid) n = refl
+report_no_float : (lives : Option ℕ) (n : Notice) → has_float (timed_notice_data kind.Report None lives None n) ≡ false
+report_no_float None n = refl
+report_no_float (Some pid) n = refl
 
-pub notice_has_no_float : (form : NoticeForm) (signal : Option ℕ) (n : Notice) → has_float (formed_data form signal n) ≡ false
-notice_has_no_float notice_form.Short signal n = refl
-notice_has_no_float (notice_form.Timed service) None n = timed_no_float (lives_of service.left.now n.result.run) n
-notice_has_no_float (notice_form.Timed service) (Some signal) n = refl
+turn_no_float : (reason : Option (List ℕ)) (signal : Option ℕ) (n : Notice)
+    → has_float (timed_notice_data kind.Notice reason None signal n) ≡ false
+turn_no_float reason None n = rw (named_no_float reason) refl
+turn_no_float reason (Some signal) n = rw (named_no_float reason) refl
+
+pub notice_has_no_float : (form : NoticeForm) (reason : Option (List ℕ)) (of : Origin) (n : Notice) → has_float (formed_data form reason of n) ≡ false
+notice_has_no_float notice_form.Short reason of n = refl
+notice_has_no_float (notice_form.Timed service) reason origin.Opening n = report_no_float (lives_of service.left.now n.result.run) n
+notice_has_no_float (notice_form.Timed service) reason (origin.Turn signal) n = turn_no_float reason signal n

@@ -6,3 +6,4 @@ pub mod TextLemmas
 pub mod ParamLemmas
 pub mod ValueLemmas
 pub mod LeaveLemmas
+pub mod JournalIdLemmas

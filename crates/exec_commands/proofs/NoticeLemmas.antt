@@ -5,7 +5,7 @@ use Rattle.serde_json.specs.Data.{Data, Members, null, boolean, number, string, 
 use Rattle.serde_json.specs.Find.{as_object}
 use Rattle.ocf_types.specs.declared.reply.Notice.{Notice}
 use Rattle.exec_commands.specs.Objects.{natural_data, object_with}
-use Rattle.exec_commands.specs.Replies.{timed_notice_data}
+use Rattle.exec_commands.specs.Replies.{timed_data}
 
 -- an object by its members, with one more
 pub put_there : (key : List ℕ) (x d v : Data) (ms new : Members) → Some ms ≡ as_object d → new ≡ put key x ms → v ≡ object new
@@ -28,9 +28,9 @@ put_nowhere key x (string t) is = refl
 put_nowhere key x (array ds) is = refl
 put_nowhere key x (object ms) is = absurd cc
 
-pub lives_put : (n : Notice) (pid : ℕ) → object_with (codes "lives") (natural_data pid) (timed_notice_data None None n) ≡ timed_notice_data (Some pid) None n
+pub lives_put : (n : Notice) (pid : ℕ) → object_with (codes "lives") (natural_data pid) (timed_data None None n) ≡ timed_data (Some pid) None n
 lives_put n pid = refl
 
-pub signal_put : (n : Notice) (signal : ℕ) → object_with (codes "signal") (natural_data signal) (timed_notice_data None None n)
-    ≡ timed_notice_data None (Some signal) n
+pub signal_put : (n : Notice) (signal : ℕ) → object_with (codes "signal") (natural_data signal) (timed_data None None n)
+    ≡ timed_data None (Some signal) n
 signal_put n signal = refl

@@ -9,8 +9,13 @@ use Rattle.serde_json.specs.Written.{has_float, members_have_float}
 use Rattle.ocf_types.specs.Kinds.{Reply}
 use Rattle.ocf_types.specs.declared.reply.Notice.{Notice}
 use Rattle.exec_commands.specs.Replies.{formed_data, served_request_data}
+use Rattle.exec_commands.specs.LineKinds.{kind_word, with_kind}
+use Rattle.exec_commands.specs.Objects.{object_with}
 use Rattle.exec_commands.specs.Tags.{with_tag}
+use Rattle.exec_commands.specs.declared.kind.LineKind.{LineKind}
+use Rattle.exec_commands.specs.declared.kind.LineKind.TheVariants as kind
 use Rattle.exec_commands.specs.declared.notice.NoticeForm.{NoticeForm}
+use Rattle.exec_commands.specs.declared.notice.Origin.{Origin}
 use Rattle.exec_commands.proofs.FloatLemmas.{notice_has_no_float, served_request_no_float}
 use Rattle.exec_commands.proofs.StatusLemmas.{neither}
 
@@ -28,19 +33,29 @@ put_no_float key text (member other d ms) none = by (slice_cmp nat_cmp key other
     by Equal later = none_in.1
     by Greater later = rw none_in.0 later
 
+-- an object with one more text has no float
+with_no_float : (key text : List ℕ) (d : Data) → has_float d ≡ false → has_float (object_with key (string text) d) ≡ false
+with_no_float key text null none = none
+with_no_float key text (boolean b) none = none
+with_no_float key text (number n) none = none
+with_no_float key text (string t) none = none
+with_no_float key text (array ds) none = none
+with_no_float key text (object ms) none = put_no_float key text ms none
+
 -- an object with a tag has no float
 pub tagged_no_float : (tag : Option (List ℕ)) (d : Data) → has_float d ≡ false → has_float (with_tag tag d) ≡ false
 tagged_no_float None d none = none
-tagged_no_float (Some tag) null none = none
-tagged_no_float (Some tag) (boolean b) none = none
-tagged_no_float (Some tag) (number n) none = none
-tagged_no_float (Some tag) (string t) none = none
-tagged_no_float (Some tag) (array ds) none = none
-tagged_no_float (Some tag) (object ms) none = put_no_float (codes "tag") tag ms none
+tagged_no_float (Some tag) d none = with_no_float (codes "tag") tag d none
 
-pub tagged_request : (tag : Option (List ℕ)) (r : Reply) → has_float (with_tag tag (served_request_data r)) ≡ false
-tagged_request tag r = tagged_no_float tag (served_request_data r) (served_request_no_float r)
+-- an object with a kind and a tag has no float
+pub marked_no_float : (tag : Option (List ℕ)) (kind : LineKind) (d : Data) → has_float d ≡ false
+    → has_float (with_tag tag (with_kind kind d)) ≡ false
+marked_no_float tag kind d none =
+    tagged_no_float tag (with_kind kind d) (with_no_float (codes "kind") (kind_word kind) d none)
 
-pub tagged_notice : (tag : Option (List ℕ)) (form : NoticeForm) (signal : Option ℕ) (n : Notice)
-    → has_float (with_tag tag (formed_data form signal n)) ≡ false
-tagged_notice tag form signal n = tagged_no_float tag (formed_data form signal n) (notice_has_no_float form signal n)
+pub tagged_request : (tag : Option (List ℕ)) (r : Reply) → has_float (with_tag tag (with_kind kind.Reply (served_request_data r))) ≡ false
+tagged_request tag r = marked_no_float tag kind.Reply (served_request_data r) (served_request_no_float r)
+
+pub tagged_notice : (tag reason : Option (List ℕ)) (form : NoticeForm) (of : Origin) (n : Notice)
+    → has_float (with_tag tag (formed_data form reason of n)) ≡ false
+tagged_notice tag reason form of n = tagged_no_float tag (formed_data form reason of n) (notice_has_no_float form reason of n)

@@ -93,9 +93,13 @@ is_at_fault why d rule = option_map_or (is_wrong why (range_of (key_in rule)) d)
 abbrev pub key_at_fault : Refusal → List KeyRule → Data → Option Key
 key_at_fault why rules d = option_map key_in (find (is_at_fault why d) rules)
 
--- the subject of a line's refusal: the first key at fault, or else the whole line; `op` if the line names no operation
+-- the subject of a line that names no operation: its word, if that is a text of at most 64 bytes
+abbrev pub about_operation : Data → About
+about_operation d = option_map_or (λ word. about.Operation word) (option_and_then tag_in (get (codes "op") d)) (about.Key Op)
+
+-- the subject of a line's refusal: the first key at fault, or else the whole line; the operation if the line names none
 abbrev pub about_for : Refusal → Data → Option (List KeyRule) → About
-about_for why d None = about.Key Op
+about_for why d None = about_operation d
 about_for why d (Some rules) = option_map_or (λ k. about.Key k) (key_at_fault why rules d) about.Whole
 
 -- the same, from the line alone

@@ -7,5 +7,7 @@ pub mod Twice
 pub mod Rules
 pub mod Blame
 pub mod Tags
+pub mod LineKinds
+pub mod JournalIds
 pub mod Service
 pub mod Served

@@ -30,16 +30,21 @@ use Rattle.line_keys.specs.Messages.{about_key, message_of}
 use Rattle.line_keys.specs.declared.refused.About.TheVariants.{Whole}
 use Rattle.line_keys.specs.declared.refused.LineRefusal.{LineRefusal}
 use Rattle.exec_commands.specs.declared.direct.Direct.TheVariants.{Refused}
-use Rattle.exec_commands.specs.Objects.{object_from, natural_data, array_from, param_members}
-use Rattle.exec_commands.specs.Service.{metadata_data, ready_data, statuses_data, version_data}
+use Rattle.exec_commands.specs.Objects.{object_from, object_with, natural_data, array_from, param_members}
+use Rattle.exec_commands.specs.LineKinds.{kind_word, with_kind}
+use Rattle.exec_commands.specs.Service.{metadata_data, ready_data, statuses_data, text_or_null, version_data}
 use Rattle.exec_commands.specs.Tags.{formed_tag, with_tag}
 use Rattle.exec_commands.specs.declared.ends.DrainEnd.{DrainEnd}
 use Rattle.exec_commands.specs.declared.ends.DrainEnd.TheVariants as drain
 use Rattle.ocf_types.specs.declared.outcome.MetaFault.{MetaFault}
 use Rattle.ocf_types.specs.declared.outcome.MetaFault.TheVariants as fault
+use Rattle.exec_commands.specs.declared.kind.LineKind.{LineKind}
+use Rattle.exec_commands.specs.declared.kind.LineKind.TheVariants as kind
 use Rattle.exec_commands.specs.declared.left.Left.{Left}
 use Rattle.exec_commands.specs.declared.notice.NoticeForm.{NoticeForm}
 use Rattle.exec_commands.specs.declared.notice.NoticeForm.TheVariants as notice_form
+use Rattle.exec_commands.specs.declared.notice.Origin.{Origin}
+use Rattle.exec_commands.specs.declared.notice.Origin.TheVariants as origin
 use Rattle.exec_commands.specs.declared.service.Service.{Service}
 use Rattle.exec_commands.specs.declared.statuses.Statuses.{Statuses}
 use Rattle.exec_commands.specs.declared.reply.LineReply.{LineReply}
@@ -185,8 +190,8 @@ signal_member (Some signal) = (codes "signal", natural_data signal) ∷ []
 
 -- the same with when the action began and ended, the key of its operation, the expected exit code, whether it has failed, its process
 -- that is still alive, if any, and the signal that ended it, if any
-abbrev pub timed_notice_data : Option ℕ → Option ℕ → Notice → Data
-timed_notice_data lives signal n = object_from (
+abbrev pub timed_data : Option ℕ → Option ℕ → Notice → Data
+timed_data lives signal n = object_from (
     (codes "action", string (action_word n.result.action)) ∷ (codes "at", natural_data n.result.at)
     ∷ (codes "call", natural_data n.result.call) ∷ (codes "code", natural_data (outcome_code n.result.outcome))
     ∷ (codes "expect", natural_data (expect_code n.expect)) ∷ (codes "failed", boolean (is_failure n))
@@ -196,12 +201,17 @@ timed_notice_data lives signal n = object_from (
     ∷ (codes "outcome", string (outcome_word n.result.outcome)) ∷ (codes "run", natural_data n.result.run)
     ∷ (signal_member signal ++ ((codes "since", natural_data n.result.since) ∷ [])))))
 
--- A notice in this form, of a run that this signal ended, if any: POSIX, <signal.h>. Only interrupted runs have processes that are still
--- alive, and no signal is known to have ended these runs.
-abbrev pub formed_data : NoticeForm → Option ℕ → Notice → Data
-formed_data notice_form.Short signal n = notice_data n
-formed_data (notice_form.Timed service) None n = timed_notice_data (lives_of service.left.now n.result.run) None n
-formed_data (notice_form.Timed service) (Some signal) n = timed_notice_data None (Some signal) n
+-- the same with the reason that its agent gave, or null, and the kind of its line
+abbrev pub timed_notice_data : LineKind → Option (List ℕ) → Option ℕ → Option ℕ → Notice → Data
+timed_notice_data kind reason lives signal n = with_kind kind (object_with (codes "reason") (text_or_null reason) (timed_data lives signal n))
+
+-- A notice in this form, for which the agent gave this reason, if any. The signal that ended a run of a turn, if any: POSIX, <signal.h>.
+-- Only interrupted runs, which an opening reports, have processes that are still alive.
+abbrev pub formed_data : NoticeForm → Option (List ℕ) → Origin → Notice → Data
+formed_data notice_form.Short reason of n = notice_data n
+formed_data (notice_form.Timed service) reason origin.Opening n =
+    timed_notice_data kind.Report None (lives_of service.left.now n.result.run) None n
+formed_data (notice_form.Timed service) reason (origin.Turn signal) n = timed_notice_data kind.Notice reason None signal n
 
 -- The reply to a request, and to a line of a `run` session, where the operations of `serve` sessions alone are refused.
 abbrev pub request_data : Reply → Data
@@ -216,6 +226,7 @@ request_data (reply.Turn end) = end_data (turn_word end)
 abbrev pub reply_data : LineReply → Data
 reply_data (line.Request r) = request_data r
 reply_data (line.Drain end) = end_data (drain_word end)
+reply_data (line.Trouble end) = end_data (turn_word end)
 reply_data (line.Tidy end) = end_data (tidy_word end)
 reply_data line.Left = end_data (codes "left")
 reply_data (line.Meta (Ok metadata)) = length_data metadata.items
@@ -257,16 +268,22 @@ following _ = []
 abbrev pub reply_line : LineReply → List ℕ
 reply_line reply = compact_text (reply_data reply) ++ 10 ∷ following reply
 
--- the line of a notice of a call that has this tag
-abbrev pub formed_line : NoticeForm → Option (List ℕ) → Option ℕ → Notice → List ℕ
-formed_line form tag signal notice = compact_text (with_tag (formed_tag form tag) (formed_data form signal notice)) ++ 10 ∷ []
+-- the kind of a reply's line; a line that answers none has a kind of its own
+abbrev pub kind_of : LineReply → LineKind
+kind_of (line.Ready counts) = kind.Ready
+kind_of (line.Trouble end) = kind.Trouble
+kind_of _ = kind.Reply
+
+-- the line of a notice with this reason, of a call that has this tag
+abbrev pub formed_line : NoticeForm → Option (List ℕ) → Option (List ℕ) → Origin → Notice → List ℕ
+formed_line form reason tag of notice = compact_text (with_tag (formed_tag form tag) (formed_data form reason of notice)) ++ 10 ∷ []
 
 -- the reply, in a `serve` session, to a line that has this tag: one line, which nothing follows
 abbrev pub served_reply_line : Service → Option (List ℕ) → LineReply → List ℕ
-served_reply_line service tag reply = compact_text (with_tag tag (served_data service reply)) ++ 10 ∷ []
+served_reply_line service tag reply = compact_text (with_tag tag (with_kind (kind_of reply) (served_data service reply))) ++ 10 ∷ []
 
 abbrev pub served_request_line : Option (List ℕ) → Reply → List ℕ
-served_request_line tag reply = compact_text (with_tag tag (served_request_data reply)) ++ 10 ∷ []
+served_request_line tag reply = compact_text (with_tag tag (with_kind kind.Reply (served_request_data reply))) ++ 10 ∷ []
 
 -- the reply in a session whose notices have this form
 abbrev pub sent_reply_line : NoticeForm → Option (List ℕ) → LineReply → List ℕ

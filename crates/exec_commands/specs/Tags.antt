@@ -1,11 +1,12 @@
 -- The tag of a line: a client's text of at most 64 bytes of UTF-8, which the reply and the notices of its call repeat.
-use Rattle.std.specs.Prelude.{◌≡◌, ℕ, nat_le, is_none, Bool, false, List, length, Option, None, Some, option_map, option_and_then}
+use Rattle.std.specs.Prelude.{◌≡◌, ℕ, nat_le, is_none, Bool, false, List, length, Option, None, Some, option_and_then}
 use Rattle.std.specs.Prelude.{if◌then◌else◌, codes}
 use Rattle.std.specs.Option.{option_map_or}
 use Rattle.serde_json.specs.Data.{Data, string}
 use Rattle.serde_json.specs.Find.{get, as_str}
 use Rattle.exec_commands.specs.Lines.{value_of}
 use Rattle.exec_commands.specs.Objects.{object_with}
+use Rattle.exec_commands.specs.Service.{lent}
 use Rattle.exec_commands.specs.Twice.{HasKeyTwice}
 use Rattle.exec_commands.specs.declared.notice.NoticeForm.{NoticeForm}
 use Rattle.exec_commands.specs.declared.notice.NoticeForm.TheVariants as notice_form
@@ -35,9 +36,13 @@ tag_read bytes = option_and_then tag_of (value_of bytes)
 abbrev pub IsTaggedAs : List ℕ → Option (List ℕ) → Type 0
 IsTaggedAs bytes tag = (HasKeyTwice bytes → tag ≡ None) × (¬ (HasKeyTwice bytes) → tag ≡ tag_read bytes)
 
+-- the reason that a notice is to be written with
+abbrev pub written_reason : Tagged → Option (List ℕ)
+written_reason t = lent t.reason
+
 -- the tag that a line is to be written with
 abbrev pub written_tag : Tagged → Option (List ℕ)
-written_tag t = option_map (λ tag. tag.now) t.tag
+written_tag t = lent t.tag
 
 -- the same of a line of this form: a `run` session writes no tag
 abbrev pub formed_tag : NoticeForm → Option (List ℕ) → Option (List ℕ)

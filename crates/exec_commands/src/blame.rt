@@ -1,18 +1,22 @@
 //! Which key of a refused line is at fault.
-ghost use Rattle.std.specs.Prelude.{◌≡◌, false, true, option_map};
+ghost use Rattle.std.specs.Prelude.{◌≡◌, false, true, option_and_then, option_map, codes, IfOk, IsTrue, OnErr};
 ghost use Rattle.std.specs.Option.{option_map_or};
 ghost use Rattle.ocf_types.specs.Names.{is_provider, is_rsc_id};
-ghost use Rattle.serde_json.specs.Find.{as_str};
+ghost use Rattle.serde_json.specs.Find.{as_str, get};
 ghost use Rattle.serde_json.specs.View.{members_view, view};
-ghost use Rattle.exec_commands.specs.Blame.{about_line, is_action, is_at_fault, is_between, is_expect, is_level, is_misnamed, is_mistyped};
+ghost use Rattle.exec_commands.specs.Blame.{about_line, about_operation, is_action, is_at_fault, is_between, is_expect, is_level, is_misnamed, is_mistyped};
 ghost use Rattle.exec_commands.specs.Blame.{is_of_monitor, is_outside, key_at_fault, unknown_in, unknown_key};
+ghost use Rattle.exec_commands.specs.Tags.{tag_in};
 
 use crate::rules::{KeyRule, is_known, rules_in};
-use crate::tag::tag_in;
+use crate::tag::{Tag, tag_in};
 use crate::values::{provider, rsc_id};
+use growth::{Grows, text_of};
 use line_keys::{About, Key, Range};
+use ocf_env::Text;
 use ocf_types::{Action, Expect, Level, Refusal};
 use serde_json::{Map, Value};
+use std::alloc::{AllocError, Global};
 
 fn is_mistyped(range: Range, found: &Value) -> bool
     ensures { result ≡ is_mistyped range (view found.now) }
@@ -137,16 +141,38 @@ fn key_at_fault(why: Refusal, rules: &[KeyRule], line: &Value) -> Option<Key>
     Some(rule.key())
 }
 
-/// The subject of a line's refusal: the first key at fault for this reason, or else the whole line; `op` if it names no operation.
-pub fn about_line(why: Refusal, line: &Value) -> About
-    ensures { result ≡ about_line why (view line.now) }
+// The word under `op`, if it is a text of at most 64 bytes.
+fn short_word(line: &Value) -> Option<Tag>
+    ensures { result ≡ option_and_then tag_in (get (codes "op") (view line.now)) }
+{
+    match line.get("op") {
+        Some(found) => tag_in(found),
+        None => None,
+    }
+}
+
+// The subject of a line that names no operation: its word, if that is short.
+fn about_operation(alloc: Global, line: &Value) -> Result<About, AllocError>
+    ensures about { IfOk result (λ a. a ≡ about_operation (view line.now)) }
+    ensures memory { OnErr result (IsTrue ⟦<Global as Grows>⟧.refuses) }
+{
+    match short_word(line) {
+        Some(word) => Ok(About::Operation(Text::new(text_of(alloc, word.as_str())?))),
+        None => Ok(About::Key(Key::Op)),
+    }
+}
+
+/// The subject of a line's refusal: the first key at fault for this reason, or else the whole line; the operation if it names none.
+pub fn about_line(alloc: Global, why: Refusal, line: &Value) -> Result<About, AllocError>
+    ensures about { IfOk result (λ a. a ≡ about_line why (view line.now)) }
+    ensures memory { OnErr result (IsTrue ⟦<Global as Grows>⟧.refuses) }
 {
     match rules_in(line) {
         Some(rules) => match key_at_fault(why, rules, line) {
-            Some(key) => About::Key(key),
-            None => About::Whole,
+            Some(key) => Ok(About::Key(key)),
+            None => Ok(About::Whole),
         },
-        None => About::Key(Key::Op),
+        None => about_operation(alloc, line),
     }
 }
 

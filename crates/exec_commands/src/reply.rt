@@ -15,7 +15,7 @@ use crate::results::ended_values;
 use crate::service::Counts;
 use crate::statuses::Statuses;
 use growth::{Grows, append, push};
-use ocf_types::{CallId, Ended, MetaFault, OpKey, Refusal, Reply, RscId, TidyEnd};
+use ocf_types::{CallId, Ended, MetaFault, OpKey, Refusal, Reply, RscId, TidyEnd, TurnEnd};
 use serde_json::{Value, json};
 use std::alloc::{AllocError, Global};
 
@@ -26,6 +26,8 @@ pub enum LineReply {
     Request(Reply),
     /// How a drain or a watch ended.
     Drain(DrainEnd),
+    /// How a turn ended that the session made by itself, if not as done. It answers no line.
+    Trouble(TurnEnd),
     /// How a tidy ended.
     Tidy(TidyEnd),
     /// The session ends, as it was asked to.
@@ -140,6 +142,7 @@ pub fn reply_value(alloc: Global, reply: &LineReply) -> Result<Value, AllocError
     match reply {
         LineReply::Request(reply) => request_value(alloc, reply),
         LineReply::Drain(end) => end_value(alloc, drain_word(*end)),
+        LineReply::Trouble(end) => end_value(alloc, turn_word(*end)),
         LineReply::Tidy(end) => end_value(alloc, tidy_word(*end)),
         LineReply::Left => end_value(alloc, "left"),
         LineReply::Meta(Ok(metadata)) => length_value(alloc, metadata.as_slice()),

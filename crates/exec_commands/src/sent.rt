@@ -2,10 +2,11 @@
 ghost use Rattle.std.specs.Prelude.{◌≡◌, false, option_map, IfOk, IsTrue, OnErr};
 ghost use Rattle.serde_json.specs.View.{view};
 ghost use Rattle.serde_json.specs.Written.{has_float};
-ghost use Rattle.exec_commands.specs.Replies.{served_data, served_meta_data, served_reply_line, served_request_data, served_request_line, sent_reply_line, written_request_line};
+ghost use Rattle.exec_commands.specs.Replies.{kind_of, served_data, served_meta_data, served_reply_line, served_request_data, served_request_line, sent_reply_line, written_request_line};
 ghost use Rattle.exec_commands.specs.Tags.{written_tag};
 
 use crate::ends::fault_value;
+use crate::kind::LineKind;
 use crate::notice::NoticeForm;
 use crate::refused::refused_value;
 use crate::reply::{
@@ -13,7 +14,7 @@ use crate::reply::{
 };
 use crate::service::{Service, metadata_value, ready_value, version_value};
 use crate::statuses::statuses_value;
-use crate::tagged::{Tagged, put_tag};
+use crate::tagged::{Tagged, put_kind, put_tag};
 use growth::Grows;
 use line_keys::{About, LineRefusal};
 use ocf_types::{MetaFault, Reply};
@@ -62,7 +63,18 @@ fn served_value(alloc: Global, service: Service, reply: &LineReply) -> Result<Va
     }
 }
 
-#[tactic(auto, using(crate::proofs::TagLemmas::tagged_no_float))]
+// The kind of a reply's line.
+fn kind_of(reply: &LineReply) -> LineKind
+    ensures { result ≡ kind_of reply.now }
+{
+    match reply {
+        LineReply::Ready(_) => LineKind::Ready,
+        LineReply::Trouble(_) => LineKind::Trouble,
+        _ => LineKind::Reply,
+    }
+}
+
+#[tactic(auto, using(crate::proofs::TagLemmas::marked_no_float))]
 fn write_served_reply(
     alloc: Global,
     service: Service,
@@ -76,6 +88,7 @@ fn write_served_reply(
     let Ok(mut value) = served_value(alloc, service, reply) else {
         return Err(AllocError);
     };
+    put_kind(alloc, &mut value, kind_of(reply))?;
     put_tag(alloc, &mut value, tag)?;
     write_line(alloc, &value)
 }
@@ -93,12 +106,13 @@ fn write_served_request(
     let Ok(mut value) = served_request_value(alloc, reply) else {
         return Err(AllocError);
     };
+    put_kind(alloc, &mut value, LineKind::Reply)?;
     put_tag(alloc, &mut value, tag)?;
     write_line(alloc, &value)
 }
 
 /// The line of a reply in a session whose notices have this form. In a `serve` session a refusal also has the key that it is about
-/// and a message, metadata are a text in the line, and the tag of the answered line is repeated.
+/// and a message, metadata are a text in the line, the line has a kind, and the tag of the answered line is repeated.
 pub fn write_sent_reply(
     alloc: Global,
     tagged: Tagged,

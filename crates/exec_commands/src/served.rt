@@ -90,6 +90,6 @@ pub fn served_line(alloc: Global, value: &Value) -> Result<Line, AllocError>
     match served_line_of(alloc, value) {
         Ok(line) => known_line(alloc, value, line),
         Err(Refusal::Memory) => Err(AllocError),
-        Err(why) => Ok(refused_line(why, about_line(why, value))),
+        Err(why) => Ok(refused_line(why, about_line(alloc, why, value)?)),
     }
 }

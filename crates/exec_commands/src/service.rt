@@ -1,9 +1,10 @@
 //! Replies of `serve` sessions alone: the version, the ready line, and metadata as a text.
 ghost use Rattle.std.specs.Prelude.{◌≡◌, IfOk, IsTrue, OnErr};
 ghost use Rattle.serde_json.specs.View.{view};
-ghost use Rattle.exec_commands.specs.Service.{journal_data, metadata_data, ready_data, text_data, version_data};
+ghost use Rattle.exec_commands.specs.Service.{identity_in, lent, metadata_data, ready_data, text_data, text_or_null, version_data};
 
 use crate::ends::end_value;
+use crate::journal_id::JournalId;
 use crate::left::Left;
 use growth::Grows;
 use serde_json::{Value, json};
@@ -17,6 +18,8 @@ pub struct Service<'a> {
     pub version: &'a str,
     /// The directory of the journal, as it was given; `None` for a journal in memory.
     pub journal: Option<&'a str>,
+    /// The identity of the journal; `None` for a journal in memory.
+    pub identity: Option<&'a JournalId>,
     /// Processes of interrupted runs that are still alive.
     pub left: &'a [Left],
 }
@@ -30,6 +33,8 @@ pub struct Counts {
     pub interrupted: usize,
     /// The results of actions that were queued at that end, and are dropped.
     pub dropped: usize,
+    /// The call id that the next accepted action or monitor gets.
+    pub next_call: u64,
 }
 
 /// The version of the program.
@@ -42,30 +47,64 @@ pub fn version_value(alloc: Global, service: Service) -> Result<Value, AllocErro
     Global::library_growth(json!(in alloc; {"ok": true, "version": version}))
 }
 
-fn journal_value(alloc: Global, journal: Option<&str>) -> Result<Value, AllocError>
-    ensures value { IfOk result (λ v. view v ≡ journal_data journal.entry) }
+/// A text, or null.
+pub fn text_or_null(alloc: Global, text: Option<&str>) -> Result<Value, AllocError>
+    ensures value { IfOk result (λ v. view v ≡ text_or_null (lent text.entry)) }
     ensures memory { OnErr result (IsTrue ⟦<Global as Grows>⟧.refuses) }
 {
-    match journal {
+    match text {
         // TRUSTED: it fails only where the memory that it takes is refused.
-        Some(directory) => Global::library_growth(Value::try_from_str(alloc, directory)),
+        Some(text) => Global::library_growth(Value::try_from_str(alloc, text)),
         None => Ok(Value::Null),
     }
+}
+
+// The digits of the journal's identity, if it has one.
+fn identity_in<'a>(service: Service<'a>) -> Option<&'a str>
+    ensures { lent result ≡ identity_in service.entry }
+{
+    match service.identity {
+        Some(id) => Some(id.hex()),
+        None => None,
+    }
+}
+
+// The journal of a session, as JSON values.
+#[derive(Drop)]
+struct Place {
+    journal: Value,
+    identity: Value,
+}
+
+fn place_of(alloc: Global, service: Service) -> Result<Place, AllocError>
+    ensures journal { IfOk result (λ p. view p.journal ≡ text_or_null (lent service.entry.journal)) }
+    ensures identity { IfOk result (λ p. view p.identity ≡ text_or_null (identity_in service.entry)) }
+    ensures memory { OnErr result (IsTrue ⟦<Global as Grows>⟧.refuses) }
+{
+    let Ok(journal) = text_or_null(alloc, service.journal) else {
+        return Err(AllocError);
+    };
+    let Ok(identity) = text_or_null(alloc, identity_in(service)) else {
+        return Err(AllocError);
+    };
+    Ok(Place { journal, identity })
 }
 
 fn ready_object(
     alloc: Global,
     service: Service,
-    journal: Value,
+    place: Place,
     counts: Counts,
 ) -> Result<Value, AllocError>
-    requires journal { view journal ≡ journal_data service.journal }
+    requires journal { view place.journal ≡ text_or_null (lent service.journal) }
+    requires identity { view place.identity ≡ text_or_null (identity_in service) }
     ensures { IfOk result (λ v. view v ≡ ready_data service.entry counts) }
 {
     let version = service.version;
     json!(in alloc; {
-        "dropped": counts.dropped, "interrupted": counts.interrupted, "journal": journal,
-        "ready": true, "resources": counts.resources, "version": version
+        "dropped": counts.dropped, "identity": place.identity, "interrupted": counts.interrupted,
+        "journal": place.journal, "next_call": counts.next_call, "ready": true,
+        "resources": counts.resources, "version": version
     })
 }
 
@@ -74,11 +113,11 @@ pub fn ready_value(alloc: Global, service: Service, counts: Counts) -> Result<Va
     ensures value { IfOk result (λ v. view v ≡ ready_data service.entry counts) }
     ensures memory { OnErr result (IsTrue ⟦<Global as Grows>⟧.refuses) }
 {
-    let Ok(journal) = journal_value(alloc, service.journal) else {
+    let Ok(place) = place_of(alloc, service) else {
         return Err(AllocError);
     };
     // TRUSTED: `ready_object` is a `json!`, which fails only where the memory that it takes is refused.
-    Global::library_growth(ready_object(alloc, service, journal, counts))
+    Global::library_growth(ready_object(alloc, service, place, counts))
 }
 
 fn text_value(alloc: Global, metadata: &str) -> Result<Value, AllocError>

@@ -2,20 +2,24 @@
 ghost use Rattle.std.specs.Prelude.{◌≡◌, IsTrue, OnErr, OnOk, option_map};
 ghost use Rattle.serde_json.specs.Data.{string};
 ghost use Rattle.serde_json.specs.View.{view};
+ghost use Rattle.exec_commands.specs.LineKinds.{with_kind};
 ghost use Rattle.exec_commands.specs.Objects.{object_with};
 ghost use Rattle.exec_commands.specs.Tags.{formed_tag, written_tag, with_tag};
 
+use crate::kind::LineKind;
 use crate::notice::NoticeForm;
 use growth::Grows;
 use serde_json::{Value, put};
 use std::alloc::{AllocError, Global};
 
-/// How a line is written: in this form, and with this tag. A line of a `run` session has no tag.
+/// How a line is written: in this form, with this tag, and a notice with this reason. A line of a `run` session has neither.
 #[derive(Clone, Copy)]
 pub struct Tagged<'a> {
     pub form: NoticeForm<'a>,
     /// The tag of the line that is answered, or of the command whose result is reported.
     pub tag: Option<&'a str>,
+    /// Why the action failed, in the words of its agent, if they are known.
+    pub reason: Option<&'a str>,
 }
 
 /// The tag that a line of this form is written with.
@@ -39,6 +43,15 @@ fn put_text(alloc: Global, object: &mut Value, key: &str, text: &str) -> Result<
         put(members, alloc, key, text)?;
     }
     Ok(())
+}
+
+/// Puts the kind of its line into an object.
+pub fn put_kind(alloc: Global, object: &mut Value, kind: LineKind) -> Result<(), AllocError>
+    ensures value { OnOk result (view object.new ≡ with_kind kind (view object.old)) }
+    ensures memory { OnErr result (IsTrue ⟦<Global as Grows>⟧.refuses) }
+{
+    // TRUSTED: it fails only where the memory that it takes is refused.
+    Global::library_growth(put_text(alloc, object, "kind", kind.word()))
 }
 
 /// Puts the tag, if any, into an object.

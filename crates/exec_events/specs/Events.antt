@@ -1,17 +1,14 @@
--- The line of a result, for a person, in the words of `status`.
-use Rattle.std.specs.Prelude.{ℕ, ◌-◌, ◌==◌, ◌||◌, Bool, true, false, if◌then◌else◌, List, [], ◌++◌, codes, decimal}
-use Rattle.ocf_codes.specs.ExitCodes.{name_read}
-use Rattle.ocf_types.specs.Actions.{action_word}
+-- The line of a result, for a person.
+use Rattle.std.specs.Prelude.{◌≡◌, ◌||◌, Bool, true, false, if◌then◌else◌, ℕ, List, [], ◌∷◌, ◌++◌, Option, codes}
+use Rattle.std.specs.Io.KnownBytes.{Appends}
 use Rattle.ocf_types.specs.Notices.{is_failure}
-use Rattle.ocf_types.specs.declared.action.Action.{Action}
 use Rattle.ocf_types.specs.declared.outcome.Outcome.{Outcome}
 use Rattle.ocf_types.specs.declared.outcome.Outcome.TheVariants.{Run, Interrupted, Dropped}
-use Rattle.ocf_types.specs.declared.outcome.RunEnd.TheVariants.{Done, TimedOut, Signaled, Lost}
+use Rattle.ocf_types.specs.declared.outcome.RunEnd.TheVariants.{Lost}
 use Rattle.ocf_types.specs.declared.reply.Notice.{Notice}
 use Rattle.exec_client.specs.declared.message.Message.{Message}
 use Rattle.exec_client.specs.declared.message.Message.TheVariants as message
-use Rattle.resource_status.specs.Meanings.{failure_meaning, meaning, tone_of}
-use Rattle.resource_status.specs.Texts.{span_text}
+use Rattle.resource_status.specs.Meanings.{tone_of}
 use Rattle.resource_status.specs.declared.meanings.Tone.{Tone}
 use Rattle.resource_status.specs.declared.meanings.Tone.TheVariants.{Bad}
 
@@ -36,32 +33,22 @@ abbrev pub marked : Bool → Bool → Outcome → List ℕ
 marked true failed o = mark_of failed o
 marked false failed o = []
 
--- the meaning of a result; that of a failure in the words for a last failure
-abbrev pub event_meaning : Action → Outcome → List ℕ
-event_meaning action o = if is_bad (tone_of o) then failure_meaning o else meaning action o
+-- the line of a result: its mark, if lines are to have it, the resource, and some text
+abbrev pub IsEventLine : Bool → Notice → List ℕ → Type 0
+IsEventLine marks n line =
+    (text : List ℕ) × (line ≡ marked marks (is_failure n) n.result.outcome ++ (n.id ++ (text ++ codes "\n")))
 
--- the agent's exit code, with its name if it is not 0
-abbrev pub code_text : Outcome → List ℕ
-code_text (Run (Done n)) =
-    if n == 0 then codes " (0)" else codes " (" ++ name_read n ++ codes ", " ++ decimal n ++ codes ")"
-code_text _ = []
+-- a line for each result, in order
+abbrev pub AreEventLines : Bool → List Notice → List ℕ → Type 0
+AreEventLines marks [] lines = lines ≡ []
+AreEventLines marks (n ∷ ns) lines =
+    (line : List ℕ) × (rest : List ℕ) × IsEventLine marks n line × (lines ≡ line ++ rest) × AreEventLines marks ns rest
 
--- how long the action ran, if its end was observed
-abbrev pub time_text : Outcome → ℕ → List ℕ
-time_text (Run (Done n)) millis = codes " in " ++ span_text millis
-time_text (Run TimedOut) millis = codes " after " ++ span_text millis
-time_text (Run Signaled) millis = codes " after " ++ span_text millis
-time_text _ millis = []
-
--- the text of a result
-abbrev pub event_text : Notice → List ℕ
-event_text n =
-    n.id ++ codes ": " ++ action_word n.result.action ++ codes " " ++ event_meaning n.result.action n.result.outcome
-    ++ code_text n.result.outcome ++ time_text n.result.outcome (n.result.at - n.result.since)
-
--- the line of a result, with or without its mark
-abbrev pub event_line : Bool → Notice → List ℕ
-event_line marks n = marked marks (is_failure n) n.result.outcome ++ event_text n ++ codes "\n"
+-- these results had their lines written, between two contents of a writer
+pub record WritesEvents (marks : Bool) (ns : List Notice) (old new : Option (List ℕ)) : Type 0 where
+  pub lines : List ℕ
+  pub are : AreEventLines marks ns lines
+  pub written : Appends old new lines
 
 -- the results in a message
 abbrev pub notices_in : Message → List Notice

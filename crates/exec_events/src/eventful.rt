@@ -1,8 +1,7 @@
 //! A client that passes messages to another client, and then writes a line for each result.
-ghost use Rattle.std.specs.Prelude.{◌≡◌, OnOk};
+ghost use Rattle.std.specs.Prelude.{◌≡◌, ℕ, List, OnOk};
 ghost use Rattle.std.specs.Io.KnownBytes.{Appends};
-ghost use Rattle.std.specs.List.{flat_map};
-ghost use Rattle.exec_events.specs.Events.{event_line, notices_in};
+ghost use Rattle.exec_events.specs.Events.{IsEventLine, WritesEvents, notices_in};
 
 use crate::lines::event_line;
 use child_model::Children;
@@ -62,8 +61,8 @@ struct Making {
 // Writes the line of a result, and flushes the writer.
 fn write_event<W: Write>(making: &Making, errors: &mut W, notice: &Notice) -> Result<(), IoFault>
     ensures written { OnOk result
-        (Appends (W.contents errors.old) (W.contents errors.new)
-        (event_line making.now.marks notice.now)) }
+        ((line : List ℕ) × IsEventLine making.now.marks notice.now line
+        × Appends (W.contents errors.old) (W.contents errors.new) line) }
 {
     let line = event_line(making.alloc, making.marks, notice)?;
     write_flushed(errors, line.as_slice())?;
@@ -77,8 +76,7 @@ fn write_events<W: Write>(
     notices: &[Notice],
 ) -> Result<(), IoFault>
     ensures written { OnOk result
-        (Appends (W.contents errors.old) (W.contents errors.new)
-        (flat_map (event_line making.now.marks) notices.now)) }
+        (WritesEvents making.now.marks notices.now (W.contents errors.old) (W.contents errors.new)) }
 {
     for notice in notices {
         write_event(making, errors, notice)?;

@@ -1,22 +1,15 @@
 //! The line of a result, for a person.
-ghost use Rattle.std.specs.Prelude.{◌≡◌, ◌-◌, ◌++◌, IfOk, IsTrue, OnErr, OnOk};
+ghost use Rattle.std.specs.Prelude.{◌≡◌, IfOk, IsTrue, OnErr};
+ghost use Rattle.ocf_types.specs.Notices.{is_failure};
 ghost use Rattle.resource_status.specs.Meanings.{tone_of};
-ghost use Rattle.exec_events.specs.Events.{code_text, event_line, event_meaning, event_text, is_bad, is_unknown, mark_of, marked, time_text};
+ghost use Rattle.exec_events.specs.Events.{IsEventLine, is_bad, is_unknown, mark_of, marked};
 
 use growth::Grows;
-use log_lines::{add_bytes, add_number};
+use line_text::LineText;
 use ocf_codes::{is_failure, name, read_code};
 use ocf_types::{Action, Notice, Outcome, RunEnd};
-use resource_status::{Tone, add_span, failure_meaning, meaning, tone_of};
+use resource_status::{Tone, failure_meaning, meaning, tone_of};
 use std::alloc::{AllocError, Global};
-
-// Adds a text.
-fn add(line: &mut Vec<u8>, more: &str) -> Result<(), AllocError>
-    ensures added { OnOk result (line.new.items ≡ line.old.items ++ more.now) }
-    ensures memory { OnErr result (IsTrue ⟦<Global as Grows>⟧.refuses) }
-{
-    add_bytes(line, more.as_bytes())
-}
 
 // Whether the outcome is a failure whatever exit code was expected.
 fn is_bad(outcome: Outcome) -> bool
@@ -51,88 +44,82 @@ fn mark_of(failed: bool, outcome: Outcome) -> &'static str
     }
 }
 
-// The meaning of a result, in the words of `status`.
-fn event_meaning(action: Action, outcome: Outcome) -> &'static str
-    ensures { result.now ≡ event_meaning action outcome }
+// The prefix of the line of this result, if lines are to have one.
+fn marked(marks: bool, notice: &Notice) -> &'static str
+    ensures { result.now ≡ marked marks (is_failure notice.now) notice.now.result.outcome }
 {
-    if is_bad(outcome) {
-        failure_meaning(outcome)
+    if marks {
+        mark_of(is_failure(notice), notice.result.outcome)
     } else {
-        meaning(action, outcome)
+        ""
     }
 }
 
-// Adds the agent's exit code, with its name if it is not 0.
-fn add_code(line: &mut Vec<u8>, outcome: Outcome) -> Result<(), AllocError>
-    ensures added { OnOk result (line.new.items ≡ line.old.items ++ code_text outcome) }
-    ensures memory { OnErr result (IsTrue ⟦<Global as Grows>⟧.refuses) }
-{
-    let Outcome::Run(RunEnd::Done(code)) = outcome else {
-        return Ok(());
-    };
-    if code == 0 {
-        return add(line, " (0)");
-    }
-    add(line, " (")?;
-    add(line, name(read_code(code)))?;
-    add(line, ", ")?;
-    add_number(line, u64::from(code))?;
-    add(line, ")")
-}
-
-// Adds how long the action ran, if its end was observed.
-fn add_time(line: &mut Vec<u8>, outcome: Outcome, millis: u64) -> Result<(), AllocError>
-    ensures added { OnOk result (line.new.items ≡ line.old.items ++ time_text outcome millis) }
-    ensures memory { OnErr result (IsTrue ⟦<Global as Grows>⟧.refuses) }
-{
-    match outcome {
-        Outcome::Run(RunEnd::Done(_)) => add(line, " in ")?,
-        Outcome::Run(RunEnd::TimedOut | RunEnd::Signaled) => add(line, " after ")?,
-        _ => return Ok(()),
-    }
-    add_span(line, millis)
-}
-
-// Adds the text of a result.
-fn add_event(line: &mut Vec<u8>, notice: &Notice) -> Result<(), AllocError>
-    ensures added { OnOk result (line.new.items ≡ line.old.items ++ event_text notice.now) }
-    ensures memory { OnErr result (IsTrue ⟦<Global as Grows>⟧.refuses) }
-{
+// Appends what became of the action; an exit code that was not wanted is a failure.
+fn add_meaning(text: &mut LineText, notice: &Notice) {
     let ended = notice.result;
-    add_bytes(line, notice.id.as_bytes())?;
-    add(line, ": ")?;
-    add(line, ended.action.word())?;
-    add(line, " ")?;
-    add(line, event_meaning(ended.action, ended.outcome))?;
-    add_code(line, ended.outcome)?;
-    let millis = ended.at.get().saturating_sub(ended.since.get());
-    add_time(line, ended.outcome, millis)
+    let failed = is_failure(notice) || is_bad(ended.outcome);
+    match (ended.outcome, ended.action) {
+        (Outcome::Run(RunEnd::Done(_)), _) if failed => {
+            text.text(" failed: ");
+            text.text(failure_meaning(ended.outcome));
+        }
+        (Outcome::Run(RunEnd::Done(_)), Action::Monitor) => {
+            text.text(": ");
+            text.text(meaning(ended.action, ended.outcome));
+        }
+        _ => {
+            text.text(" ");
+            text.text(meaning(ended.action, ended.outcome));
+        }
+    }
 }
 
-// Adds the mark, if lines are to have one.
-fn add_mark(
-    line: &mut Vec<u8>,
-    marks: bool,
-    failed: bool,
-    outcome: Outcome,
-) -> Result<(), AllocError>
-    ensures added { OnOk result (line.new.items ≡ line.old.items ++ marked marks failed outcome) }
+// Appends the agent's exit code with its name, if it is not 0.
+fn add_code(text: &mut LineText, outcome: Outcome) {
+    if let Outcome::Run(RunEnd::Done(code)) = outcome
+        && code != 0
+    {
+        text.text(" (");
+        text.text(name(read_code(code)));
+        text.text(", ");
+        text.number(u64::from(code));
+        text.text(")");
+    }
+}
+
+// Appends how long the action ran, if its end was observed.
+fn add_time(text: &mut LineText, notice: &Notice) {
+    let ended = notice.result;
+    if let Outcome::Run(RunEnd::Done(_) | RunEnd::TimedOut | RunEnd::Signaled) = ended.outcome {
+        text.text(" after ");
+        text.span(ended.at.get().saturating_sub(ended.since.get()));
+    }
+}
+
+// What the line of a result says of its resource.
+fn sentence(alloc: Global, notice: &Notice) -> Result<Vec<u8>, AllocError>
     ensures memory { OnErr result (IsTrue ⟦<Global as Grows>⟧.refuses) }
 {
-    if !marks {
-        return Ok(());
-    }
-    add(line, mark_of(failed, outcome))
+    let mut text = LineText::new(alloc);
+    text.text(": ");
+    text.text(notice.result.action.word());
+    add_meaning(&mut text, notice);
+    add_code(&mut text, notice.result.outcome);
+    add_time(&mut text, notice);
+    text.finish()
 }
 
 /// The line of a result, with or without its mark.
 pub fn event_line(alloc: Global, marks: bool, notice: &Notice) -> Result<Vec<u8>, AllocError>
-    ensures line { IfOk result (λ line. line.items ≡ event_line marks notice.now) }
+    ensures line { IfOk result (λ line. IsEventLine marks notice.now line.items) }
     ensures memory { OnErr result (IsTrue ⟦<Global as Grows>⟧.refuses) }
 {
-    let mut line = Vec::new(alloc);
-    add_mark(&mut line, marks, is_failure(notice), notice.result.outcome)?;
-    add_event(&mut line, notice)?;
-    add(&mut line, "\n")?;
-    Ok(line)
+    let sentence = sentence(alloc, notice)?;
+    let mut line = LineText::new(alloc);
+    line.text(marked(marks, notice));
+    line.bytes(notice.id.as_bytes());
+    line.bytes(sentence.as_slice());
+    line.text("\n");
+    line.finish()
 }

@@ -3,12 +3,12 @@ ghost use Rattle.std.specs.Prelude.{◌≡◌, ◌≢◌, None, OnErr, OnOk, IfO
 ghost use Rattle.std.specs.Io.KnownBytes.{Appends};
 ghost use Rattle.std.specs.List.{flat_map};
 ghost use Rattle.exec_commands.specs.Replies.{formed_line, sent_reply_line, written_request_line};
-ghost use Rattle.exec_commands.specs.Tags.{written_tag};
+ghost use Rattle.exec_commands.specs.Tags.{written_reason, written_tag};
 ghost use Rattle.exec_lines.specs.Prefixes.{AppendsPrefix};
 ghost use Rattle.exec_messages.specs.declared.send.IoFault.TheVariants.{InputOrOutput, Memory};
 
 use exec_commands::{
-    LineReply, NoticeForm, Tagged, write_notice, write_sent_reply, write_written_request,
+    LineReply, NoticeForm, Origin, Tagged, write_notice, write_sent_reply, write_written_request,
 };
 use exec_lines::{write_bytes, write_flushed};
 use growth::Grows;
@@ -95,27 +95,27 @@ pub fn put_reply<W: Write>(
     Ok(())
 }
 
-/// Writes the line of a notice in this form and with this tag, and flushes it. The signal is the one that ended the agent process, if one
-/// did. On error a prefix of the line was written.
+/// Writes the line of a notice in this form, with this tag and this reason, and flushes it. On error a prefix of the line was written.
 pub fn send_notice<W: Write>(
     alloc: Global,
     writer: &mut W,
     tagged: Tagged,
     notice: &Notice,
-    signal: Option<u8>,
+    origin: Origin,
 ) -> Result<(), IoFault>
     ensures sent { OnOk result
         (Appends (W.contents writer.old) (W.contents writer.new)
-        (formed_line tagged.entry.form (written_tag tagged.entry) signal notice.now)) }
+        (formed_line tagged.entry.form (written_reason tagged.entry) (written_tag tagged.entry) origin notice.now)) }
     ensures prefix { OnErr result
         (AppendsPrefix (W.contents writer.old) (W.contents writer.new)
-        (formed_line tagged.entry.form (written_tag tagged.entry) signal notice.now)) }
+        (formed_line tagged.entry.form (written_reason tagged.entry) (written_tag tagged.entry) origin notice.now)) }
     ensures memory { IfErr result (λ f. f ≡ Memory → IsTrue ⟦<Global as Grows>⟧.refuses) }
 {
-    send_line(writer, write_notice(alloc, tagged, notice, signal))
+    send_line(writer, write_notice(alloc, tagged, notice, origin))
 }
 
-/// Writes notices in this form, a line each, without tags and signals, and flushes each line. On error a prefix of the lines was written.
+/// Writes the notices of an opening's report in this form, a line each, without tags and reasons, and flushes each line. On error a prefix of
+/// the lines was written.
 pub fn send_notices<W: Write>(
     alloc: Global,
     writer: &mut W,
@@ -124,15 +124,19 @@ pub fn send_notices<W: Write>(
 ) -> Result<(), IoFault>
     ensures sent { OnOk result
         (Appends (W.contents writer.old) (W.contents writer.new)
-        (flat_map (formed_line form.entry None None) notices.now)) }
+        (flat_map (formed_line form.entry None None Origin.Opening) notices.now)) }
     ensures prefix { OnErr result
         (AppendsPrefix (W.contents writer.old) (W.contents writer.new)
-        (flat_map (formed_line form.entry None None) notices.now)) }
+        (flat_map (formed_line form.entry None None Origin.Opening) notices.now)) }
     ensures memory { IfErr result (λ f. f ≡ Memory → IsTrue ⟦<Global as Grows>⟧.refuses) }
 {
-    let tagged = Tagged { form, tag: None };
+    let tagged = Tagged {
+        form,
+        tag: None,
+        reason: None,
+    };
     for notice in notices {
-        send_notice(alloc, writer, tagged, notice, None)?;
+        send_notice(alloc, writer, tagged, notice, Origin::Opening)?;
     }
     Ok(())
 }

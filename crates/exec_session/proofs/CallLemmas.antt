@@ -12,7 +12,6 @@ use Rattle.disk_model.specs.Disk.{DiskView}
 use Rattle.executor.specs.ExecutorView.{ExecutorView}
 use Rattle.executor.specs.TurnCalls.{with_empty_book}
 use Rattle.exec_commands.specs.declared.ends.DrainEnd.{DrainEnd}
-use Rattle.exec_commands.specs.declared.ends.DrainEnd.TheVariants.{Turn}
 use Rattle.exec_commands.specs.declared.line.Line.{Line}
 use Rattle.exec_commands.specs.declared.line.Line.TheVariants as line
 use Rattle.exec_commands.specs.declared.notice.NoticeForm.{NoticeForm}
@@ -245,7 +244,7 @@ module _ {D : Type 0} (view : D → DiskView) where
 
     -- how an own turn ended, which is sent if it is news
     news_go : (before end : TurnEnd) (p q : SessionView D) → NewsSo (SendsAll rules.form) before end p q → Goes p q
-    news_go before end p q (news is sends_all) = plain_go rules.form p q (answer.Drain (Turn end)) (refl, tt) sends_all
+    news_go before end p q (news is sends_all) = plain_go rules.form p q (answer.Trouble end) (refl, tt) sends_all
     news_go before end p q (no_news none same) = stays p q same
 
     own_turn_goes : (before : TurnEnd) (now : ℕ) (p q : SessionView D) (end : TurnEnd) → p.executor.is_open ≡ true

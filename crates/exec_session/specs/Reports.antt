@@ -4,10 +4,9 @@ use Rattle.executor.specs.Reports.{report_of}
 use Rattle.executor.specs.ExecutorView.{ExecutorView}
 use Rattle.executor.specs.declared.report.Report.{Report}
 use Rattle.ocf_types.specs.declared.reply.TurnEnd.{TurnEnd}
-use Rattle.exec_commands.specs.declared.ends.DrainEnd.TheVariants.{Turn}
 use Rattle.exec_commands.specs.declared.notice.NoticeForm.{NoticeForm}
 use Rattle.exec_commands.specs.declared.service.Counts.{Counts}
-use Rattle.exec_commands.specs.declared.reply.LineReply.TheVariants.{Drain, Ready}
+use Rattle.exec_commands.specs.declared.reply.LineReply.TheVariants.{Ready, Trouble}
 use Rattle.exec_client.specs.SentItem.{Answered, Reported, SentItem}
 use Rattle.exec_session.specs.SessionViews.{SessionView, SendsAll, SendsPart}
 use Rattle.exec_session.specs.declared.context.Mode.{Mode}
@@ -28,12 +27,13 @@ ReportBreaks {D} form r p q =
     SendsPart form p q (map Reported r.interrupted.items)
     ⊎ ((m : SessionView D) × SendsAll form p m (map Reported r.interrupted.items) × SendsPart form m q (map Reported r.dropped.items))
 
--- the number of registered resources, and of lines of the opening's report: of interrupted and of dropped actions
+-- the number of registered resources, and of lines of the opening's report: of interrupted and of dropped actions; and the next call
 abbrev pub counts_of : {D : Type 0} → ExecutorView D → Counts
 counts_of x = record {
   resources = length x.state.resources;
   interrupted = length x.opening_report.interrupted;
   dropped = length x.opening_report.dropped;
+  next_call = x.state.next_call;
 }
 
 -- the line that a session in `serve` is ready
@@ -50,6 +50,6 @@ abbrev pub ReadyBreaks : {D : Type 0} → Mode → NoticeForm → SessionView D 
 ReadyBreaks Run form p q = ⊥
 ReadyBreaks Serve form p q = SendsPart form p q (readied p.executor ∷ [])
 
--- the line that says how a turn ended, as a drain's reply does
+-- the line that says how a turn ended, which answers no line
 abbrev pub ended : TurnEnd → SentItem
-ended end = Answered (Drain (Turn end))
+ended end = Answered (Trouble end)

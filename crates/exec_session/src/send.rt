@@ -11,7 +11,7 @@ use crate::worker::Worker;
 use child_model::Children;
 use disk_model::Disk;
 use exec_client::{Client, Message};
-use exec_commands::{Counts, DrainEnd, LineReply, NoticeForm};
+use exec_commands::{Counts, LineReply, NoticeForm};
 use exec_lines::Input;
 use exec_trace::Failed;
 use executor::Report;
@@ -62,7 +62,7 @@ impl<'a, R: Input, D: Disk + Drop, C: Children + Drop, T: Client<D, C>, K: Clock
     pub fn send_end<M>(&mut self, context: &SessionContext<M>, end: TurnEnd) -> Result<(), Failed>
         ensures sends { Sends context.now.form (ended end ∷ []) self.old self.new result }
     {
-        self.send_aside(context, &LineReply::Drain(DrainEnd::Turn(end)))
+        self.send_aside(context, &LineReply::Trouble(end))
     }
 
     /// Sends the report of an opening: the interrupted actions, and then the dropped ones.
@@ -81,7 +81,7 @@ impl<'a, R: Input, D: Disk + Drop, C: Children + Drop, T: Client<D, C>, K: Clock
         self.send(context.form, &dropped)
     }
 
-    // The number of resources that are registered, and of lines of the report.
+    // The number of resources that are registered, and of lines of the report, and the next call.
     fn counts(&self, report: &Report) -> Counts
         requires opening_report { IsReportOf self.now.at.executor report.now }
         ensures { result ≡ counts_of self.now.at.executor }
@@ -90,6 +90,7 @@ impl<'a, R: Input, D: Disk + Drop, C: Children + Drop, T: Client<D, C>, K: Clock
             resources: self.executor.state().len(),
             interrupted: report.interrupted.len(),
             dropped: report.dropped.len(),
+            next_call: self.executor.state().next_call().get(),
         }
     }
 

@@ -42,7 +42,7 @@ range_of key.Tag = range.Tag
 
 -- a range as a part of a sentence
 abbrev pub range_text : Range → List ℕ
-range_text range.Operation = codes "the name of an operation, a text"
+range_text range.Operation = codes "one of register, unregister, params, exec, recur, cancel, withdraw, forget, list, info, history, drain, watch, meta, tidy, status, version and leave"
 range_text range.Id = codes "a text of 1 to 64 letters, digits, '_', '-', '.' and ':', but not '.' or '..'"
 range_text range.Name = codes "a text of 1 to 64 letters, digits, '_', '-' and '.', but not '.' or '..'"
 range_text range.Params = codes "an object of at most 64 texts of 1024 bytes, no NUL, by names of 1 to 64 letters, digits and '_', no digit first"

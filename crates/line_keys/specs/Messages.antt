@@ -1,5 +1,6 @@
 -- The message of a refusal, and the key that it is about.
-use Rattle.std.specs.Prelude.{ℕ, List, ◌++◌, Option, None, Some, option_map, codes}
+use Rattle.std.specs.Prelude.{ℕ, List, ◌++◌, Option, None, Some, is_some, option_map, if◌then◌else◌, codes}
+use Rattle.ocf_types.specs.Actions.{action_named}
 use Rattle.ocf_types.specs.declared.refusal.Refusal.{Refusal}
 use Rattle.ocf_types.specs.declared.refusal.Refusal.TheVariants as refusal
 use Rattle.line_keys.specs.Keys.{key_word, range_of, range_text}
@@ -26,7 +27,7 @@ refusal_text refusal.UnknownOp = codes "there is no such operation"
 refusal_text refusal.BadName = codes "a name has other letters, or is longer, than one may be"
 refusal_text refusal.BadValue = codes "a value is outside its range"
 refusal_text refusal.UnknownResource = codes "no resource of this id is registered"
-refusal_text refusal.Exists = codes "a resource of this id is registered, or has a recurring monitor of this interval"
+refusal_text refusal.Exists = codes "to register: a resource of this id is registered. To recur: this resource has a recurring monitor of this interval."
 refusal_text refusal.Busy = codes "an action of this resource is queued or running"
 refusal_text refusal.QueueFull = codes "32 actions of this resource are queued, which is the limit"
 refusal_text refusal.RecurringFull = codes "this resource has 8 recurring monitors, which is the limit"
@@ -44,12 +45,23 @@ refusal_text refusal.Closed = codes "the executor is closed"
 abbrev pub key_text : Key → List ℕ
 key_text k = key_word k ++ (codes " must be " ++ range_text (range_of k))
 
+-- what to write in place of a word that names no operation: an action is the value of another key
+abbrev pub hint_text : List ℕ → List ℕ
+hint_text word =
+    if is_some (action_named word) then codes "; use {\"op\":\"exec\",\"action\":\"" ++ (word ++ codes "\",..}")
+    else codes "; " ++ key_text key.Op
+
+-- the message that a word names no operation
+abbrev pub operation_text : List ℕ → List ℕ
+operation_text word = codes "there is no operation " ++ (word ++ hint_text word)
+
 -- the message of a refusal: what the key at fault may hold, or else a message for the kind of refusal
 abbrev pub message_of : Refusal → About → List ℕ
 message_of why about.Whole = refusal_text why
 message_of why about.Twice = codes "an object of the line has a key twice"
 message_of why (about.Key k) = key_text k
 message_of why (about.Unknown name) = codes "this operation has no such key"
+message_of why (about.Operation word) = operation_text word
 
 -- the key of the line that a refusal is about, if any
 abbrev pub about_key : Refusal → About → Option (List ℕ)
@@ -57,3 +69,4 @@ about_key why about.Whole = option_map key_word (key_of why)
 about_key why about.Twice = None
 about_key why (about.Key k) = Some (key_word k)
 about_key why (about.Unknown name) = Some name
+about_key why (about.Operation word) = Some (key_word key.Op)

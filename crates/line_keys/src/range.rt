@@ -60,7 +60,10 @@ impl Range {
         ensures memory { OnErr result (IsTrue ⟦<Global as Grows>⟧.refuses) }
     {
         match self {
-            Range::Operation => push_text(text, "the name of an operation, a text"),
+            Range::Operation => push_text(
+                text,
+                "one of register, unregister, params, exec, recur, cancel, withdraw, forget, list, info, history, drain, watch, meta, tidy, status, version and leave",
+            ),
             Range::Id => push_text(
                 text,
                 "a text of 1 to 64 letters, digits, '_', '-', '.' and ':', but not '.' or '..'",

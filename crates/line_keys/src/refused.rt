@@ -17,6 +17,8 @@ pub enum About {
     Key(Key),
     /// A key that the operation does not have.
     Unknown(Text),
+    /// The value of `op`, which names no operation.
+    Operation(Text),
 }
 
 /// Why a line of a `serve` session was refused, and what in it is at fault.
@@ -53,5 +55,6 @@ pub fn about_key(why: Refusal, about: &About) -> Option<&str>
         About::Twice => None,
         About::Key(key) => Some(key.word()),
         About::Unknown(name) => Some(name.as_str()),
+        About::Operation(_) => Some(Key::Op.word()),
     }
 }

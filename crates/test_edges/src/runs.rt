@@ -2,7 +2,7 @@
 use child_keeper::{Script, Scripted};
 use child_model::Poll;
 use disk_model::MemDisk;
-use exec_client::JsonClient;
+use exec_client::{JsonClient, NoReasons};
 use exec_commands::{NoticeForm, Service};
 use exec_faults::Fault;
 use exec_lines::{Input, Output};
@@ -51,6 +51,7 @@ fn form_of(mode: Mode) -> NoticeForm<'static> {
         Mode::Serve => NoticeForm::Timed(Service {
             version: "9.8.7",
             journal: None,
+            identity: None,
             left: &[],
         }),
     }
@@ -89,7 +90,7 @@ fn ended_in_way<R: Input + Drop, W: Output>(
     };
     match Executor::open(alloc, disk, children, nowhere(alloc), 5_000) {
         Ok((executor, report)) => {
-            let client = JsonClient::new(alloc, writer, &executor);
+            let client = JsonClient::new(alloc, writer, NoReasons, &executor);
             let Ok(room) = LineRoom::new(alloc) else {
                 return None;
             };
@@ -180,14 +181,21 @@ fn served(alloc: Global, polls: &[Poll], lines: &[u8]) -> Option<Answered> {
 }
 
 const SERVED_ON: &str =
-    "{\"dropped\":0,\"interrupted\":0,\"journal\":null,\"ready\":true,\"resources\":0,\"version\":\"9.8.7\"}\n\
-    {\"ok\":true}\n{\"call\":1,\"key\":\"r1_start_0\",\"ok\":true}\n{\"end\":\"turns\"}\n";
+    "{\"dropped\":0,\"identity\":null,\"interrupted\":0,\"journal\":null,\"kind\":\"ready\",\"next_call\":1,\"ready\":true,\
+    \"resources\":0,\"version\":\"9.8.7\"}\n\
+    {\"kind\":\"reply\",\"ok\":true}\n\
+    {\"call\":1,\"key\":\"r1_start_0\",\"kind\":\"reply\",\"ok\":true}\n\
+    {\"end\":\"turns\",\"kind\":\"reply\"}\n";
 
 const SERVED_NOT_RUNNING: &str =
-    "{\"dropped\":0,\"interrupted\":0,\"journal\":null,\"ready\":true,\"resources\":0,\"version\":\"9.8.7\"}\n\
-    {\"ok\":true}\n{\"call\":1,\"key\":\"r1_start_0\",\"ok\":true}\n\
+    "{\"dropped\":0,\"identity\":null,\"interrupted\":0,\"journal\":null,\"kind\":\"ready\",\"next_call\":1,\"ready\":true,\
+    \"resources\":0,\"version\":\"9.8.7\"}\n\
+    {\"kind\":\"reply\",\"ok\":true}\n\
+    {\"call\":1,\"key\":\"r1_start_0\",\"kind\":\"reply\",\"ok\":true}\n\
     {\"action\":\"start\",\"at\":6000,\"call\":1,\"code\":7,\"expect\":0,\"failed\":true,\"id\":\"r1\",\"interval\":0,\
-    \"key\":\"r1_start_0\",\"name\":\"OCF_NOT_RUNNING\",\"outcome\":\"done\",\"run\":1,\"since\":6000}\n{\"end\":\"idle\"}\n";
+    \"key\":\"r1_start_0\",\"kind\":\"notice\",\"name\":\"OCF_NOT_RUNNING\",\"outcome\":\"done\",\"reason\":null,\"run\":1,\
+    \"since\":6000}\n\
+    {\"end\":\"idle\",\"kind\":\"reply\"}\n";
 
 #[test]
 fn a_run_that_serves_states_that_it_is_ready_and_answers_as_a_run_does(rt: HostRuntime) {
@@ -212,11 +220,14 @@ const AFTER_A_TURN: &[u8] =
     {\"op\":\"list\"}\n";
 
 const REPORTED_BETWEEN: &str =
-    "{\"dropped\":0,\"interrupted\":0,\"journal\":null,\"ready\":true,\"resources\":0,\"version\":\"9.8.7\"}\n\
-    {\"ok\":true}\n{\"call\":1,\"key\":\"r1_start_0\",\"ok\":true}\n\
+    "{\"dropped\":0,\"identity\":null,\"interrupted\":0,\"journal\":null,\"kind\":\"ready\",\"next_call\":1,\"ready\":true,\
+    \"resources\":0,\"version\":\"9.8.7\"}\n\
+    {\"kind\":\"reply\",\"ok\":true}\n\
+    {\"call\":1,\"key\":\"r1_start_0\",\"kind\":\"reply\",\"ok\":true}\n\
     {\"action\":\"start\",\"at\":6000,\"call\":1,\"code\":7,\"expect\":0,\"failed\":true,\"id\":\"r1\",\"interval\":0,\
-    \"key\":\"r1_start_0\",\"name\":\"OCF_NOT_RUNNING\",\"outcome\":\"done\",\"run\":1,\"since\":6000}\n\
-    {\"ok\":true,\"resources\":[\"r1\"]}\n";
+    \"key\":\"r1_start_0\",\"kind\":\"notice\",\"name\":\"OCF_NOT_RUNNING\",\"outcome\":\"done\",\"reason\":null,\"run\":1,\
+    \"since\":6000}\n\
+    {\"kind\":\"reply\",\"ok\":true,\"resources\":[\"r1\"]}\n";
 
 #[test]
 fn a_run_that_serves_makes_turns_between_lines(rt: HostRuntime) {
@@ -234,12 +245,16 @@ const TWO_STARTS: &[u8] =
 // The interrupted action, the dropped ones, and how many there were of each.
 const READY_AFTER_THE_REPORT: &str =
     "{\"action\":\"start\",\"at\":6000,\"call\":1,\"code\":1,\"expect\":0,\"failed\":false,\"id\":\"r1\",\"interval\":0,\
-    \"key\":\"r1_start_0\",\"name\":\"OCF_ERR_GENERIC\",\"outcome\":\"interrupted\",\"run\":1,\"since\":6000}\n\
+    \"key\":\"r1_start_0\",\"kind\":\"report\",\"name\":\"OCF_ERR_GENERIC\",\"outcome\":\"interrupted\",\"reason\":null,\
+    \"run\":1,\"since\":6000}\n\
     {\"action\":\"start\",\"at\":6000,\"call\":2,\"code\":1,\"expect\":0,\"failed\":false,\"id\":\"r2\",\"interval\":0,\
-    \"key\":\"r2_start_0\",\"name\":\"OCF_ERR_GENERIC\",\"outcome\":\"dropped\",\"run\":0,\"since\":6000}\n\
+    \"key\":\"r2_start_0\",\"kind\":\"report\",\"name\":\"OCF_ERR_GENERIC\",\"outcome\":\"dropped\",\"reason\":null,\"run\":0,\
+    \"since\":6000}\n\
     {\"action\":\"monitor\",\"at\":6000,\"call\":3,\"code\":1,\"expect\":0,\"failed\":false,\"id\":\"r2\",\"interval\":0,\
-    \"key\":\"r2_monitor_0\",\"name\":\"OCF_ERR_GENERIC\",\"outcome\":\"dropped\",\"run\":0,\"since\":6000}\n\
-    {\"dropped\":2,\"interrupted\":1,\"journal\":null,\"ready\":true,\"resources\":2,\"version\":\"9.8.7\"}\n";
+    \"key\":\"r2_monitor_0\",\"kind\":\"report\",\"name\":\"OCF_ERR_GENERIC\",\"outcome\":\"dropped\",\"reason\":null,\"run\":0,\
+    \"since\":6000}\n\
+    {\"dropped\":2,\"identity\":null,\"interrupted\":1,\"journal\":null,\"kind\":\"ready\",\"next_call\":4,\"ready\":true,\
+    \"resources\":2,\"version\":\"9.8.7\"}\n";
 
 #[test]
 fn a_run_that_serves_states_after_the_report_how_many_lines_that_had(rt: HostRuntime) {
@@ -258,14 +273,21 @@ const TAGGED: &[u8] =
     \n{\"op\":\"list\"}\n{\"op\":\"fly\",\"tag\":\"c\"}\n{\"op\":\"list\",\"tag\":\"d\"}\n{\"op\":\"drain\",\"tag\":\"e\"}\n";
 
 const TAGGED_REPLIES: &str =
-    "{\"dropped\":0,\"interrupted\":0,\"journal\":null,\"ready\":true,\"resources\":0,\"version\":\"9.8.7\"}\n\
-    {\"ok\":true,\"tag\":\"a\"}\n{\"error\":\"unknown-resource\",\"key\":\"id\",\"message\":\"no resource of this id is registered\",\"number\":5,\"tag\":\"b\"}\n\
-    {\"call\":1,\"key\":\"r1_start_0\",\"ok\":true,\"tag\":\"\"}\n{\"ok\":true,\"resources\":[\"r1\"]}\n\
-    {\"error\":\"unknown-op\",\"key\":\"op\",\"message\":\"op must be the name of an operation, a text\",\"number\":2,\"tag\":\"c\"}\n\
-    {\"ok\":true,\"resources\":[\"r1\"],\"tag\":\"d\"}\n\
+    "{\"dropped\":0,\"identity\":null,\"interrupted\":0,\"journal\":null,\"kind\":\"ready\",\"next_call\":1,\"ready\":true,\
+    \"resources\":0,\"version\":\"9.8.7\"}\n\
+    {\"kind\":\"reply\",\"ok\":true,\"tag\":\"a\"}\n\
+    {\"error\":\"unknown-resource\",\"key\":\"id\",\"kind\":\"reply\",\"message\":\"no resource of this id is registered\",\
+    \"number\":5,\"tag\":\"b\"}\n\
+    {\"call\":1,\"key\":\"r1_start_0\",\"kind\":\"reply\",\"ok\":true,\"tag\":\"\"}\n\
+    {\"kind\":\"reply\",\"ok\":true,\"resources\":[\"r1\"]}\n\
+    {\"error\":\"unknown-op\",\"key\":\"op\",\"kind\":\"reply\",\
+    \"message\":\"there is no operation fly; op must be one of register, unregister, params, exec, recur, cancel, withdraw, \
+    forget, list, info, history, drain, watch, meta, tidy, status, version and leave\",\"number\":2,\"tag\":\"c\"}\n\
+    {\"kind\":\"reply\",\"ok\":true,\"resources\":[\"r1\"],\"tag\":\"d\"}\n\
     {\"action\":\"start\",\"at\":6000,\"call\":1,\"code\":7,\"expect\":0,\"failed\":true,\"id\":\"r1\",\"interval\":0,\
-    \"key\":\"r1_start_0\",\"name\":\"OCF_NOT_RUNNING\",\"outcome\":\"done\",\"run\":1,\"since\":6000,\"tag\":\"\"}\n\
-    {\"end\":\"idle\",\"tag\":\"e\"}\n";
+    \"key\":\"r1_start_0\",\"kind\":\"notice\",\"name\":\"OCF_NOT_RUNNING\",\"outcome\":\"done\",\"reason\":null,\"run\":1,\
+    \"since\":6000,\"tag\":\"\"}\n\
+    {\"end\":\"idle\",\"kind\":\"reply\",\"tag\":\"e\"}\n";
 
 #[test]
 fn a_reply_and_a_notice_have_the_tag_of_their_line(rt: HostRuntime) {

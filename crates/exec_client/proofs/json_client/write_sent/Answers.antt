@@ -1,6 +1,7 @@
 use Rattle.std.proofs.Common.{◌≡◌, None, ap, ◌∙◌}
 use Rattle.std.specs.List.{flat_map}
 use Rattle.exec_commands.specs.Replies.{formed_line}
+use Rattle.exec_commands.specs.declared.notice.Origin.TheVariants.{Opening}
 use Rattle.exec_client.specs.SentItem.{lines_of, sent_in}
 use Rattle.exec_client.specs.MessageTags.{sent_tags}
 use Rattle.exec_client.specs.declared.message.Message.{Message}
@@ -10,17 +11,19 @@ use Rattle.exec_client.proofs.json_client.write_sent.Goals as goal
 pub returns-in-Report-clause-sent : goal.returns-in-Report-clause-sent
 returns-in-Report-clause-sent g c =
     let form = c.args.making.now.form in
+    let reasons = c.args.making.now.reasons.now in
     let ns = c.in-Report.notices.now in
-    let lines : lines_of form (sent_tags c.args.tags.now c.args.what.now) (sent_in c.args.what.now) ≡ flat_map (formed_line form None None) ns =
-    ap (λ (w : Message). lines_of form (sent_tags c.args.tags.now w) (sent_in w)) c.in-Report.is ∙ report_lines form ns
+    let lines : lines_of form reasons (sent_tags c.args.tags.now c.args.what.now) (sent_in c.args.what.now) ≡ flat_map (formed_line form None None Opening) ns =
+    ap (λ (w : Message). lines_of form reasons (sent_tags c.args.tags.now w) (sent_in w)) c.in-Report.is ∙ report_lines form reasons ns
     in
     ok_same c.send_notices.result _ _ _ _ lines c.send_notices.ensures.sent
 
 pub returns-in-Report-clause-prefix : goal.returns-in-Report-clause-prefix
 returns-in-Report-clause-prefix g c =
     let form = c.args.making.now.form in
+    let reasons = c.args.making.now.reasons.now in
     let ns = c.in-Report.notices.now in
-    let lines : lines_of form (sent_tags c.args.tags.now c.args.what.now) (sent_in c.args.what.now) ≡ flat_map (formed_line form None None) ns =
-    ap (λ (w : Message). lines_of form (sent_tags c.args.tags.now w) (sent_in w)) c.in-Report.is ∙ report_lines form ns
+    let lines : lines_of form reasons (sent_tags c.args.tags.now c.args.what.now) (sent_in c.args.what.now) ≡ flat_map (formed_line form None None Opening) ns =
+    ap (λ (w : Message). lines_of form reasons (sent_tags c.args.tags.now w) (sent_in w)) c.in-Report.is ∙ report_lines form reasons ns
     in
     err_same c.send_notices.result _ _ _ _ lines c.send_notices.ensures.prefix

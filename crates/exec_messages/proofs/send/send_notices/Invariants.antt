@@ -2,8 +2,9 @@ use Rattle.std.proofs.Common.{None, take}
 use Rattle.std.specs.Io.KnownBytes.{Appends}
 use Rattle.std.specs.List.{flat_map}
 use Rattle.exec_commands.specs.Replies.{formed_line}
+use Rattle.exec_commands.specs.declared.notice.Origin.TheVariants.{Opening}
 use Rattle.exec_messages.proofs.send.send_notices.Given as goal
 
 abbrev pub invariant-loop-notice : goal.invariant-loop-notice
 invariant-loop-notice g l =
-    Appends (g.W.Write.contents l.fn.writer) (g.W.Write.contents l.writer) (flat_map (formed_line l.form None None) (take l.notice-index l.notices))
+    Appends (g.W.Write.contents l.fn.writer) (g.W.Write.contents l.writer) (flat_map (formed_line l.form None None Opening) (take l.notice-index l.notices))
