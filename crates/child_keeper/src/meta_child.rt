@@ -69,13 +69,10 @@ fn meta_command<A: Grows>(
 }
 
 // Spawns the agent and lets it run. The launcher ends by itself if it is not let run.
-fn spawned<R: Processes + Programs, A: Grows>(
+fn spawned<R: Processes, A: Grows>(
     rt: &R,
-    leading: &Leading,
-    program: &str,
     command: &mut Command<A>,
 ) -> io::Result<Child<R::Started>> {
-    check_program(rt, leading, program)?;
     let mut child = command.spawn(rt)?;
     open_gate(&mut child)?;
     Ok(child)
@@ -198,7 +195,11 @@ where
             return Err(MetaFault::Memory);
         };
         let deadline = limit.map(|millis| Deadline::after(rt, millis));
-        match spawned(rt, call.leading, invocation.program(), &mut command) {
+        let child = match check_program(rt, alloc, call.leading, &invocation) {
+            Ok(()) => spawned(rt, &mut command),
+            Err(error) => Err(error),
+        };
+        match child {
             Ok(mut child) => Ok(MetaChild {
                 stdout: child.stdout.take(),
                 child,

@@ -41,7 +41,7 @@ use std::time::Duration;
 /// actions; POSIX, setsid.
 ///
 /// Each agent is entered into the record of who runs before the launcher runs it; without the launcher, just after it was spawned. The
-/// entry goes when its processes have ended. An agent that cannot be entered is not run.
+/// entry goes when its processes have ended. An agent that cannot be entered is not run, unless it is to stop its resource.
 ///
 /// `kill` only gives an agent up; `end_killed` ends all given up, each with its process group and the descendants of both. It waits for
 /// their end a tenth of a second at most. Whatever lives on holds its resource, and is killed again each second.
@@ -164,7 +164,7 @@ impl<
     // Writes to the log that a launch begins, and spawns its agent, or the launcher, which waits.
     fn spawn<L: Allocator>(&self, launch: &Launch<L>) -> io::Result<Spawned<R::Started>> {
         let outlet = self.log.begin(&self.rt, &launch.id, &begun_of(launch))?;
-        check_program(&self.rt, &self.leading, launch.invocation.program())?;
+        check_program(&self.rt, self.alloc, &self.leading, &launch.invocation)?;
         let mut command = command_by(self.alloc, &self.leading, &launch.invocation)?;
         write_to(&mut command, outlet.streams.output, outlet.streams.errors);
         Ok(Spawned {
@@ -205,7 +205,7 @@ impl<
             began: millis_of(spawned_at),
             timeout: launch.timeout.get(),
         };
-        let slot = self.roster.put(&entry)?;
+        let slot = self.roster.enter(&self.rt, &entry)?;
         if let Err(error) = open_gate(child) {
             self.roster.clear(&self.rt, slot);
             return Err(error);

@@ -1,5 +1,6 @@
-//! Reports of the fault that ends the program: one line on standard error. If a person reads that, at a terminal or in the
-//! system's journal, lines with the cause and with advice follow.
+//! Reports of the fault that ends the program: one line on standard error, in the views of a journal and in `serve` with its cause. If a
+//! person reads that, at a terminal or in the system's journal, a line with advice follows, and one with the cause where the first
+//! line has none.
 use exec_faults::Fault;
 use process_ends::System;
 use std::fmt::Display;
@@ -70,5 +71,11 @@ pub fn report(system: &System<'_>, fault: Fault) {
 pub fn report_cause<W: Display + Drop>(system: &System<'_>, fault: Fault, cause: W) {
     name(system, fault);
     explain(system, cause);
+    advise(system, fault);
+}
+
+/// Reports a fault with its cause in one line, and with advice for a person.
+pub fn report_in_line<W: Display + Drop>(system: &System<'_>, fault: Fault, cause: W) {
+    let _ = system.eprintln(format_args!("ocfexec: {fault}: {cause}"));
     advise(system, fault);
 }

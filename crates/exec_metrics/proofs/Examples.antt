@@ -7,9 +7,10 @@ use Rattle.ocf_types.specs.declared.action.Action.TheVariants as action
 use Rattle.ocf_types.specs.declared.operation.Ended.{Ended}
 use Rattle.ocf_types.specs.declared.outcome.Outcome.TheVariants.{Run}
 use Rattle.ocf_types.specs.declared.outcome.RunEnd.TheVariants.{Done, TimedOut}
+use Rattle.resource_condition.specs.Conditions.{held_in}
 use Rattle.exec_metrics.specs.Labels.{label}
 use Rattle.exec_metrics.specs.Metrics.{single}
-use Rattle.exec_metrics.specs.Samples.{samples}
+use Rattle.exec_metrics.specs.Samples.{recorded_states, samples}
 use Rattle.exec_metrics.specs.declared.family.Family.{Family}
 use Rattle.exec_metrics.specs.declared.family.Family.TheVariants as family
 
@@ -46,7 +47,7 @@ web = (
 abbrev of_web : Family → List ℕ
 of_web f = samples 12700 f web
 
-states : of_web family.State
+states : recorded_states (λ id. held_in web.1.history) web
     ≡ codes "ocfexec_resource_state{resource=\"web\",state=\"never run\"} 0\nocfexec_resource_state{resource=\"web\",state=\"started\"} 0\n"
     ++ codes "ocfexec_resource_state{resource=\"web\",state=\"promoted\"} 0\nocfexec_resource_state{resource=\"web\",state=\"stopped\"} 0\n"
     ++ codes "ocfexec_resource_state{resource=\"web\",state=\"failed\"} 0\nocfexec_resource_state{resource=\"web\",state=\"unknown\"} 1\n"

@@ -9,57 +9,69 @@ use Rattle.exec_journal.specs.Position.{Position}
 use Rattle.exec_faults.specs.declared.fault.Fault.{Fault}
 use Rattle.exec_faults.specs.declared.fault.Fault.TheVariants as fault
 use Rattle.journal_measure.specs.RanOn.{HasCounts}
+use Rattle.journal_measure.specs.RecordedOn.{HasRecorded}
 use Rattle.journal_measure.specs.Sizes.{IsSize}
 use Rattle.journal_measure.specs.declared.measuring.Size.{Size}
+use Rattle.resource_condition.specs.Facts.{held_of, recorded_at}
+use Rattle.resource_condition.specs.declared.condition.Recorded.{Recorded}
 use Rattle.run_counts.specs.Counts.{count_at, tally}
 use Rattle.run_counts.specs.declared.count.RunCount.{RunCount}
 use Rattle.exec_metrics.specs.Metrics.{IsWritten, WritesAs, WritesFound, metrics_text}
 
-module _ {T : Type 0} (reads : Image) (now : ℕ) (old new : Option (List ℕ)) (size : Size) (counts : List (List ℕ × RunCount)) (s : State) where
+module _ {T : Type 0} (reads : Image) (now : ℕ) (old new : Option (List ℕ)) (size : Size) (counts : List (List ℕ × RunCount))
+    (recorded : List (List ℕ × Recorded)) (s : State) where
   abbrev Writes : Result T Fault → Type 0
-  Writes ended = IsWritten (metrics_text now size (count_at counts) s) old new ended
+  Writes ended = IsWritten (metrics_text now size (count_at counts) (recorded_at recorded) s) old new ended
 
-  found_so : (ended : Result T Fault) → FoundAs s reads → IsSize reads size → HasCounts reads counts → Writes ended → WritesFound T reads now old new ended
-  found_so ended found is_size has written = record {
+  found_so : (ended : Result T Fault) → FoundAs s reads → IsSize reads size → HasCounts reads counts → HasRecorded reads recorded → Writes ended
+      → WritesFound T reads now old new ended
+  found_so ended found is_size has tells written = record {
     state = s;
     found = found;
     size = size;
     is_size = is_size;
     runs = has.0;
     ran = has.1;
+    facts = tells.0;
+    told = tells.1;
     written =
         let same : count_at counts ≡ tally has.0 = λ i id. has.2 id i in
-        subst (λ (counted : List ℕ → RunCount). IsWritten (metrics_text now size counted s) old new ended) same written;
+        let held : recorded_at recorded ≡ held_of tells.0 = λ i id. tells.2 id i in
+        subst (λ (known : List ℕ → Recorded). IsWritten (metrics_text now size (tally has.0) known s) old new ended) held
+        (subst (λ (counted : List ℕ → RunCount). IsWritten (metrics_text now size counted (recorded_at recorded) s) old new ended) same written);
   }
 
-  pub writes : (ended : Result T Fault) → FoundAs s reads → IsSize reads size → HasCounts reads counts → Writes ended → WritesAs reads now old new ended
-  writes (Ok done) found is_size has written = found_so (Ok done) found is_size has written
-  writes (Err fault.InputOrOutput) found is_size has written = found_so (Err fault.InputOrOutput) found is_size has written
-  writes (Err fault.ReplyMemory) found is_size has written = found_so (Err fault.ReplyMemory) found is_size has written
-  writes (Err fault.NoResource) found is_size has written = absurd written
-  writes (Err fault.Usage) found is_size has written = absurd written
-  writes (Err fault.Choice) found is_size has written = absurd written
-  writes (Err fault.TidyAt) found is_size has written = absurd written
-  writes (Err fault.Root) found is_size has written = absurd written
-  writes (Err fault.Orphans) found is_size has written = absurd written
-  writes (Err fault.NotText) found is_size has written = absurd written
-  writes (Err fault.Log) found is_size has written = absurd written
-  writes (Err (fault.Damaged damage)) found is_size has written = absurd written
-  writes (Err fault.Memory) found is_size has written = absurd written
-  writes (Err fault.NotOpened) found is_size has written = absurd written
-  writes (Err fault.NoJournal) found is_size has written = absurd written
-  writes (Err fault.NotWell) found is_size has written = absurd written
-  writes (Err fault.Disk) found is_size has written = absurd written
-  writes (Err fault.Full) found is_size has written = absurd written
-  writes (Err fault.ChildrenIgnored) found is_size has written = absurd written
+  pub writes : (ended : Result T Fault) → FoundAs s reads → IsSize reads size → HasCounts reads counts → HasRecorded reads recorded → Writes ended
+      → WritesAs reads now old new ended
+  writes (Ok done) found is_size has tells written = found_so (Ok done) found is_size has tells written
+  writes (Err fault.InputOrOutput) found is_size has tells written = found_so (Err fault.InputOrOutput) found is_size has tells written
+  writes (Err fault.ReplyMemory) found is_size has tells written = found_so (Err fault.ReplyMemory) found is_size has tells written
+  writes (Err fault.NoResource) found is_size has tells written = absurd written
+  writes (Err fault.Usage) found is_size has tells written = absurd written
+  writes (Err fault.Choice) found is_size has tells written = absurd written
+  writes (Err fault.NotText) found is_size has tells written = absurd written
+  writes (Err fault.Log) found is_size has tells written = absurd written
+  writes (Err (fault.Damaged damage)) found is_size has tells written = absurd written
+  writes (Err fault.Memory) found is_size has tells written = absurd written
+  writes (Err fault.NotOpened) found is_size has tells written = absurd written
+  writes (Err fault.NoJournal) found is_size has tells written = absurd written
+  writes (Err fault.NotExisting) found is_size has tells written = absurd written
+  writes (Err fault.NotWell) found is_size has tells written = absurd written
+  writes (Err fault.Disk) found is_size has tells written = absurd written
+  writes (Err fault.Full) found is_size has tells written = absurd written
+  writes (Err fault.ChildrenIgnored) found is_size has tells written = absurd written
+  writes (Err fault.NoExecutor) found is_size has tells written = absurd written
 
 -- the same for a journal that was opened on a disk of this measure
-pub writes_opened : {T : Type 0} (now : ℕ) (old new : Option (List ℕ)) (size : Size) (counts : List (List ℕ × RunCount)) (p : Position) (s : State)
-    (first opened last : DiskView) (ended : Result T Fault) → OpensAt p s first opened → (first.honest → IsSize first.reads size)
+pub writes_opened : {T : Type 0} (now : ℕ) (old new : Option (List ℕ)) (size : Size) (counts : List (List ℕ × RunCount))
+    (recorded : List (List ℕ × Recorded)) (p : Position) (s : State) (first opened last : DiskView) (ended : Result T Fault)
+    → OpensAt p s first opened → (first.honest → IsSize first.reads size)
     → (first.honest → (t : State) → FoundAs t first.reads → HasCounts first.reads counts)
-    → IsWritten (metrics_text now size (count_at counts) s) old new ended → last ≡ opened → last.honest → WritesAs first.reads now old new ended
-writes_opened now old new size counts p s first opened last ended opens is_size has written same honest =
+    → (first.honest → (t : State) → FoundAs t first.reads → HasRecorded first.reads recorded)
+    → IsWritten (metrics_text now size (count_at counts) (recorded_at recorded) s) old new ended → last ≡ opened → last.honest
+    → WritesAs first.reads now old new ended
+writes_opened now old new size counts recorded p s first opened last ended opens is_size has tells written same honest =
     let h1 = subst (λ (v : DiskView). v.honest) same honest in
     let h0 = opens.opens.crash.passed.honest h1 in
     let found = opens.found h1 in
-    writes first.reads now old new size counts s ended found (is_size h0) (has h0 s found) written
+    writes first.reads now old new size counts recorded s ended found (is_size h0) (has h0 s found) (tells h0 s found) written

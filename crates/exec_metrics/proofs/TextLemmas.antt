@@ -47,3 +47,11 @@ pub last_of : {T E A : Type 0} (r : Result T E) (f : A → List ℕ) (a b : A) (
     → OnOk r (new ≡ old ++ f b)
 last_of (Ok done) f a b old new is added = added ∙ ap (λ c. old ++ f c) is
 last_of (Err e) f a b old new is added = tt
+
+-- three texts that were added
+pub three : {T E : Type 0} (r : Result T E) (old a b new x y z : List ℕ) → a ≡ old ++ x → b ≡ a ++ y → OnOk r (new ≡ b ++ z)
+    → OnOk r (new ≡ old ++ ((x ++ y) ++ z))
+three (Ok done) old a b new x y z first second third =
+    third ∙ ap (λ (l : List ℕ). l ++ z) (second ∙ ap (λ (l : List ℕ). l ++ y) first ∙ append_assoc old x y)
+    ∙ append_assoc old (x ++ y) z
+three (Err e) old a b new x y z first second third = tt

@@ -20,6 +20,10 @@ name family.FailureCode = codes "ocfexec_resource_failure_code"
 name family.FailureAge = codes "ocfexec_resource_failure_age_seconds"
 name family.MonitorCode = codes "ocfexec_monitor_last_code"
 name family.MonitorAge = codes "ocfexec_monitor_last_age_seconds"
+name family.Up = codes "ocfexec_up"
+name family.Opened = codes "ocfexec_start_time_seconds"
+name family.RecordAge = codes "ocfexec_last_record_age_seconds"
+name family.Held = codes "ocfexec_resource_held"
 
 abbrev pub help : Family → List ℕ
 help family.Epoch = codes "Number of snapshots written to the journal, the first one included."
@@ -38,6 +42,10 @@ help family.FailureCode = codes "The exit code of the last failure of a resource
 help family.FailureAge = codes "Seconds since the last failure of a resource."
 help family.MonitorCode = codes "The exit code of the last result of a recurring monitor."
 help family.MonitorAge = codes "Seconds since the last result of a recurring monitor."
+help family.Up = codes "1 if an executor has the journal, else 0."
+help family.Opened = codes "When that executor opened the journal, in seconds since 1970."
+help family.RecordAge = codes "Seconds since the last record of the journal."
+help family.Held = codes "1 for a resource that waits for a process of an earlier action."
 
 -- the type of a family: a value that only increases is a counter
 abbrev pub kind : Family → List ℕ

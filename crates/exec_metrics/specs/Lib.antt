@@ -3,3 +3,4 @@ pub mod Labels
 pub mod Samples
 pub mod Runs
 pub mod Metrics
+pub mod Held

@@ -4,17 +4,21 @@ use Rattle.std.specs.List.{flat_map}
 use Rattle.std.specs.Io.KnownBytes.{Appends}
 use Rattle.ocf_types.specs.State.{State}
 use Rattle.disk_model.specs.Image.{Image}
+use Rattle.two_parts.specs.Choice.{choice}
 use Rattle.exec_journal.specs.Found.{FoundAs, HasDamage}
 use Rattle.exec_faults.specs.declared.fault.Fault.{Fault}
 use Rattle.exec_faults.specs.declared.fault.Fault.TheVariants as fault
 use Rattle.exec_metrics.specs.Families.{header, name}
-use Rattle.exec_metrics.specs.Samples.{samples}
+use Rattle.exec_metrics.specs.Samples.{recorded_states, samples}
 use Rattle.exec_metrics.specs.declared.family.Family.{Family}
 use Rattle.exec_metrics.specs.declared.family.Family.TheVariants as family
 use Rattle.exec_metrics.specs.Runs.{runs_text}
 use Rattle.journal_measure.specs.RanOn.{RanOn}
+use Rattle.journal_measure.specs.RecordedOn.{FactsBy}
 use Rattle.journal_measure.specs.Sizes.{IsSize}
 use Rattle.journal_measure.specs.declared.measuring.Size.{Size}
+use Rattle.resource_condition.specs.Facts.{FactOf, held_of}
+use Rattle.resource_condition.specs.declared.condition.Recorded.{Recorded}
 use Rattle.run_counts.specs.Counts.{tally}
 use Rattle.run_counts.specs.Runs.{Ran}
 use Rattle.run_counts.specs.declared.count.RunCount.{RunCount}
@@ -41,9 +45,13 @@ counts_text s = single family.Calls (s.next_call - 1) ++ single family.Runs (s.n
 abbrev pub journal_text : Size → State → List ℕ
 journal_text size s = size_text size ++ counts_text s ++ single family.Resources (length s.resources)
 
+-- the states of the resources, by what the records hold of each
+abbrev pub conditions_text : (List ℕ → Recorded) → State → List ℕ
+conditions_text recorded s = header family.State ++ flat_map (recorded_states recorded) s.resources
+
 -- the states of the resources, and their queued and running actions
-abbrev pub states_text : ℕ → State → List ℕ
-states_text now s = of_each now s family.State ++ of_each now s family.Queued ++ of_each now s family.Running
+abbrev pub states_text : ℕ → (List ℕ → Recorded) → State → List ℕ
+states_text now recorded s = conditions_text recorded s ++ of_each now s family.Queued ++ of_each now s family.Running
 
 -- the last results of the resources, their last failures, and the last results of their monitors
 abbrev pub last_text : ℕ → State → List ℕ
@@ -58,9 +66,11 @@ monitors_text now s = of_each now s family.MonitorCode ++ of_each now s family.M
 abbrev pub results_text : ℕ → State → List ℕ
 results_text now s = last_text now s ++ failures_text now s ++ monitors_text now s
 
--- the metrics, at a moment, of a journal with this size, these counts of each resource's runs, and this state
-abbrev pub metrics_text : ℕ → Size → (List ℕ → RunCount) → State → List ℕ
-metrics_text now size counts s = journal_text size s ++ states_text now s ++ runs_text counts s ++ results_text now s
+-- the metrics, at a moment, of a journal with this size, these counts of each resource's runs, records that hold this of each resource,
+-- and this state
+abbrev pub metrics_text : ℕ → Size → (List ℕ → RunCount) → (List ℕ → Recorded) → State → List ℕ
+metrics_text now size counts recorded s =
+    journal_text size s ++ states_text now recorded s ++ runs_text counts s ++ results_text now s
 
 -- what is written of a text, by the result of writing
 abbrev pub IsWritten : {T : Type 0} → List ℕ → Option (List ℕ) → Option (List ℕ) → Result T Fault → Type 0
@@ -69,8 +79,8 @@ IsWritten text old new (Err fault.ReplyMemory) = new ≡ old
 IsWritten text old new (Err fault.InputOrOutput) = ⊤
 IsWritten text old new (Err _) = ⊥
 
--- The metrics, at a moment, of the state that is found on these parts, the size of the journal, and the runs since the snapshot of its
--- current part are written.
+-- The metrics, at a moment, of the state that is found on these parts, the size of the journal, the runs since the snapshot of its
+-- current part, and what the records of both parts hold of each resource are written.
 pub record WritesFound (T : Type 0) (reads : Image) (now : ℕ) (old new : Option (List ℕ)) (ended : Result T Fault) : Type 0 where
   pub state : State
   pub found : FoundAs state reads
@@ -78,7 +88,9 @@ pub record WritesFound (T : Type 0) (reads : Image) (now : ℕ) (old new : Optio
   pub is_size : IsSize reads size
   pub runs : List Ran
   pub ran : RanOn reads runs
-  pub written : IsWritten (metrics_text now size (tally runs) state) old new ended
+  pub facts : List FactOf
+  pub told : FactsBy (choice reads) reads facts
+  pub written : IsWritten (metrics_text now size (tally runs) (held_of facts) state) old new ended
 
 -- the same, or nothing if the parts are not read; the damage that is reported is that which is found
 abbrev pub WritesAs : {T : Type 0} → Image → ℕ → Option (List ℕ) → Option (List ℕ) → Result T Fault → Type 0

@@ -8,10 +8,11 @@ use Rattle.ocf_types.specs.Outcomes.{outcome_code, outcome_word}
 use Rattle.ocf_types.specs.Resource.{Resource}
 use Rattle.ocf_types.specs.declared.operation.Ended.{Ended}
 use Rattle.ocf_types.specs.declared.operation.Recur.{Recur}
-use Rattle.resource_status.specs.Conditions.{condition_of, condition_word}
+use Rattle.resource_condition.specs.Conditions.{condition_by, condition_word}
 use Rattle.resource_status.specs.Results.{is_run, last_of}
-use Rattle.resource_status.specs.declared.condition.Condition.{Condition}
-use Rattle.resource_status.specs.declared.condition.Condition.TheVariants.{NeverRun, Started, Promoted, Stopped, Failed, Unknown}
+use Rattle.resource_condition.specs.declared.condition.Condition.{Condition}
+use Rattle.resource_condition.specs.declared.condition.Condition.TheVariants.{NeverRun, Started, Promoted, Stopped, Failed, Unknown}
+use Rattle.resource_condition.specs.declared.condition.Recorded.{Recorded}
 use Rattle.exec_metrics.specs.Families.{name}
 use Rattle.exec_metrics.specs.Labels.{label, next_label}
 use Rattle.exec_metrics.specs.declared.family.Family.{Family}
@@ -98,9 +99,12 @@ code_of_monitor id es m = monitor_code id m (last_of (is_run m.call) es)
 abbrev pub age_of_monitor : ℕ → List ℕ → List Ended → Recur → List ℕ
 age_of_monitor now id es m = monitor_age id m (age now (last_of (is_run m.call) es))
 
--- the samples of a resource in a family; it has none in the families of the journal
+-- the samples for the state of a resource, by what the records hold of it and its last failure
+abbrev pub recorded_states : (List ℕ → Recorded) → List ℕ × Resource → List ℕ
+recorded_states recorded e = state_samples e.0 (condition_by (recorded e.0) e.1.history.failed)
+
+-- the samples of a resource in a family that its history tells; it has none in the other families
 abbrev pub samples : ℕ → Family → List ℕ × Resource → List ℕ
-samples now family.State e = state_samples e.0 (condition_of e.1.history)
 samples now family.Queued e = plain family.Queued e.0 (length e.1.history.queue)
 samples now family.Running e = plain family.Running e.0 (bit (is_some e.1.history.running))
 samples now family.LastCode e = code_sample family.LastCode e.0 (last_result e.1.history.ended)

@@ -41,6 +41,14 @@ pub enum Family {
     MonitorCode,
     /// The age of that result.
     MonitorAge,
+    /// Whether an executor has the journal.
+    Up,
+    /// When that executor opened it.
+    Opened,
+    /// The age of the last record.
+    RecordAge,
+    /// A resource that waits for what an action left.
+    Held,
 }
 
 impl Family {
@@ -65,6 +73,10 @@ impl Family {
             Family::FailureAge => "ocfexec_resource_failure_age_seconds",
             Family::MonitorCode => "ocfexec_monitor_last_code",
             Family::MonitorAge => "ocfexec_monitor_last_age_seconds",
+            Family::Up => "ocfexec_up",
+            Family::Opened => "ocfexec_start_time_seconds",
+            Family::RecordAge => "ocfexec_last_record_age_seconds",
+            Family::Held => "ocfexec_resource_held",
         }
     }
 
@@ -97,6 +109,10 @@ impl Family {
             Family::FailureAge => "Seconds since the last failure of a resource.",
             Family::MonitorCode => "The exit code of the last result of a recurring monitor.",
             Family::MonitorAge => "Seconds since the last result of a recurring monitor.",
+            Family::Up => "1 if an executor has the journal, else 0.",
+            Family::Opened => "When that executor opened the journal, in seconds since 1970.",
+            Family::RecordAge => "Seconds since the last record of the journal.",
+            Family::Held => "1 for a resource that waits for a process of an earlier action.",
         }
     }
 

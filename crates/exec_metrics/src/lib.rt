@@ -2,6 +2,7 @@
 #![tactic(auto)]
 
 mod add;
+mod executor;
 mod family;
 mod label;
 mod monitors;
@@ -12,4 +13,5 @@ mod states;
 mod text;
 mod writing;
 
+pub use executor::{Seen, executor_metrics};
 pub use writing::metrics;

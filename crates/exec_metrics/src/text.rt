@@ -4,6 +4,7 @@ ghost use Rattle.std.specs.List.{flat_map};
 ghost use Rattle.ocf_types.specs.Indexes.{entry_at};
 ghost use Rattle.exec_metrics.specs.Metrics.{bare, counts_text, failures_text, journal_text, last_text, metrics_text, monitors_text, of_each, results_text, single, size_text, states_text};
 ghost use Rattle.exec_metrics.specs.Samples.{samples};
+ghost use Rattle.resource_condition.specs.Facts.{recorded_at};
 ghost use Rattle.run_counts.specs.Counts.{count_at};
 
 use crate::add::{add, add_number};
@@ -12,12 +13,11 @@ use crate::monitors::{add_ages, add_codes};
 use crate::results::{add_age, add_code, age, last_result};
 use crate::runs::add_runs;
 use crate::sample::{add_plain, bit};
-use crate::states::add_states;
+use crate::states::add_conditions;
 use exec_state::State;
 use growth::Grows;
 use journal_measure::{Measured, Size};
 use ocf_types::{Moment, StateView};
-use resource_status::condition_of;
 use std::alloc::{AllocError, Global};
 
 /// The moment at which metrics are taken, and the measure of the journal.
@@ -36,7 +36,7 @@ struct Row {
     family: Family,
 }
 
-// Adds the samples of a resource in a family.
+// Adds the samples of a resource in a family that its history tells.
 fn add_samples(text: &mut Vec<u8>, now: Moment, state: &State, row: Row) -> Result<(), AllocError>
     requires { row.index < length state.now.state.resources }
     ensures added { OnOk result (text.new.items
@@ -46,7 +46,6 @@ fn add_samples(text: &mut Vec<u8>, now: Moment, state: &State, row: Row) -> Resu
     let Row { index, family } = row;
     let id = state.id_at(index);
     match family {
-        Family::State => add_states(text, id, condition_of(state, index)),
         Family::Queued => add_plain(text, family, id, state.queue_len(index) as u64),
         Family::Running => add_plain(text, family, id, bit(state.running_at(index).is_some())),
         Family::LastCode => add_code(text, family, id, last_result(state, index)),
@@ -56,7 +55,8 @@ fn add_samples(text: &mut Vec<u8>, now: Moment, state: &State, row: Row) -> Resu
         Family::MonitorCode => add_codes(text, state, index),
         Family::MonitorAge => add_ages(text, now, state, index),
         Family::Epoch | Family::Bytes | Family::Calls | Family::Runs | Family::Resources => Ok(()),
-        Family::ResourceRuns | Family::ResourceFailures => Ok(()),
+        Family::State | Family::ResourceRuns | Family::ResourceFailures => Ok(()),
+        Family::Up | Family::Opened | Family::RecordAge | Family::Held => Ok(()),
     }
 }
 
@@ -103,8 +103,8 @@ fn add_bare(text: &mut Vec<u8>, family: Family, value: u64) -> Result<(), AllocE
     add(text, "\n")
 }
 
-// Adds a family of one sample without labels.
-fn add_single(text: &mut Vec<u8>, family: Family, value: u64) -> Result<(), AllocError>
+/// Adds a family of one sample without labels.
+pub fn add_single(text: &mut Vec<u8>, family: Family, value: u64) -> Result<(), AllocError>
     ensures added { OnOk result (text.new.items ≡ text.old.items ++ single family value) }
     ensures memory { OnErr result (IsTrue ⟦<Global as Grows>⟧.refuses) }
 {
@@ -144,13 +144,14 @@ fn add_journal(text: &mut Vec<u8>, size: Size, state: &State) -> Result<(), Allo
 }
 
 // Adds the states of the resources, and their queued and running actions.
-fn add_all_states(text: &mut Vec<u8>, now: Moment, state: &State) -> Result<(), AllocError>
-    ensures added { OnOk result (text.new.items ≡ text.old.items ++ states_text now state.now.state) }
+fn add_all_states(text: &mut Vec<u8>, taken: &Taken, state: &State) -> Result<(), AllocError>
+    ensures added { OnOk result (text.new.items ≡ text.old.items ++ states_text taken.now.moment
+        (recorded_at taken.now.measured.recorded.entries) state.now.state) }
     ensures memory { OnErr result (IsTrue ⟦<Global as Grows>⟧.refuses) }
 {
-    add_each(text, now, state, Family::State)?;
-    add_each(text, now, state, Family::Queued)?;
-    add_each(text, now, state, Family::Running)
+    add_conditions(text, &taken.measured.recorded, state)?;
+    add_each(text, taken.moment, state, Family::Queued)?;
+    add_each(text, taken.moment, state, Family::Running)
 }
 
 // Adds the last results of the resources.
@@ -194,12 +195,13 @@ fn add_results(text: &mut Vec<u8>, now: Moment, state: &State) -> Result<(), All
 /// The metrics of a state.
 pub fn metrics_text(alloc: Global, taken: &Taken, state: &State) -> Result<Vec<u8>, AllocError>
     ensures text { IfOk result (λ text. text.items ≡ metrics_text taken.now.moment
-        taken.now.measured.size (count_at taken.now.measured.counts.entries) state.now.state) }
+        taken.now.measured.size (count_at taken.now.measured.counts.entries)
+        (recorded_at taken.now.measured.recorded.entries) state.now.state) }
     ensures memory { OnErr result (IsTrue ⟦<Global as Grows>⟧.refuses) }
 {
     let mut text = Vec::new(alloc);
     add_journal(&mut text, taken.measured.size, state)?;
-    add_all_states(&mut text, taken.moment, state)?;
+    add_all_states(&mut text, taken, state)?;
     add_runs(&mut text, &taken.measured.counts, state)?;
     add_results(&mut text, taken.moment, state)?;
     Ok(text)

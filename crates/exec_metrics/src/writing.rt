@@ -7,7 +7,9 @@ ghost use Rattle.exec_journal.specs.Opening.{Opens};
 ghost use Rattle.exec_faults.specs.Faults.{HasCause, IsRunEnd};
 ghost use Rattle.exec_metrics.specs.Metrics.{IsWritten, WritesAs, metrics_text};
 ghost use Rattle.journal_measure.specs.RanOn.{HasCounts};
+ghost use Rattle.journal_measure.specs.RecordedOn.{HasRecorded};
 ghost use Rattle.journal_measure.specs.Sizes.{IsSize};
+ghost use Rattle.resource_condition.specs.Facts.{recorded_at};
 ghost use Rattle.run_counts.specs.Counts.{count_at};
 
 use crate::text::{Taken, metrics_text};
@@ -31,7 +33,8 @@ fn write_metrics<W: Write>(
     state: &State,
 ) -> Result<(), Fault>
     ensures written { IsWritten (metrics_text taken.now.moment taken.now.measured.size
-        (count_at taken.now.measured.counts.entries) state.now.state)
+        (count_at taken.now.measured.counts.entries) (recorded_at taken.now.measured.recorded.entries)
+        state.now.state)
         (W.contents writer.old) (W.contents writer.new) result }
     ensures memory { IfErr result (HasCause ⟦<Global as Grows>⟧.refuses) }
 {
@@ -55,6 +58,8 @@ fn write_measured<D: Disk + Drop, W: Write>(
     requires size { (D.view disk).honest → IsSize (D.view disk).reads taken.now.measured.size }
     requires counts { (D.view disk).honest → (s : PlainState) → FoundAs s (D.view disk).reads
         → HasCounts (D.view disk).reads taken.now.measured.counts.entries }
+    requires recorded { (D.view disk).honest → (s : PlainState) → FoundAs s (D.view disk).reads
+        → HasRecorded (D.view disk).reads taken.now.measured.recorded.entries }
     ensures written { (D.view result.0).honest
         → WritesAs (D.view disk).reads taken.now.moment (W.contents writer.old)
         (W.contents writer.new) result.1 }

@@ -1,4 +1,5 @@
 pub mod ProgramLemmas
 pub mod RequestLemmas
 pub mod RunLemmas
+pub mod SessionLemmas
 pub mod StartLemmas

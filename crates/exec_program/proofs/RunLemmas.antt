@@ -1,10 +1,13 @@
 -- How a session begins.
-use Rattle.std.proofs.Common.{◌≡◌, ◌∙◌, ap, ℕ, List, [], Option, Result, subst, sym}
+use Rattle.std.proofs.Common.{◌≡◌, ◌∙◌, ap, ℕ, List, [], Option, Some, None, option_map, Result, subst, sym, Bor}
+use Rattle.std.specs.Option.{option_copied}
 use Rattle.disk_model.specs.Disk.{DiskView}
 use Rattle.ocf_env.specs.Locations.{SiteView}
 use Rattle.child_model.specs.Children.{Admits, ChildrenView}
 use Rattle.executor.specs.ExecutorView.{ExecutorView}
 use Rattle.executor.specs.declared.report.Report.{Report}
+use Rattle.exec_commands.specs.JournalIds.{id_digits}
+use Rattle.exec_commands.specs.declared.journal_id.JournalId.{JournalId}
 use Rattle.exec_client.specs.ClientView.{ClientView}
 use Rattle.exec_client.specs.SentItem.{SentItem}
 use Rattle.exec_faults.specs.declared.fault.Fault.{Fault}
@@ -18,6 +21,12 @@ use Rattle.exec_program.specs.Asked.{AreFresh}
 -- fresh agents start at any site
 pub fresh_admits : (book : ℕ) (v : ChildrenView) (site : SiteView) → AreFresh book v → Admits v.site site
 fresh_admits book v site fresh = subst (λ (x : ChildrenView). Admits x.site site) (sym fresh.1) tt
+
+-- the digits of an identity that is lent
+pub lent_digits : (lent : Option (Bor JournalId)) (id : Option JournalId) → option_copied lent ≡ id
+    → option_map (λ x. id_digits x.now) lent ≡ option_map id_digits id
+lent_digits None id is = ap (option_map id_digits) is
+lent_digits (Some x) id is = ap (option_map id_digits) is
 
 -- an edge of which nothing was asked yet, and a client's view, by their fields
 abbrev pub edge_with : {D : Type 0} → Option (List ℕ) → ClientView D → EdgeView D

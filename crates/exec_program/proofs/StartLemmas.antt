@@ -6,12 +6,11 @@ use Rattle.executor.specs.declared.opening.OpenError.{OpenError}
 use Rattle.executor.specs.declared.opening.OpenError.TheVariants as opening
 use Rattle.executor.specs.declared.report.Report.{Report}
 use Rattle.exec_options.specs.Faults.{IsFault}
-use Rattle.exec_options.specs.Arguments.{AsksFor, Gives, GivesOnce, directory_of}
+use Rattle.exec_options.specs.Arguments.{AsksFor, Gives, GivesOnce, directory_of, is_once}
 use Rattle.exec_options.specs.declared.once.OnceOptions.{OnceOptions}
 use Rattle.exec_options.specs.declared.arguments.Wanted.{Wanted}
 use Rattle.exec_options.specs.declared.arguments.Wanted.TheVariants as wanted
 use Rattle.exec_options.specs.declared.fault.ArgumentsFault.{ArgumentsFault}
-use Rattle.exec_options.specs.declared.fault.ArgumentsFault.TheVariants as arguments_fault
 use Rattle.exec_options.specs.declared.options.Options.{Options}
 use Rattle.exec_faults.specs.Faults.{HasCause, IsRunEnd}
 use Rattle.exec_faults.specs.declared.fault.Fault.{Fault}
@@ -31,14 +30,12 @@ ends : {D N T : Type 0} (view : D → DiskView) (source : Source) (rules : Rules
 ends view source rules report p q (Ok done) how = tt
 ends view source rules report p q (Err fault.Usage) how = absurd how
 ends view source rules report p q (Err fault.Choice) how = absurd how
-ends view source rules report p q (Err fault.TidyAt) how = absurd how
-ends view source rules report p q (Err fault.Root) how = absurd how
-ends view source rules report p q (Err fault.Orphans) how = absurd how
 ends view source rules report p q (Err fault.NotText) how = absurd how
 ends view source rules report p q (Err fault.Log) how = absurd how
 ends view source rules report p q (Err fault.NoResource) how = absurd how
 ends view source rules report p q (Err fault.NotOpened) how = absurd how
 ends view source rules report p q (Err fault.NoJournal) how = absurd how
+ends view source rules report p q (Err fault.NotExisting) how = absurd how
 ends view source rules report p q (Err fault.NotWell) how = absurd how
 ends view source rules report p q (Err (fault.Damaged damage)) how = tt
 ends view source rules report p q (Err fault.Memory) how = absurd how
@@ -47,6 +44,7 @@ ends view source rules report p q (Err fault.Full) how = tt
 ends view source rules report p q (Err fault.InputOrOutput) how = tt
 ends view source rules report p q (Err fault.ReplyMemory) how = tt
 ends view source rules report p q (Err fault.ChildrenIgnored) how = absurd how
+ends view source rules report p q (Err fault.NoExecutor) how = absurd how
 
 pub run_ends : {D C N : Type 0} (view : D → DiskView) (tend : C → ChildrenView) (source : Source) (rules : Rules) (report : Report N)
     (p : SessionPosition D) (edge : EdgeView D) (ended : Result Unit Fault) (disk : D) (children : C)
@@ -78,48 +76,35 @@ pub opening_ends : {T : Type 0} (why : OpenError) (f : Fault) (r : Result T Faul
 opening_ends {T} why f r is same =
     subst IsRunEnd (sym same) (subst (λ (x : Fault). IsRunEnd {T = T} (Err x)) (sym is) (opening_end T why))
 
--- arguments that give no options
-pub refused_ends : {T : Type 0} (named : Option (List ℕ)) (arguments : List (List ℕ)) (f : ArgumentsFault) (r : Result T Fault) → IsFault named arguments f → IsWrittenAs f r
-    → EndsFor named arguments r
-refused_ends named arguments (arguments_fault.Help text) (Ok done) is reported = inl (text, is)
-refused_ends {T} named arguments (arguments_fault.Help text) (Err f) is reported = subst (λ x. EndsFor {T = T} named arguments (Err x)) (sym reported) (inl (text, is))
-refused_ends named arguments (arguments_fault.Usage text) r is reported = subst (λ x. EndsFor named arguments x) (sym reported) (inl (text, is))
-refused_ends named arguments arguments_fault.Choice r is reported = subst (λ x. EndsFor named arguments x) (sym reported) is
-refused_ends named arguments arguments_fault.TidyAt r is reported = subst (λ x. EndsFor named arguments x) (sym reported) is
-refused_ends named arguments arguments_fault.Root r is reported = subst (λ x. EndsFor named arguments x) (sym reported) is
-refused_ends named arguments arguments_fault.Orphans r is reported = subst (λ x. EndsFor named arguments x) (sym reported) is
-refused_ends named arguments arguments_fault.Since r is reported = subst (λ x. EndsFor named arguments x) (sym reported) (inr (inl is))
-refused_ends named arguments arguments_fault.Timeout r is reported = subst (λ x. EndsFor named arguments x) (sym reported) (inr (inr is))
-refused_ends named arguments arguments_fault.Memory r is reported = subst (λ x. EndsFor named arguments x) (sym reported) tt
-
 -- arguments that ask for a journal
 pub journal_ends : {T : Type 0} (named : Option (List ℕ)) (arguments : List (List ℕ)) (o : Options) (r : Result T Fault) → Gives named arguments o → IsRunEnd r → EndsFor named arguments r
-journal_ends named arguments o (Ok done) gives ends = inr (o, gives)
+journal_ends named arguments o (Ok done) gives ends = (o, gives)
 journal_ends named arguments o (Err fault.Usage) gives ends = absurd ends
 journal_ends named arguments o (Err fault.Choice) gives ends = absurd ends
-journal_ends named arguments o (Err fault.TidyAt) gives ends = absurd ends
-journal_ends named arguments o (Err fault.Root) gives ends = absurd ends
-journal_ends named arguments o (Err fault.Orphans) gives ends = absurd ends
 journal_ends named arguments o (Err fault.NotText) gives ends = absurd ends
 journal_ends named arguments o (Err fault.Log) gives ends = absurd ends
 journal_ends named arguments o (Err fault.NoResource) gives ends = (o, gives)
 journal_ends named arguments o (Err fault.NotOpened) gives ends = absurd ends
 journal_ends named arguments o (Err fault.NoJournal) gives ends = absurd ends
+journal_ends named arguments o (Err fault.NotExisting) gives ends = absurd ends
 journal_ends named arguments o (Err fault.NotWell) gives ends = (o, gives)
 journal_ends named arguments o (Err (fault.Damaged damage)) gives ends = (o, gives)
 journal_ends named arguments o (Err fault.Memory) gives ends = tt
 journal_ends named arguments o (Err fault.Disk) gives ends = (o, gives)
 journal_ends named arguments o (Err fault.Full) gives ends = (o, gives)
-journal_ends named arguments o (Err fault.InputOrOutput) gives ends = inr (o, gives)
+journal_ends named arguments o (Err fault.InputOrOutput) gives ends = (o, gives)
 journal_ends named arguments o (Err fault.ReplyMemory) gives ends = (o, gives)
 journal_ends named arguments o (Err fault.ChildrenIgnored) gives ends = (o, gives)
+journal_ends named arguments o (Err fault.NoExecutor) gives ends = (o, gives)
 
 -- arguments that ask for a journal in the files of a directory
 pub directory_ends : {T : Type 0} (named : Option (List ℕ)) (arguments : List (List ℕ)) (o : Options) (r : Result T Fault) → Gives named arguments o
     → is_some (directory_of o.journal) ≡ true → IsDirectoryEnd r → EndsFor named arguments r
 directory_ends named arguments o r gives is_in =
     ⊎_elim (journal_ends named arguments o r gives)
-    (⊎_elim (λ is. subst (λ x. EndsFor named arguments x) (sym is) (o, gives, is_in)) (λ is. subst (λ x. EndsFor named arguments x) (sym is) (o, gives, is_in)))
+    (⊎_elim (λ is. subst (λ x. EndsFor named arguments x) (sym is) (o, gives, is_in))
+    (⊎_elim (λ is. subst (λ x. EndsFor named arguments x) (sym is) (o, gives, is_in))
+    (λ is. subst (λ x. EndsFor named arguments x) (sym is) (o, gives, is_in))))
 
 -- arguments whose options allow this end
 pub options_end : {T : Type 0} (home : Option (List ℕ)) (arguments : List (List ℕ)) (o : Options) (r : Result T Fault) → Gives home arguments o
@@ -131,15 +116,15 @@ options_end {T} home arguments o r gives =
 -- why the program ends as it does with these arguments: they ask for a journal, for one action by itself, or for nothing
 pub starts_journal : (home : Option (List ℕ)) (arguments : List (List ℕ)) (o : Options) (r : Result (Unit {0}) Fault) (ended : Result ℕ Fault)
     → Gives home arguments o → IsEndOf o r → ended ≡ with_status r → StartEndsFor home arguments ended
-starts_journal home arguments o r ended gives ends is = inr (r, is, options_end home arguments o r gives ends)
+starts_journal home arguments o r ended gives ends is = inr (inl (r, is, options_end home arguments o r gives ends))
 
-pub starts_once : (home : Option (List ℕ)) (arguments : List (List ℕ)) (o : OnceOptions) (ended : Result ℕ Fault) → GivesOnce arguments o
+pub starts_once : (home : Option (List ℕ)) (arguments : List (List ℕ)) (o : OnceOptions) (ended : Result ℕ Fault) → GivesOnce home arguments o
     → StartEndsFor home arguments ended
 starts_once home arguments o ended gives = inl (o, gives)
 
-pub starts_nothing : (home : Option (List ℕ)) (arguments : List (List ℕ)) (f : ArgumentsFault) (r : Result (Unit {0}) Fault) (ended : Result ℕ Fault)
-    → IsFault home arguments f → IsWrittenAs f r → ended ≡ with_status r → StartEndsFor home arguments ended
-starts_nothing home arguments f r ended is reported same = inr (r, same, refused_ends home arguments f r is reported)
+pub starts_nothing : (home : Option (List ℕ)) (arguments : List (List ℕ)) (f : ArgumentsFault) (ended : Result ℕ Fault)
+    → IsFault home arguments f → IsWrittenAs (is_once arguments) f ended → StartEndsFor home arguments ended
+starts_nothing home arguments f ended is reported = inr (inr (f, is, reported))
 
 -- the same where it is known what the arguments ask for
 pub starts_asked_journal : (home : Option (List ℕ)) (arguments : List (List ℕ)) (w : Wanted) (o : Options) (r : Result (Unit {0}) Fault)

@@ -28,6 +28,8 @@ pub record Asked (Files Log Agents Source Reader Writer Watch : Type 0) : Type 1
   pub moment : ℕ → Type 0
   -- whether SIGCHLD is ignored. POSIX, sigaction
   pub ignored : Bool → Type 0
+  -- the identity of a directory's journal, if it has one
+  pub identity : Option (List ℕ) → Option (List ℕ) → Type 0
   -- the paths of a directory's journal as they are watched, and that they lead elsewhere
   pub watch : Option (List ℕ) → Watch → Type 0
   pub moved : Watch → Type 0

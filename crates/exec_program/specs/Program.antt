@@ -6,7 +6,7 @@ use Rattle.child_model.specs.Children.{ChildrenView}
 use Rattle.file_disk.specs.RamDisk.{IsFresh, view_of}
 use Rattle.file_disk.specs.declared.ram.RamDisk.{RamDisk}
 use Rattle.exec_options.specs.Faults.{IsFault}
-use Rattle.exec_options.specs.Arguments.{Gives, GivesOnce}
+use Rattle.exec_options.specs.Arguments.{Gives, GivesOnce, is_once}
 use Rattle.exec_options.specs.declared.fault.ArgumentsFault.{ArgumentsFault}
 use Rattle.exec_options.specs.declared.fault.ArgumentsFault.TheVariants as arguments_fault
 use Rattle.exec_options.specs.declared.once.OnceOptions.{OnceOptions}
@@ -70,6 +70,6 @@ abbrev pub Does : {F L A S R W H : Type 0} → Bool → Asked F L A S R W H → 
 Does refuses asked tend gives left contents view named arguments ended =
     ((o : Options) × Gives named arguments o
     × ((r : Result Unit Fault) × DoesAs refuses asked tend gives left contents view o o.subcommand r × (ended ≡ with_status r)))
-    ⊎ (((o : OnceOptions) × GivesOnce arguments o × ((status : ℕ) × asked.once o status × (ended ≡ Ok status)))
+    ⊎ (((o : OnceOptions) × GivesOnce named arguments o × ((status : ℕ) × asked.once o status × (ended ≡ Ok status)))
     ⊎ ((f : ArgumentsFault) × IsFault named arguments f × (f ≡ arguments_fault.Memory → IsTrue refuses)
-    × ((r : Result Unit Fault) × IsWrittenAs f r × Prints asked f × (ended ≡ with_status r))))
+    × IsWrittenAs (is_once arguments) f ended × Prints asked f))

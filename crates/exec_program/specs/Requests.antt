@@ -18,8 +18,10 @@ use Rattle.exec_program.specs.Upkeeps.{UpkeepView, upkeep_of}
 
 -- A request to open, spawn, read, write or show something, with its arguments. Texts are bytes, times are milliseconds.
 pub data Request (Log : Type 0) : Type 0 where
-  -- the files of the journal in a directory; what the executor's clock shows, in the record of agents of a directory
+  -- the files of the journal in a directory; the identity of a journal; what the executor's clock shows, in the record of agents of a
+  -- directory
   OpenFiles : Options → List ℕ → Request Log
+  AskIdentity : Option (List ℕ) → Request Log
   RecordMoment : List ℕ → Request Log
   -- where agents write; agents that are looked after like this and write there, with a book of this many answers; the metadata of the
   -- agents of a site, each of which runs in a process group of its own or not
@@ -43,6 +45,7 @@ Allows {L} may asks = (r : Request L) → asks r → may r
 -- the requests of a session about the directory of its journal
 abbrev pub IsOfDirectory : {L : Type 0} → Options → Request L → Type 0
 IsOfDirectory o (OpenFiles given directory) = (given ≡ o) × (directory_of o.journal ≡ Some directory)
+IsOfDirectory o (AskIdentity directory) = directory ≡ directory_of o.journal
 IsOfDirectory o (RecordMoment directory) = directory_of o.journal ≡ Some directory
 IsOfDirectory o _ = ⊥
 
@@ -88,4 +91,4 @@ IsOfFault fault _ = ⊥
 abbrev pub IsAskedFor : {F L A S R W H : Type 0} → Asked F L A S R W H → Option (List ℕ) → List (List ℕ) → Request L → Type 0
 IsAskedFor asked named arguments r =
     ((o : Options) × Gives named arguments o × IsOfSubcommand asked o o.subcommand r)
-    ⊎ (((o : OnceOptions) × GivesOnce arguments o × (r ≡ RunOnce o)) ⊎ ((f : ArgumentsFault) × IsFault named arguments f × IsOfFault f r))
+    ⊎ (((o : OnceOptions) × GivesOnce named arguments o × (r ≡ RunOnce o)) ⊎ ((f : ArgumentsFault) × IsFault named arguments f × IsOfFault f r))

@@ -7,9 +7,12 @@ use Rattle.executor.specs.Openings.{NotOpened, Opened}
 use Rattle.executor.specs.ExecutorView.{ExecutorView}
 use Rattle.executor.specs.declared.opening.OpenError.{OpenError}
 use Rattle.executor.specs.declared.report.Report.{Report}
+use Rattle.exec_commands.specs.JournalIds.{id_digits}
+use Rattle.exec_commands.specs.Service.{identity_in}
 use Rattle.exec_commands.specs.declared.left.Left.{Left}
 use Rattle.exec_commands.specs.declared.notice.NoticeForm.{NoticeForm}
 use Rattle.exec_commands.specs.declared.notice.NoticeForm.TheVariants.{Short, Timed}
+use Rattle.exec_options.specs.Arguments.{directory_of}
 use Rattle.exec_options.specs.declared.texts.TheConstants.{VERSION}
 use Rattle.exec_options.specs.declared.options.JournalLocation.{JournalLocation}
 use Rattle.exec_options.specs.declared.options.JournalLocation.TheVariants.{Directory, Memory}
@@ -27,6 +30,7 @@ use Rattle.exec_session.specs.declared.context.Mode.TheVariants as mode
 use Rattle.exec_trace.specs.Edges.{EdgeView}
 use Rattle.exec_program.specs.Asked.{AreFresh, Asked}
 use Rattle.exec_program.specs.Limits.{book_room, most_turns}
+use Rattle.exec_program.specs.declared.options.Findings.{Findings}
 use Rattle.exec_program.specs.Starts.{opening_fault, site_of}
 use Rattle.exec_program.specs.Upkeeps.{upkeep_of}
 
@@ -44,34 +48,45 @@ served_at _ _ = None
 abbrev pub served_directory : Options → Option (List ℕ)
 served_directory o = served_at o.subcommand o.journal
 
--- what a session in `serve` says of itself: the version, the directory of its journal, if it has one, and the processes that live on from
--- interrupted actions
+-- what a session in `serve` says of itself: the version, the directory of its journal, if it has one, the identity of that journal, and
+-- the processes that live on from interrupted actions
 pub record ServiceView : Type 0 where
   pub version : List ℕ
   pub journal : Option (List ℕ)
+  pub identity : Option (List ℕ)
   pub left : List Left
 
 -- the same, as lines of this form give it: nothing where they are short
 abbrev pub service_in : NoticeForm → Option ServiceView
 service_in Short = None
-service_in (Timed s) =
-    Some (record { version = s.version.now; journal = option_map (λ directory. directory.now) s.journal; left = s.left.now })
+service_in (Timed s) = Some (record {
+  version = s.version.now;
+  journal = option_map (λ directory. directory.now) s.journal;
+  identity = identity_in s;
+  left = s.left.now;
+})
 
--- A client of `serve` is sent the program's version, the directory as the options name it, and the processes that live on.
-abbrev pub service_of : Options → List Left → Mode → Option ServiceView
-service_of o left mode.Run = None
-service_of o left mode.Serve = Some (record { version = VERSION.now; journal = served_directory o; left = left })
+-- the identity that an opening found
+abbrev pub found_identity : Findings → Option (List ℕ)
+found_identity f = option_map (λ id. id_digits id.now) f.identity
 
--- a session keeps to these options, where these processes live on
-pub record IsHeldTo (o : Options) (left : List Left) (rules : Rules) : Type 0 where
+-- A client of `serve` is sent the program's version, the directory as the options name it, this identity of its journal, and the processes
+-- that live on.
+abbrev pub service_of : Options → Option (List ℕ) → List Left → Mode → Option ServiceView
+service_of o identity left mode.Run = None
+service_of o identity left mode.Serve =
+    Some (record { version = VERSION.now; journal = served_directory o; identity = identity; left = left })
+
+-- a session keeps to these options, over a journal of this identity, where these processes live on
+pub record IsHeldTo (o : Options) (identity : Option (List ℕ)) (left : List Left) (rules : Rules) : Type 0 where
   pub mode : rules.mode ≡ way_of o.subcommand
-  pub form : service_in rules.form ≡ service_of o left (way_of o.subcommand)
+  pub form : service_in rules.form ≡ service_of o identity left (way_of o.subcommand)
   pub most_turns : rules.most_turns ≡ most_turns
   pub tidy_at : rules.tidy_at ≡ o.tidy_at
 
 -- the last line of a session in `serve` that its disk ends
 abbrev pub disk_line : List ℕ
-disk_line = codes "{\"end\":\"disk\"}\n"
+disk_line = codes "{\"end\":\"disk\",\"kind\":\"trouble\"}\n"
 
 -- how the program ends after its session: in the same way, or by its disk where the session broke off and the served journal is gone
 abbrev pub EndsBy : {F L A S R W H : Type 0} → Asked F L A S R W H → Options → H → Result Unit Fault → Result Unit Fault → Type 0
@@ -95,11 +110,13 @@ pub record RunsLines {F L A S R W H D : Type 0} (asked : Asked F L A S R W H) (t
     (executor : ExecutorView D) (report : Report Global) (ran : Result Unit Fault) (last_disk : D) (last_agents : A) : Type 0 where
   pub source : S
   pub writer : W
+  pub identity : Option (List ℕ)
   pub rules : Rules
   pub edge : EdgeView D
+  pub of_journal : asked.identity (directory_of o.journal) identity
   pub of_site : asked.source (site_of o) (not o.no_groups) source
   pub writes : asked.writer (served_directory o) writer
-  pub held : IsHeldTo o lives rules
+  pub held : IsHeldTo o identity lives rules
   pub runs : Ended view tend (gives source) rules report
       (at_of executor (record { left = left reader; client_view = record { opened = executor; reported = []; written = contents writer }; events = [] }))
       edge ran last_disk last_agents

@@ -1,8 +1,8 @@
 -- From the arguments to a session.
-use Rattle.std.specs.Prelude.{◌≡◌, ◌⊎◌, ◌||◌, ℕ, ⊤, true, List, Option, is_some, option_map, Result, Ok, Err}
+use Rattle.std.specs.Prelude.{◌≡◌, ◌⊎◌, ◌||◌, ℕ, ⊤, Bool, true, false, List, Option, is_some, option_map, Result, Ok, Err}
 use Rattle.ocf_env.specs.Locations.{SiteView}
-use Rattle.exec_options.specs.Faults.{AsksForText, IsFault, IsMisused}
-use Rattle.exec_options.specs.Arguments.{Gives, GivesOnce, directory_of}
+use Rattle.exec_options.specs.Faults.{IsFault}
+use Rattle.exec_options.specs.Arguments.{Gives, GivesOnce, directory_of, is_once}
 use Rattle.exec_options.specs.declared.fault.ArgumentsFault.{ArgumentsFault}
 use Rattle.exec_options.specs.declared.fault.ArgumentsFault.TheVariants as arguments_fault
 use Rattle.exec_options.specs.declared.once.OnceOptions.{OnceOptions}
@@ -40,18 +40,20 @@ opening_fault opening.Memory = fault.Memory
 opening_fault opening.Foreign = fault.Disk
 opening_fault opening.Full = fault.Full
 
--- how the program ends where arguments give no options: a text that was asked for is written, or output fails
-abbrev pub IsWrittenAs : {T : Type 0} → ArgumentsFault → Result T Fault → Type 0
-IsWrittenAs (arguments_fault.Help text) (Ok done) = ⊤
-IsWrittenAs (arguments_fault.Help text) (Err f) = f ≡ fault.InputOrOutput
-IsWrittenAs (arguments_fault.Usage text) ended = ended ≡ Err fault.Usage
-IsWrittenAs arguments_fault.Choice ended = ended ≡ Err fault.Choice
-IsWrittenAs arguments_fault.TidyAt ended = ended ≡ Err fault.TidyAt
-IsWrittenAs arguments_fault.Root ended = ended ≡ Err fault.Root
-IsWrittenAs arguments_fault.Orphans ended = ended ≡ Err fault.Orphans
-IsWrittenAs arguments_fault.Since ended = ended ≡ Err fault.Usage
-IsWrittenAs arguments_fault.Timeout ended = ended ≡ Err fault.Usage
-IsWrittenAs arguments_fault.Memory ended = ended ≡ Err fault.Memory
+-- the end for wrong arguments: those of an action that is run once have a status that no agent has
+abbrev pub misused : Bool → Result ℕ Fault
+misused true = Ok 125
+misused false = Err fault.Usage
+
+-- how the program ends where arguments, of an action that is run once or not, give no options: a text that was asked for is written, or
+-- output fails
+abbrev pub IsWrittenAs : Bool → ArgumentsFault → Result ℕ Fault → Type 0
+IsWrittenAs once (arguments_fault.Help text) (Ok status) = status ≡ 0
+IsWrittenAs once (arguments_fault.Help text) (Err f) = f ≡ fault.InputOrOutput
+IsWrittenAs once (arguments_fault.Usage text) ended = ended ≡ misused once
+IsWrittenAs once arguments_fault.Choice ended = ended ≡ Err fault.Choice
+IsWrittenAs once (arguments_fault.Value value) ended = ended ≡ misused once
+IsWrittenAs once arguments_fault.Memory ended = ended ≡ Err fault.Memory
 
 -- the arguments ask for a session over a journal or a view of one, where the environment names this directory
 abbrev pub AsksForJournal : Option (List ℕ) → List (List ℕ) → Type 0
@@ -72,23 +74,23 @@ IsEndOf o ended =
     IsRunEnd ended
     ⊎ (((ended ≡ Err fault.Log) × ((is_some o.log || is_some o.logs) ≡ true)) ⊎ ((is_some (directory_of o.journal) ≡ true) × IsDirectoryEnd ended))
 
--- why the program ends like this: the arguments ask for a journal, or for nothing
+-- why the program ends like this where the arguments ask for a journal
 abbrev pub EndsFor : {T : Type 0} → Option (List ℕ) → List (List ℕ) → Result T Fault → Type 0
-EndsFor named arguments (Ok done) = AsksForText named arguments ⊎ AsksForJournal named arguments
-EndsFor named arguments (Err fault.Usage) = IsMisused named arguments
-EndsFor named arguments (Err fault.Choice) = IsFault named arguments arguments_fault.Choice
-EndsFor named arguments (Err fault.TidyAt) = IsFault named arguments arguments_fault.TidyAt
-EndsFor named arguments (Err fault.Root) = IsFault named arguments arguments_fault.Root
-EndsFor named arguments (Err fault.Orphans) = IsFault named arguments arguments_fault.Orphans
+EndsFor named arguments (Ok done) = AsksForJournal named arguments
+EndsFor named arguments (Err fault.Usage) = ⊥
+EndsFor named arguments (Err fault.Choice) = ⊥
 EndsFor named arguments (Err fault.NotText) = ⊥
 EndsFor named arguments (Err fault.Memory) = ⊤
 EndsFor named arguments (Err fault.Log) = AsksForLog named arguments
 EndsFor named arguments (Err fault.NotOpened) = IsInDirectory named arguments
 EndsFor named arguments (Err fault.NoJournal) = IsInDirectory named arguments
-EndsFor named arguments (Err fault.InputOrOutput) = AsksForText named arguments ⊎ AsksForJournal named arguments
+EndsFor named arguments (Err fault.NotExisting) = IsInDirectory named arguments
 EndsFor named arguments (Err _) = AsksForJournal named arguments
 
--- why the program ends like this with these arguments; one action by itself ends with a status of its own
+-- why the program ends like this with these arguments; one action by itself ends with a status of its own, and arguments that give no
+-- options by their fault
 abbrev pub StartEndsFor : Option (List ℕ) → List (List ℕ) → Result ℕ Fault → Type 0
 StartEndsFor named arguments ended =
-    ((o : OnceOptions) × GivesOnce arguments o) ⊎ ((r : Result (Unit {0}) Fault) × (ended ≡ with_status r) × EndsFor named arguments r)
+    ((o : OnceOptions) × GivesOnce named arguments o)
+    ⊎ (((r : Result (Unit {0}) Fault) × (ended ≡ with_status r) × EndsFor named arguments r)
+    ⊎ ((f : ArgumentsFault) × IsFault named arguments f × IsWrittenAs (is_once arguments) f ended))

@@ -15,7 +15,7 @@ use growth::Grows;
 use std::alloc::Global;
 
 // The last line of a session in `serve` that its disk ends.
-const DISK_LINE: &[u8] = b"{\"end\":\"disk\"}\n";
+const DISK_LINE: &[u8] = b"{\"end\":\"disk\",\"kind\":\"trouble\"}\n";
 
 /// The fault of an executor that was not opened.
 pub fn opening_fault(why: OpenError) -> Fault

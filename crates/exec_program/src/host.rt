@@ -1,15 +1,17 @@
 //! The system that the program runs on.
 ghost use Rattle.std.specs.Prelude.{◌≡◌, ◌≤◌, ◌||◌, true, is_some, option_map, IfErr, IfOk, IsTrue, OnErr, None, Some};
+ghost use Rattle.exec_commands.specs.JournalIds.{id_digits};
 ghost use Rattle.exec_faults.specs.Faults.{IsRunEnd};
 ghost use Rattle.journal_directory.specs.Ends.{IsDirectoryEnd, IsNotOpened};
 ghost use Rattle.exec_program.specs.Asked.{AreFresh, Asked};
-ghost use Rattle.exec_program.specs.Requests.{Request, AskSite, MakeAgents, OpenFiles, OpenLog, OpenReader, OpenWriter, PrintText, RecordMoment, RunOnce, ShowJournal, WatchPaths, WriteLine};
+ghost use Rattle.exec_program.specs.Requests.{Request, AskIdentity, AskSite, MakeAgents, OpenFiles, OpenLog, OpenReader, OpenWriter, PrintText, RecordMoment, RunOnce, ShowJournal, WatchPaths, WriteLine};
 ghost use Rattle.exec_program.specs.Upkeeps.{upkeep_view};
 
 use child_model::Children;
 use clap::Error;
 use disk_model::Disk;
-use exec_commands::Left;
+use exec_client::Reasons;
+use exec_commands::{JournalId, Left};
 use exec_faults::Fault;
 use exec_lines::{Input, Output};
 use exec_options::{OnceOptions, Options};
@@ -62,6 +64,9 @@ pub trait Host {
 
     /// Standard error, for the lines of results.
     type Errors: Write + Drop;
+
+    /// The reasons that agents give for failures.
+    type Reasons: Reasons + Drop;
 
     /// The clocks of the system.
     type Ticker: Clock + Drop;
@@ -129,6 +134,9 @@ pub trait Host {
     /// Standard error, for the lines of results.
     fn errors(&self) -> Self::Errors;
 
+    /// The reasons that agents wrote to their logs in this directory; none without a directory.
+    fn reasons(&self, logs: Option<&str>) -> Self::Reasons;
+
     /// Whether standard error goes to the system's journal.
     fn is_marked(&self) -> bool;
 
@@ -149,6 +157,13 @@ pub trait Host {
     /// Records, with the agents that run, that the clock of the executor over the journal in this directory shows this time now.
     fn record_moment(&self, directory: &str, moment: u64)
         requires { may self.now (RecordMoment directory.now) };
+
+    /// The identity of the journal in this directory, which was just opened, if one is named and can have one. The host reports that a
+    /// journal without one got one.
+    fn identity(&self, directory: Option<&str>) -> Option<JournalId>
+        requires { may self.now (AskIdentity (option_map (λ s. s.now) directory)) }
+        ensures { (asked self.now).identity (option_map (λ s. s.now) directory.entry)
+            (option_map id_digits result) };
 
     /// The paths of the journal in this directory, if one is named, as they are now.
     fn watch(&self, served: Option<&str>) -> Self::Watch
@@ -186,7 +201,7 @@ pub trait Host {
         requires { may self.now (PrintText text.now) }
         ensures { (asked self.now).printed text.now };
 
-    /// Writes a line to standard error.
+    /// Writes a line to standard error, after the program's name.
     fn say(&self, line: &str);
 
     /// Reports that a text that was asked for could not be written, and why.

@@ -8,7 +8,8 @@ ghost use Rattle.exec_program.specs.Runs.{RunsLines};
 ghost use Rattle.exec_program.specs.Starts.{site_of};
 
 use crate::host::Host;
-use crate::options::{context_of, events_of, served_directory};
+use crate::options::{Findings, context_of, events_of, served_directory};
+use crate::upkeep::directory_of;
 use disk_model::Disk;
 use exec_client::JsonClient;
 use exec_commands::Left;
@@ -22,7 +23,6 @@ use executor::{Executor, Report};
 use growth::Grows;
 use ocf_env::Site;
 use std::alloc::Global;
-use std::rt::Clock;
 
 /// What the lines of a session need besides its executor.
 #[derive(Drop)]
@@ -45,15 +45,14 @@ pub struct LinesEnd<D: Drop, C: Drop> {
     pub children: C,
 }
 
-// Records what the clock of a session shows, where that is ahead of the system's clock because the journal was; the record of agents was
-// made by the system's clock.
+// Records the moment that the clock of a session shows, where that is ahead of the system's clock because the journal was; the record of
+// agents was made by the system's clock.
 #[tactic(auto, using(crate::proofs::RequestLemmas::names_directory))]
-fn record_moment<H: Host>(host: &H, options: Options, clock: &impl Clock)
+fn record_moment<H: Host>(host: &H, options: Options, moment: u64)
     requires may { (directory : List ℕ) → directory_of options.journal ≡ Some directory
         → H.may host.now (RecordMoment directory) }
 {
     if let JournalLocation::Directory(directory) = options.journal {
-        let moment = moment_now(clock).get();
         if moment > host.moment() {
             host.record_moment(directory, moment);
         }
@@ -87,10 +86,20 @@ pub fn answer_lines<H: Host, D: Disk + Drop>(
     let alloc = host.alloc();
     let ticker = host.ticker();
     let clock = SessionClock::new(&ticker, executor.clock());
-    record_moment(host, options, &clock);
+    record_moment(host, options, moment_now(&clock).get());
     let source = host.source(site, !options.no_groups);
-    let context = context_of(alloc, options, &source, left.as_slice());
-    let json_client = JsonClient::new(alloc, host.writer(served_directory(options)), &executor);
+    let identity = host.identity(directory_of(options.journal));
+    let found = Findings {
+        identity: identity.as_ref(),
+        left: left.as_slice(),
+    };
+    let context = context_of(alloc, options, &source, found);
+    let json_client = JsonClient::new(
+        alloc,
+        host.writer(served_directory(options)),
+        host.reasons(options.logs),
+        &executor,
+    );
     let client = Eventful::new(alloc, json_client, host.errors(), events_of(host, options));
     let edge = Edge::new(reader, client, &clock);
     let run = run_lines(&context, edge, (executor, report), room);

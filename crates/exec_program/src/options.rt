@@ -1,11 +1,11 @@
 //! What the options set for a session.
 ghost use Rattle.std.specs.Prelude.{◌≡◌, option_map};
-ghost use Rattle.exec_program.specs.Runs.{IsHeldTo, served_directory, service_in, service_of, way_of};
+ghost use Rattle.exec_program.specs.Runs.{IsHeldTo, found_identity, served_directory, service_in, service_of, way_of};
 ghost use Rattle.exec_session.specs.Rules.{rules_of};
 
 use crate::host::Host;
 use crate::limits::MOST_TURNS;
-use exec_commands::{Left, NoticeForm, Service};
+use exec_commands::{JournalId, Left, NoticeForm, Service};
 use exec_events::Events;
 use exec_options::{JournalLocation, Options, Subcommand, VERSION};
 use exec_session::{Mode, Pace, SessionContext};
@@ -35,36 +35,47 @@ pub fn served_directory<'a>(options: Options<'a>) -> Option<&'a str>
     }
 }
 
+/// What an opening found besides the journal's state.
+#[derive(Clone, Copy)]
+pub struct Findings<'a> {
+    /// The identity of the journal, if it has one.
+    pub identity: Option<&'a JournalId>,
+    /// The processes that live on from interrupted actions.
+    pub left: &'a [Left],
+}
+
 // The form of notices, and what a session says of itself. A client of `serve` need not ask when an action began and ended and which
 // process of it lives on, nor for the version and the journal of the session.
-fn form_of<'a>(options: Options<'a>, left: &'a [Left]) -> NoticeForm<'a>
-    ensures { service_in result ≡ service_of options.entry left.now (way_of options.entry.subcommand) }
+fn form_of<'a>(options: Options<'a>, found: Findings<'a>) -> NoticeForm<'a>
+    ensures { service_in result ≡ service_of options.entry (found_identity found.entry) found.entry.left.now
+        (way_of options.entry.subcommand) }
 {
     match way_of(options.subcommand) {
         Mode::Run => NoticeForm::Short,
         Mode::Serve => NoticeForm::Timed(Service {
             version: VERSION,
             journal: served_directory(options),
-            left,
+            identity: found.identity,
+            left: found.left,
         }),
     }
 }
 
-/// The context of a session, where these processes live on.
+/// The context of a session after an opening that found this.
 pub fn context_of<'a, M>(
     alloc: Global,
     options: Options<'a>,
     metadata: &'a M,
-    left: &'a [Left],
+    found: Findings<'a>,
 ) -> SessionContext<'a, M>
-    ensures held { IsHeldTo options.entry left.now (rules_of result) }
+    ensures held { IsHeldTo options.entry (found_identity found.entry) found.entry.left.now (rules_of result) }
     ensures metadata { result.metadata.now ≡ metadata.now }
 {
     SessionContext {
         alloc,
         metadata,
         mode: way_of(options.subcommand),
-        form: form_of(options, left),
+        form: form_of(options, found),
         most_turns: MOST_TURNS,
         tidy_at: options.tidy_at,
         pace: Pace::new(),

@@ -2,16 +2,21 @@
 ghost use Rattle.std.specs.Prelude.{◌≡◌, map, option_map, string_bytes};
 ghost use Rattle.exec_program.specs.Program.{Does, DoesAs, Looks, Prints, RunsFor};
 ghost use Rattle.exec_program.specs.Requests.{Allows, IsAskedFor, IsOfFault, IsOfLook, IsOfRun, IsOfSubcommand};
-ghost use Rattle.exec_program.specs.Starts.{IsEndOf, IsWrittenAs, StartEndsFor, with_status};
+ghost use Rattle.exec_program.specs.Starts.{IsEndOf, IsWrittenAs, StartEndsFor, misused, with_status};
 
 use crate::host::Host;
 use crate::run::serve_agents;
 use exec_faults::Fault;
-use exec_options::{ArgumentsFault, JournalLocation, Options, Subcommand, Wanted, read_arguments};
+use exec_options::{
+    ArgumentsFault, JournalLocation, Options, Subcommand, Wanted, is_once, read_arguments,
+};
 use file_disk::RamDisk;
 use growth::Grows;
 use std::alloc::Global;
 use std::io::ErrorKind;
+
+// The exit status where nothing was run once, as of the ends of such an action.
+const NOT_RUN: u8 = 125;
 
 // A success is status 0.
 fn with_status(ended: Result<(), Fault>) -> Result<u8, Fault>
@@ -23,17 +28,28 @@ fn with_status(ended: Result<(), Fault>) -> Result<u8, Fault>
     }
 }
 
+// The exit status of wrong arguments: of an action that is run once one that no agent has.
+fn misused(is_once: bool) -> Result<u8, Fault>
+    ensures { result ≡ misused is_once }
+{
+    if is_once {
+        Ok(NOT_RUN)
+    } else {
+        Err(Fault::Usage)
+    }
+}
+
 // How the program ends where its arguments give no options. A text that was asked for is printed, and so is the text of a usage fault.
-fn refuse<H: Host>(host: &H, fault: &ArgumentsFault) -> Result<(), Fault>
+fn refuse<H: Host>(host: &H, is_once: bool, fault: &ArgumentsFault) -> Result<u8, Fault>
     requires may { Allows (H.may host.now) (IsOfFault fault.now) }
-    ensures reported { IsWrittenAs fault.now result }
+    ensures reported { IsWrittenAs is_once fault.now result }
     ensures prints { Prints (H.asked host.now) fault.now }
 {
     match fault {
         ArgumentsFault::Help(text) => match host.print(text) {
-            Ok(()) => Ok(()),
+            Ok(()) => Ok(0),
             // the reader has read enough
-            Err(error) if error.kind() == ErrorKind::BrokenPipe => Ok(()),
+            Err(error) if error.kind() == ErrorKind::BrokenPipe => Ok(0),
             Err(error) => {
                 host.report_unwritten(error);
                 Err(Fault::InputOrOutput)
@@ -41,19 +57,12 @@ fn refuse<H: Host>(host: &H, fault: &ArgumentsFault) -> Result<(), Fault>
         },
         ArgumentsFault::Usage(text) => {
             let _ = host.print(text);
-            Err(Fault::Usage)
+            misused(is_once)
         }
         ArgumentsFault::Choice => Err(Fault::Choice),
-        ArgumentsFault::TidyAt => Err(Fault::TidyAt),
-        ArgumentsFault::Root => Err(Fault::Root),
-        ArgumentsFault::Orphans => Err(Fault::Orphans),
-        ArgumentsFault::Since => {
-            host.say("ocfexec: give --since a moment, as 2026-11-27 or 2026-11-27T06:30");
-            Err(Fault::Usage)
-        }
-        ArgumentsFault::Timeout => {
-            host.say("ocfexec: give --timeout milliseconds, from 1 to 4294967295");
-            Err(Fault::Usage)
+        ArgumentsFault::Value(value) => {
+            host.say(value.text());
+            misused(is_once)
         }
         ArgumentsFault::Memory => Err(Fault::Memory),
     }
@@ -72,7 +81,7 @@ pub fn program<H: Host>(host: &H, named: Option<&str>, arguments: &[String]) -> 
     match read_arguments(host.alloc(), named, arguments) {
         Ok(Wanted::Journal(options)) => with_status(on_journal(host, options)),
         Ok(Wanted::Once(options)) => Ok(host.once(&options)),
-        Err(fault) => with_status(refuse(host, &fault)),
+        Err(fault) => refuse(host, is_once(arguments), &fault),
     }
 }
 

@@ -6,8 +6,8 @@ ghost use Rattle.exec_program.specs.Upkeeps.{upkeep_of, upkeep_view};
 use crate::host::Upkeep;
 use exec_options::{JournalLocation, Options};
 
-// The directory of the journal, unless that is in memory.
-fn directory_of<'a>(journal: JournalLocation<'a>) -> Option<&'a str>
+/// The directory of the journal, unless that is in memory.
+pub fn directory_of<'a>(journal: JournalLocation<'a>) -> Option<&'a str>
     ensures { option_map (λ s. s.now) result ≡ directory_of journal.entry }
 {
     match journal {

@@ -56,3 +56,31 @@ pub fn open_directory<R: Files<File = File>, A: Allocator>(
         Err(TryLockError::Error(error)) => Err(OpenFault::directory(error)),
     }
 }
+
+/// Syncs the entries of a directory.
+pub fn sync_directory<R: Files<File = File>, A: Allocator>(
+    rt: &R,
+    alloc: A,
+    dir: &str,
+) -> io::Result<()> {
+    let path = format!(in alloc; "{dir}/.")?;
+    File::open(rt, path.as_str())?.sync_all()
+}
+
+/// Whether an executor holds the journal of this directory. A lock that others may share is taken for a moment: an executor that
+/// opens the journal meanwhile tries again.
+pub fn is_held<R: Files<File = File>, A: Allocator>(
+    rt: &R,
+    alloc: A,
+    dir: &str,
+) -> Result<bool, OpenFault>
+    ensures { dir.now ≡ [] → IsErr result }
+{
+    let path = directory_path(alloc, dir)?;
+    let directory = File::open(rt, path.as_str()).map_err(OpenFault::directory)?;
+    match directory.try_lock_shared() {
+        Ok(()) => Ok(false),
+        Err(TryLockError::WouldBlock) => Ok(true),
+        Err(TryLockError::Error(error)) => Err(OpenFault::directory(error)),
+    }
+}

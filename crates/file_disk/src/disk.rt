@@ -4,10 +4,11 @@ ghost use Rattle.disk_model.specs.Image.{Written, bytes_of};
 ghost use Rattle.disk_model.specs.Disk.{Called, Unwritten, Synced, Tears};
 
 use crate::call::Call;
-use crate::directory::open_directory;
-use crate::entry::{entry_of, refuse_loss};
+use crate::directory::{open_directory, sync_directory};
+use crate::entry::{Entry, entry_of, refuse_loss};
 use crate::error::{FileError, ReportsError};
 use crate::fault::{OpenFault, of_part};
+use crate::identity::{Marks, forget_identity, make_identity, read_identity, refuse_cleared};
 use crate::log::Log;
 use crate::look::examined;
 use crate::part_file::PartFile;
@@ -16,8 +17,46 @@ use disk_model::{Disk, DiskFault};
 use ocf_types::{PART_LIMIT, Part};
 use std::alloc::{Allocator, Global};
 use std::fs::File;
+use std::io;
 use std::os::unix::fs::FileExt;
 use std::rt::Files;
+
+// The marks of the journal in this directory, if it has an identity. A file `identity` without parts is removed, and that is synced,
+// before a new journal is made: a crash between them must not leave empty parts that are marked.
+fn marks_in<R: Files<File = File>, A: Allocator + Copy>(
+    rt: &R,
+    alloc: A,
+    dir: &str,
+    entries: (Entry, Entry),
+) -> io::Result<Option<Marks>> {
+    if entries == (Entry::Missing, Entry::Missing) {
+        if forget_identity(rt, alloc, dir)? {
+            sync_directory(rt, alloc, dir)?;
+        }
+        return Ok(None);
+    }
+    let found = read_identity(rt, alloc, dir)?;
+    Ok(found.map(|identity| identity.marks))
+}
+
+// Refuses a pair with these entries of which a part was emptied, and makes an identity for a new journal. A journal is opened also
+// where its identity cannot be read or made: `settle_identity` tries again, and tells why.
+fn prepare_identity<R: Files<File = File>, A: Allocator + Copy>(
+    rt: &R,
+    alloc: A,
+    dir: &str,
+    entries: (Entry, Entry),
+) -> Result<(), OpenFault> {
+    let (a, b) = entries;
+    match marks_in(rt, alloc, dir, entries) {
+        Ok(Some(marks)) => refuse_cleared(marks, a, b),
+        Ok(None) if a != Entry::Filled && b != Entry::Filled => {
+            let _ = make_identity(rt, alloc, dir, Marks::none());
+            Ok(())
+        }
+        _ => Ok(()),
+    }
+}
 
 // Opens both files, if their owners and modes are accepted, and makes those that are missing.
 fn open_files<R: Files<File = File>, A: Allocator + Copy>(
@@ -31,6 +70,7 @@ fn open_files<R: Files<File = File>, A: Allocator + Copy>(
     if let Err(loss) = refuse_loss(a, b) {
         return Err(examined(rt, alloc, dir, loss));
     }
+    prepare_identity(rt, alloc, dir, (a, b))?;
     let a = PartFile::open(rt, alloc, dir, Part::A)?;
     a.refuse_distrusted(Part::A, owners)?;
     let b = PartFile::open(rt, alloc, dir, Part::B)?;
@@ -64,7 +104,8 @@ impl<R: Files<File = File> + Copy, A: Allocator + Copy> FileDisk<R, A> {
 
     /// Opens both files of a directory, and makes those that are missing, for their owner alone. It fails with `Gone` if one
     /// is missing while the other holds a journal, and with `NoJournal` if the other holds something else; nothing is made
-    /// then. The directory and both files are locked for as long as this value lives, so that a second opening fails with
+    /// then. It fails with `Cleared` if one is empty or missing that the file `identity` calls written; a new journal gets that file. The
+    /// directory and both files are locked for as long as this value lives, so that a second opening fails with
     /// `InUse`. All are synced, and then both files are read whole. An owner or a mode that is not accepted is refused: that
     /// of the directory before anything is made or locked.
     ///

@@ -44,6 +44,12 @@ pub enum OpenFault {
     /// The part's file is empty, while the other one holds a journal that was tidied: no crash leaves that.
     #[error("empty, while {} holds a journal that was tidied", other_name(*.0))]
     Emptied(Part),
+    /// The part's file is empty or gone, though it was written and not both are gone: no crash leaves that.
+    #[error("empty or gone, though the file identity says that it was written")]
+    Cleared(Part),
+    /// The directory has no journal, and one that exists was asked for.
+    #[error("no journal here")]
+    Absent,
     /// The journal was tidied during each reading.
     #[error("changes faster than it can be read")]
     Changing,
@@ -114,10 +120,12 @@ impl OpenFault {
             | OpenFault::Locked(part)
             | OpenFault::Gone(part)
             | OpenFault::NoJournal(part)
-            | OpenFault::Emptied(part) => Some(file_name(*part)),
+            | OpenFault::Emptied(part)
+            | OpenFault::Cleared(part) => Some(file_name(*part)),
             OpenFault::Directory(_)
             | OpenFault::DirectoryDistrusted(_)
             | OpenFault::InUse
+            | OpenFault::Absent
             | OpenFault::Changing
             | OpenFault::Memory => None,
         }

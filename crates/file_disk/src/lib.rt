@@ -13,6 +13,7 @@ mod disk;
 mod entry;
 mod error;
 mod fault;
+mod identity;
 mod journal_paths;
 mod known_path;
 mod log;
@@ -22,9 +23,14 @@ mod ram;
 mod record;
 mod trust;
 
+pub use directory::is_held;
 pub use disk::FileDisk;
 pub use error::{FileError, ReportsError};
 pub use fault::{Located, OpenFault};
+pub use identity::{
+    IDENTITY_LEN, Identity, Marks, Settled, read_identity, refuse_absent, refuse_emptied,
+    settle_identity,
+};
 pub use journal_paths::JournalPaths;
 pub use look::read_parts;
 pub use part_file::OWNER_ONLY;

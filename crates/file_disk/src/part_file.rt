@@ -3,6 +3,7 @@ ghost use Rattle.std.specs.Prelude.{◌≡◌, ◌≤◌, IfErr, IfOk, length};
 ghost use Rattle.file_disk.specs.Faults.{IsOfPart};
 
 use crate::fault::{OpenFault, file_name, of_part};
+use crate::identity::Mark;
 use crate::known_path::KnownPath;
 use crate::trust::Owners;
 use ocf_types::{PART_LIMIT, Part};
@@ -22,6 +23,7 @@ pub struct PartFile<A: Allocator = Global> {
     pub file: File,
     path: KnownPath<A>,
     length: u64,
+    mark: Mark<A>,
 }
 
 // Opens the file of this path, or makes it if there is none; `None` for a directory, a link or a device.
@@ -78,7 +80,13 @@ impl<A: Allocator + Copy> PartFile<A> {
         }
         let found = of_part(part, file.metadata())?;
         let (path, length) = (KnownPath::new(path, &found), found.len());
-        Ok(PartFile { file, path, length })
+        let mark = of_part(part, Mark::new(alloc, dir, part, length > 0))?;
+        Ok(PartFile {
+            file,
+            path,
+            length,
+            mark,
+        })
     }
 
     /// Refuses a file whose owner or mode is not accepted.
@@ -130,10 +138,14 @@ impl<A: Allocator + Copy> PartFile<A> {
         Ok(())
     }
 
-    /// Syncs the bytes of the file. It fails, too, if the path now leads to another file, or to none, as the next opening would
-    /// not find these bytes, or if somebody else has changed the length.
-    pub fn sync<R: Files>(&self, rt: &R) -> io::Result<()> {
+    /// Syncs the bytes of the file, and marks the part as written if it has any. It fails, too, if the path now leads to another file,
+    /// or to none, as the next opening would not find these bytes, or if somebody else has changed the length.
+    pub fn sync<R: Files<File = File>>(&self, rt: &R) -> io::Result<()> {
         self.file.sync_data()?;
-        self.check_length(self.path.check(rt)?)
+        self.check_length(self.path.check(rt)?)?;
+        if self.length > 0 {
+            self.mark.set(rt);
+        }
+        Ok(())
     }
 }

@@ -9,11 +9,21 @@ use Rattle.journal_directory.specs.Ends.{IsDirectoryEnd}
 pub opened_ends : {T : Type 0} (r : Result T Fault) → IsRunEnd r → IsDirectoryEnd r
 opened_ends r ends = inl ends
 
-pub not_opened_ends : {T : Type 0} (f : Fault) → (f ≡ fault.Memory) ⊎ (f ≡ fault.NotOpened) → IsDirectoryEnd {T = T} (Err f)
-not_opened_ends {T} f = ⊎_elim (λ is. inl (subst (λ x. IsRunEnd {T = T} (Err x)) (sym is) tt)) (λ is. inr (inl (ap Err is)))
+pub not_opened_ends : {T : Type 0} (f : Fault) → (f ≡ fault.Memory) ⊎ ((f ≡ fault.NotOpened) ⊎ (f ≡ fault.NotExisting))
+    → IsDirectoryEnd {T = T} (Err f)
+not_opened_ends {T} f =
+    ⊎_elim (λ is. inl (subst (λ x. IsRunEnd {T = T} (Err x)) (sym is) tt))
+    (⊎_elim (λ is. inr (inl (ap Err is))) (λ is. inr (inr (inr (ap Err is)))))
 
-pub not_found_ends : {T : Type 0} (f : Fault) → (f ≡ fault.Memory) ⊎ ((f ≡ fault.NotOpened) ⊎ (f ≡ fault.NoJournal))
+pub not_found_ends : {T : Type 0} (f : Fault)
+    → (f ≡ fault.Memory) ⊎ ((f ≡ fault.NotOpened) ⊎ ((f ≡ fault.NoJournal) ⊎ (f ≡ fault.NotExisting)))
     → IsDirectoryEnd {T = T} (Err f)
 not_found_ends {T} f =
     ⊎_elim (λ is. inl (subst (λ x. IsRunEnd {T = T} (Err x)) (sym is) tt))
-    (⊎_elim (λ is. inr (inl (ap Err is))) (λ is. inr (inr (ap Err is))))
+    (⊎_elim (λ is. inr (inl (ap Err is)))
+    (⊎_elim (λ is. inr (inr (inl (ap Err is)))) (λ is. inr (inr (inr (ap Err is))))))
+
+-- a journal that was not opened is not printed
+pub not_opened_found : (f : Fault) → (f ≡ fault.Memory) ⊎ ((f ≡ fault.NotOpened) ⊎ (f ≡ fault.NotExisting))
+    → (f ≡ fault.Memory) ⊎ ((f ≡ fault.NotOpened) ⊎ ((f ≡ fault.NoJournal) ⊎ (f ≡ fault.NotExisting)))
+not_opened_found f = ⊎_elim inl (⊎_elim (λ is. inr (inl is)) (λ is. inr (inr (inr is))))

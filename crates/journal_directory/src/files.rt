@@ -2,10 +2,12 @@
 ghost use Rattle.std.specs.Prelude.{◌≡◌};
 ghost use Rattle.journal_directory.specs.Ends.{IsNotOpened};
 
-use diagnostics::{explain, report, report_cause};
+use diagnostics::{explain, report, report_cause, report_in_line};
 use exec_faults::Fault;
-use exec_options::{JournalLocation, Options};
-use file_disk::{FileDisk, FileError, OpenFault, Owners, ReportsError};
+use exec_options::{JournalLocation, Options, Subcommand};
+use file_disk::{
+    FileDisk, FileError, Located, OpenFault, Owners, ReportsError, is_held, refuse_absent,
+};
 use process_ends::System;
 use std::io::ErrorKind;
 use std::thread::sleep;
@@ -21,6 +23,9 @@ const MISSING_ADVICE: &str =
 
 const PERMISSION_ADVICE: &str =
     "No permission: only its owner can open the journal; run this as that user, or as root.";
+
+const CLEARED_ADVICE: &str =
+    "Keep both parts, and begin with a new journal; or remove the file identity, to open the older state that is left.";
 
 const IN_USE_ADVICE: &str =
     "In use: only one executor at a time can hold a journal; show, status, log and metrics can read it meanwhile.";
@@ -39,6 +44,7 @@ fn advice_of(why: &OpenFault) -> Option<&'static str> {
     match why {
         distrust if distrust.is_distrust() => Some(OWNER_ADVICE),
         OpenFault::InUse | OpenFault::Locked(_) => Some(IN_USE_ADVICE),
+        OpenFault::Cleared(_) => Some(CLEARED_ADVICE),
         OpenFault::Directory(error) | OpenFault::File(_, error) => advice_of_kind(error.kind()),
         _ => None,
     }
@@ -53,14 +59,17 @@ fn owners_of(options: Options) -> Owners {
     }
 }
 
-/// Opens the files of this directory. An agent that was being spawned when its executor was killed holds the locks until its
-/// program begins, so it waits for a lock up to a fifth of a second.
+/// Opens the files of this directory; one without a journal is refused if the options ask for one that exists. An agent that was being
+/// spawned when its executor was killed holds the locks until its program begins, so it waits for a lock up to a fifth of a second.
 pub fn open_files(
     rt: &HostRuntime,
     options: Options,
     directory: &str,
 ) -> Result<FileDisk<HostRuntime>, OpenFault> {
     let owners = owners_of(options);
+    if options.existing {
+        refuse_absent(rt, rt.alloc(), directory)?;
+    }
     for _ in 0..10 {
         match FileDisk::open(rt, rt.alloc(), directory, owners) {
             Err(OpenFault::InUse | OpenFault::Locked(_)) => sleep(rt, Duration::from_millis(20)),
@@ -70,9 +79,44 @@ pub fn open_files(
     FileDisk::open(rt, rt.alloc(), directory, owners)
 }
 
+/// Whether an executor has the journal of this directory; `None` where that cannot be told.
+pub fn has_executor(rt: &HostRuntime, directory: &str) -> Option<bool> {
+    is_held(rt, rt.alloc(), directory).ok()
+}
+
+/// How a fault of the journal's files is reported.
+#[derive(Clone, Copy, Debug, PartialEq, Eq)]
+pub enum FaultForm {
+    /// By the exact text of the formats, for programs that read `run` and `show`. A person gets the cause in a line of its own.
+    Exact,
+    /// With its cause, in one line.
+    WithCause,
+}
+
+impl FaultForm {
+    /// The form for a subcommand.
+    pub fn of(options: Options) -> FaultForm {
+        match options.subcommand {
+            Subcommand::Run | Subcommand::Show => FaultForm::Exact,
+            Subcommand::Serve | Subcommand::Status | Subcommand::Log | Subcommand::Metrics => {
+                FaultForm::WithCause
+            }
+        }
+    }
+
+    // Reports a fault in this form.
+    fn report(self, system: &System<'_>, fault: Fault, cause: Located<'_>) {
+        match self {
+            FaultForm::Exact => report_cause(system, fault, cause),
+            FaultForm::WithCause => report_in_line(system, fault, cause),
+        }
+    }
+}
+
 /// The disk of a journal in this directory. If it was not opened, the cause is reported here.
 pub fn found<D: Drop>(
     system: &System<'_>,
+    form: FaultForm,
     directory: &str,
     disk: Result<D, OpenFault>,
 ) -> Result<D, Fault>
@@ -81,8 +125,9 @@ pub fn found<D: Drop>(
     match disk {
         Ok(disk) => Ok(disk),
         Err(OpenFault::Memory) => Err(Fault::Memory),
+        Err(OpenFault::Absent) => Err(Fault::NotExisting),
         Err(why) => {
-            report_cause(system, Fault::NotOpened, why.located(directory));
+            form.report(system, Fault::NotOpened, why.located(directory));
             if let Some(advice) = advice_of(&why) {
                 explain(system, advice);
             }
@@ -95,7 +140,7 @@ pub fn found<D: Drop>(
 pub fn report_device(system: &System<'_>, options: Options, error: Option<FileError>) {
     match (options.journal, error) {
         (JournalLocation::Directory(directory), Some(met)) => {
-            report_cause(system, Fault::Disk, met.located(directory));
+            FaultForm::of(options).report(system, Fault::Disk, met.located(directory));
         }
         _ => report(system, Fault::Disk),
     }

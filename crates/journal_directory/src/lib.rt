@@ -3,14 +3,25 @@
 
 mod emptied;
 mod files;
+mod follow;
+mod identity;
 mod log;
+mod log_ends;
 mod look;
 mod metrics;
+mod printing;
 mod reasons;
+mod registration;
+mod run_reasons;
+mod screen;
 mod show;
 mod status;
 mod waits;
+mod watch;
 
 pub use emptied::not_emptied;
-pub use files::{found, open_files, report_device, told};
+pub use files::{FaultForm, found, open_files, report_device, told};
+pub use identity::settled_identity;
+pub use registration::{RegisteredResource, registered};
+pub use run_reasons::reason_of_run;
 pub use show::{show_files, show_on};

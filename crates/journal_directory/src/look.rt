@@ -1,10 +1,11 @@
 //! The moment and the options of a status.
+use crate::files::has_executor;
+use crate::screen::{has_colours, width_of};
 use agents_file::{monotonic_now, read_agents};
 use exec_lines::moment_now;
 use exec_options::{JournalLocation, Options};
 use ocf_types::Moment;
 use status_report::StatusOptions;
-use std::path::Path;
 
 // The moment now by the clock of the executor that last opened the journal in this directory; `None` if that was before the last boot.
 fn executor_moment(rt: &HostRuntime, directory: &str) -> Option<Moment> {
@@ -25,25 +26,28 @@ pub fn moment_of(rt: &HostRuntime, journal: JournalLocation) -> Moment {
     }
 }
 
-/// The options of a status: of this moment, and in colour only on a terminal.
-pub fn look_of<'a>(rt: &HostRuntime, options: Options<'a>) -> StatusOptions<'a> {
-    StatusOptions {
-        moment: moment_of(rt, options.journal),
-        only: options.resource,
-        colours: is_terminal(rt),
-        alarms: options.exit_code,
-        reasons: &[],
-        waits: &[],
+// Whether an executor has the journal at this place, if that is known.
+fn executor_of(rt: &HostRuntime, journal: JournalLocation) -> Option<bool> {
+    match journal {
+        JournalLocation::Directory(directory) => has_executor(rt, directory),
+        JournalLocation::Memory => None,
     }
 }
 
-// Whether standard output is a terminal. Linux, proc(5).
-fn is_terminal(rt: &HostRuntime) -> bool {
-    match Path::new("/proc/self/fd/1").read_link(rt) {
-        Ok(path) => match path.to_str() {
-            Some(path) => path.starts_with("/dev/pts/") || path.starts_with("/dev/tty"),
-            None => false,
-        },
-        Err(_) => false,
+/// The options of a status of this moment, for all resources.
+pub fn look_of<'a>(rt: &HostRuntime, options: &Options) -> StatusOptions<'a> {
+    StatusOptions {
+        moment: moment_of(rt, options.journal),
+        ids: &[],
+        only_bad: options.failed,
+        json: options.json,
+        colours: has_colours(rt, options.color),
+        times: options.times,
+        width: width_of(rt),
+        alarms: options.exit_code,
+        executor: executor_of(rt, options.journal),
+        identity: None,
+        reasons: &[],
+        waits: &[],
     }
 }

@@ -41,8 +41,16 @@ pub fn as_reasons<'a>(
     Ok(reasons)
 }
 
-// The last reason in the file at this path. It fails if there is no file, or something that is not a plain file.
-fn reason_at(rt: &HostRuntime, path: &str) -> io::Result<Option<Vec<u8>>> {
+/// The end of a log.
+#[derive(Drop)]
+pub struct LogTail {
+    pub bytes: Vec<u8>,
+    /// Whether it is the whole log.
+    pub is_whole: bool,
+}
+
+/// The end of the file at this path. It fails if there is no file, or something that is not a plain file.
+pub fn tail_at(rt: &HostRuntime, path: &str) -> io::Result<LogTail> {
     if !fs::symlink_metadata(rt, path)?.is_file() {
         return Err(io::Error::new(ErrorKind::InvalidInput, "not a plain file"));
     }
@@ -52,18 +60,31 @@ fn reason_at(rt: &HostRuntime, path: &str) -> io::Result<Option<Vec<u8>>> {
     let start = size.saturating_sub(TAIL);
     let mut bytes = vec![in rt.alloc(); 0; (size - start) as usize]?;
     file.read_exact_at(&mut bytes, start)?;
-    let tail = Tail {
-        bytes: bytes.as_slice(),
+    Ok(LogTail {
+        bytes,
         is_whole: start == 0,
+    })
+}
+
+// The last reason in the file at this path.
+fn reason_at(rt: &HostRuntime, path: &str) -> io::Result<Option<Vec<u8>>> {
+    let log = tail_at(rt, path)?;
+    let tail = Tail {
+        bytes: log.bytes.as_slice(),
+        is_whole: log.is_whole,
     };
     Ok(last_reason(rt.alloc(), &tail)?)
 }
 
+/// The path of the log of a resource.
+pub fn log_of(rt: &HostRuntime, directory: &str, id: &RscId) -> io::Result<String> {
+    let name = from_utf8(id.as_bytes()).unwrap_or_default();
+    Ok(format!(in rt.alloc(); "{directory}/{name}.log")?)
+}
+
 // The last reason in the log of a resource; `None` also where there is no log, as of an agent that never wrote.
 fn reason_of(rt: &HostRuntime, directory: &str, id: &RscId) -> io::Result<Option<FoundReason>> {
-    let name = from_utf8(id.as_bytes()).unwrap_or_default();
-    let path = format!(in rt.alloc(); "{directory}/{name}.log")?;
-    match reason_at(rt, path.as_str()) {
+    match reason_at(rt, log_of(rt, directory, id)?.as_str()) {
         Ok(Some(text)) => Ok(Some(FoundReason {
             id: id.copied(),
             text,

@@ -4,15 +4,17 @@ ghost use Rattle.exec_faults.specs.Faults.{IsRunEnd};
 ghost use Rattle.journal_directory.specs.Ends.{IsDirectoryEnd, IsNotFound};
 
 use crate::emptied::not_emptied;
-use crate::files::{found, told};
+use crate::files::{FaultForm, found, told};
+use crate::follow::follow_files;
 use crate::log::log_to;
 use crate::metrics::metrics_to;
 use crate::status::status_to;
+use crate::watch::watch_files;
 use diagnostics::{FirstError, report_shown};
 use disk_model::Disk;
 use exec_faults::Fault;
 use exec_options::{Options, Subcommand};
-use file_disk::{RamDisk, ReportsError, read_parts};
+use file_disk::{OpenFault, RamDisk, ReportsError, read_parts, refuse_emptied};
 use ocf_types::Part;
 use process_ends::System;
 use status_report::show;
@@ -43,10 +45,15 @@ fn show_to<D: Disk + Drop, W: Write>(
     }
 }
 
-// The end of the program. A closed pipe at its output is no error, since the reader has read enough, unless the exit code is to
-// show whether a resource has failed: that is then not known.
-fn enough(options: Options, unwritten: &FirstError, ended: Result<(), Fault>) -> Result<(), Fault>
-    ensures { IsRunEnd ended → IsRunEnd result }
+/// The end of the program. A closed pipe at its output is no error, since the reader has read enough, unless the exit code is to
+/// show whether a resource has failed: that is then not known.
+pub fn enough(
+    options: Options,
+    unwritten: &FirstError,
+    ended: Result<(), Fault>,
+) -> Result<(), Fault>
+    ensures session { IsRunEnd ended → IsRunEnd result }
+    ensures directory { IsDirectoryEnd ended → IsDirectoryEnd result }
 {
     match ended {
         Err(Fault::InputOrOutput) if unwritten.is_unread() && !options.exit_code => Ok(()),
@@ -76,19 +83,25 @@ fn is_none<D: Disk>(disk: &mut D) -> bool {
     matches!((disk.len(Part::A), disk.len(Part::B)), (Ok(0), Ok(0)))
 }
 
-// The parts in this directory as they are now. A journal that was never made is refused, except by `show`. One with an emptied part
-// is refused, unless the options ask for the records before the damage.
-fn parts_in(system: &System<'_>, options: Options, directory: &str) -> Result<RamDisk, Fault>
+/// The parts in this directory, refused if one of them was emptied.
+pub fn read_whole(rt: &HostRuntime, directory: &str) -> Result<RamDisk, OpenFault> {
+    refuse_emptied(rt, rt.alloc(), directory)?;
+    not_emptied(read_parts(rt, rt.alloc(), directory))
+}
+
+/// The parts in this directory as they are now. A journal that was never made is refused, except by `show`. One with an emptied part
+/// is refused, unless the options ask for the records before the damage.
+#[tactic(auto, using(crate::proofs::EndLemmas::not_opened_found))]
+pub fn parts_in(system: &System<'_>, options: Options, directory: &str) -> Result<RamDisk, Fault>
     ensures { IsNotFound result }
 {
     let rt = system.host();
-    let read = read_parts(rt, rt.alloc(), directory);
     let read = if options.salvage {
-        read
+        read_parts(rt, rt.alloc(), directory)
     } else {
-        not_emptied(read)
+        read_whole(rt, directory)
     };
-    let mut disk = found(system, directory, read)?;
+    let mut disk = found(system, FaultForm::of(options), directory, read)?;
     let wants_one = !matches!(options.subcommand, Subcommand::Show);
     if wants_one && is_none(&mut disk) {
         return Err(Fault::NoJournal);
@@ -107,7 +120,7 @@ fn show_once(system: &System<'_>, options: Options, directory: &str) -> Result<(
 
 /// Prints the journal in this directory, which another program may be writing. Damage is reported only if each of four reads of
 /// the files finds it.
-pub fn show_files(system: &System<'_>, options: Options, directory: &str) -> Result<(), Fault>
+pub fn show_now(system: &System<'_>, options: Options, directory: &str) -> Result<(), Fault>
     ensures { IsDirectoryEnd result }
 {
     for _ in 1..LOOKS {
@@ -117,4 +130,15 @@ pub fn show_files(system: &System<'_>, options: Options, directory: &str) -> Res
         }
     }
     show_once(system, options, directory)
+}
+
+/// Prints the journal in this directory, or its status again and again, or the records that are added, if the options ask for that.
+pub fn show_files(system: &System<'_>, options: Options, directory: &str) -> Result<(), Fault>
+    ensures { IsDirectoryEnd result }
+{
+    match (options.subcommand, options.watch) {
+        (Subcommand::Status, Some(seconds)) => watch_files(system, options, directory, seconds),
+        (Subcommand::Log, _) if options.follow => follow_files(system, options, directory),
+        _ => show_now(system, options, directory),
+    }
 }

@@ -1,14 +1,16 @@
 //! Prints the status of the resources of a journal.
 ghost use Rattle.exec_faults.specs.Faults.{IsRunEnd};
 
+use crate::identity::identity_of;
 use crate::look::look_of;
 use crate::reasons::{FoundReason, as_reasons, reasons_in};
 use crate::waits::{as_remarks, waits_in};
 use disk_model::Disk;
+use exec_commands::JournalId;
 use exec_faults::Fault;
-use exec_options::Options;
+use exec_options::{JournalLocation, Options};
 use process_ends::System;
-use status_report::{StatusOptions, failed, status, status_json};
+use status_report::{StatusOptions, failed, status};
 use std::io::Write;
 
 // The reasons in the logs for the failures of the resources that are asked for, if the options name a directory of logs. There
@@ -17,19 +19,31 @@ fn reasons_for<D: Disk + Drop>(
     system: &System<'_>,
     options: Options,
     disk: D,
-    look: &StatusOptions,
 ) -> (D, Vec<FoundReason>) {
-    let alloc = system.host().alloc();
+    let rt = system.host();
+    let alloc = rt.alloc();
     let Some(directory) = options.logs else {
         return (disk, Vec::new(alloc));
     };
-    let (disk, ids) = failed(alloc, disk, look);
+    let look = StatusOptions {
+        ids: options.resources.ids(),
+        ..look_of(rt, &options)
+    };
+    let (disk, ids) = failed(alloc, disk, &look);
     let Ok(ids) = ids else {
         return (disk, Vec::new(alloc));
     };
     match reasons_in(system, directory, ids.as_slice()) {
         Ok(found) => (disk, found),
         Err(_) => (disk, Vec::new(alloc)),
+    }
+}
+
+// The identity of the journal at this place.
+fn identity_at(rt: &HostRuntime, journal: JournalLocation) -> Option<JournalId> {
+    match journal {
+        JournalLocation::Directory(directory) => identity_of(rt, directory),
+        JournalLocation::Memory => None,
     }
 }
 
@@ -44,8 +58,9 @@ pub fn status_to<D: Disk + Drop, W: Write>(
     ensures { IsRunEnd result.1 }
 {
     let rt = system.host();
-    let look = look_of(rt, options);
-    let (disk, found) = reasons_for(system, options, disk, &look);
+    let identity = identity_at(rt, options.journal);
+    let digits = identity.as_ref().map(|id| id.hex());
+    let (disk, found) = reasons_for(system, options, disk);
     let (disk, waits) = waits_in(rt, options.journal, disk);
     let (Ok(reasons), Ok(waits)) = (
         as_reasons(rt.alloc(), found.as_slice()),
@@ -54,13 +69,11 @@ pub fn status_to<D: Disk + Drop, W: Write>(
         return (disk, Err(Fault::ReplyMemory));
     };
     let look = StatusOptions {
+        ids: options.resources.ids(),
+        identity: digits,
         reasons: reasons.as_slice(),
         waits: waits.as_slice(),
-        ..look
+        ..look_of(rt, &options)
     };
-    if options.json {
-        status_json(rt.alloc(), disk, output, &look)
-    } else {
-        status(rt.alloc(), disk, output, &look)
-    }
+    status(rt.alloc(), disk, output, &look)
 }

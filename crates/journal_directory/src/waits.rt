@@ -8,12 +8,12 @@ use disk_model::Disk;
 use exec_journal::Journal;
 use exec_options::JournalLocation;
 use exec_state::State;
+use line_text::LineText;
 use ocf_types::{RscId, RunId, StateView};
 use proc_files::{ProcFiles, Process};
-use resource_status::add_span;
 use status_report::Remark;
 use std::alloc::{AllocError, Global};
-use std::io::{self, Write};
+use std::io;
 use std::str::from_utf8;
 
 /// What a resource waits for, if none of its actions runs.
@@ -24,6 +24,11 @@ pub struct FoundWait {
 }
 
 impl FoundWait {
+    /// The resource that waits.
+    pub fn id(&self) -> &RscId {
+        &self.id
+    }
+
     // The wait as a status takes it.
     fn as_remark(&self) -> Remark<'_> {
         Remark {
@@ -100,17 +105,19 @@ fn goes_on_in(table: &[Process], entry: &AgentEntry) -> bool
 }
 
 // The text of a wait for what an action left, at this reading of CLOCK_MONOTONIC.
-fn text_of(alloc: Global, entry: &AgentEntry, monotonic: u64) -> io::Result<Vec<u8>> {
-    let mut text = Vec::new(alloc);
-    let (pid, action) = (entry.pid, entry.action.word());
-    write!(text, "waits for pid {pid} of {action}")?;
+fn text_of(alloc: Global, entry: &AgentEntry, monotonic: u64) -> Result<Vec<u8>, AllocError> {
+    let mut line = LineText::new(alloc);
+    line.text("waits for pid ");
+    line.number(u64::from(entry.pid));
+    line.text(" of ");
+    line.text(entry.action.word());
     let left = entry.left_at(monotonic);
     if left > 0 {
-        write!(text, ", at most ")?;
-        add_span(&mut text, left)?;
-        write!(text, " more")?;
+        line.text(", at most ");
+        line.span(left);
+        line.text(" more");
     }
-    Ok(text)
+    line.finish()
 }
 
 // The waits for what goes on of these entries, though this state does not run it.
@@ -139,6 +146,16 @@ fn entries_of(rt: &HostRuntime, journal: JournalLocation) -> Vec<AgentEntry> {
         Some((_, entries)) => entries,
         None => Vec::new(rt.alloc()),
     }
+}
+
+/// Whether what an action of this resource started goes on, by the record of the journal in this directory. `false` where the
+/// processes cannot be read.
+pub fn goes_on_of(rt: &HostRuntime, directory: &str, id: &RscId) -> bool {
+    let Ok(table) = rt.processes(rt.alloc()) else {
+        return false;
+    };
+    let entries = entries_of(rt, JournalLocation::Directory(directory));
+    entries.as_slice().iter().any(|entry| entry.id == *id && goes_on_in(table.as_slice(), entry))
 }
 
 /// What the resources of the journal at this place, which was read onto this disk, wait for. There is nothing where the journal, the

@@ -8,19 +8,22 @@ use crate::log::log_of;
 use crate::metadata::SiteMetadata;
 use crate::moment::record_moment;
 use crate::once::once;
+use crate::reasons::LogReasons;
 use child_keeper::{self, Log, Processes};
 use clap::Error;
 use diagnostics::{
     FirstError, Noted, children_ignored, is_journal, report_ignored, report_run, report_shown,
 };
-use exec_commands::Left;
+use exec_commands::{JournalId, Left};
 use exec_faults::Fault;
 use exec_lines::{Patient, moment_now, write_flushed};
 use exec_options::{OnceOptions, Options};
 use exec_program::{Host, Upkeep};
 use file_disk::{FileDisk, FileError, JournalPaths, RamDisk};
 use growth::Grows;
-use journal_directory::{found, not_emptied, open_files, report_device, show_files, show_on};
+use journal_directory::{
+    FaultForm, found, not_emptied, open_files, report_device, settled_identity, show_files, show_on,
+};
 use ocf_env::Site;
 use process_ends::System;
 use std::alloc::{AllocError, Global};
@@ -74,6 +77,8 @@ impl<'a> Host for SystemHost<'a> {
 
     type Errors = Errors<'a>;
 
+    type Reasons = LogReasons;
+
     type Ticker = HostRuntime;
 
     type Watch = Option<JournalPaths>;
@@ -90,6 +95,7 @@ impl<'a> Host for SystemHost<'a> {
       writer = λ served writer. ⊤;
       moment = λ now. ⊤;
       ignored = λ is. ⊤;
+      identity = λ directory found. ⊤;
       watch = λ served watch. ⊤;
       moved = λ watch. ⊤;
       line = λ bytes. ⊤;
@@ -109,7 +115,8 @@ impl<'a> Host for SystemHost<'a> {
     #[tactic(auto, using(crate::proofs::HostLemmas::if_ok_any, crate::proofs::HostLemmas::if_err_any))]
     fn files(&self, options: Options, directory: &str) -> Result<FileDisk<HostRuntime>, Fault> {
         let opened = open_files(self.system.host(), options, directory);
-        found(self.system, directory, not_emptied(opened))
+        let disk = not_emptied(opened);
+        found(self.system, FaultForm::of(options), directory, disk)
     }
 
     // TRUSTED: agents write there.
@@ -169,6 +176,12 @@ impl<'a> Host for SystemHost<'a> {
         Errors::new(self.system)
     }
 
+    // TRUSTED: they are those of these logs.
+    fn reasons(&self, logs: Option<&str>) -> LogReasons {
+        let rt = self.system.host();
+        LogReasons::new(*rt, logs)
+    }
+
     fn is_marked(&self) -> bool {
         is_journal(self.system.host())
     }
@@ -196,6 +209,11 @@ impl<'a> Host for SystemHost<'a> {
     fn record_moment(&self, directory: &str, moment: u64) {
         // that the record cannot be written was reported when the agents were made
         let _ = record_moment(self.system.host(), directory, moment);
+    }
+
+    // TRUSTED: it is that of the journal in this directory.
+    fn identity(&self, directory: Option<&str>) -> Option<JournalId> {
+        settled_identity(self.system, directory?)
     }
 
     // TRUSTED: the paths are those of this directory.
@@ -238,7 +256,7 @@ impl<'a> Host for SystemHost<'a> {
     }
 
     fn say(&self, line: &str) {
-        let _ = self.system.eprintln(line);
+        let _ = self.system.eprintln(format_args!("ocfexec: {line}"));
     }
 
     fn report_unwritten(&self, error: io::Error) {

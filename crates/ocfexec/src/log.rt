@@ -7,7 +7,7 @@ use exec_faults::Fault;
 use file_disk::OWNER_ONLY;
 use process_ends::System;
 use std::fs::{self, OpenOptions};
-use std::io::{self, ErrorKind};
+use std::io::{self, Eprint, ErrorKind};
 use std::os::unix::fs::{FileTypeExt, OpenOptionsExt};
 
 // The error for a named pipe.
@@ -21,9 +21,24 @@ fn is_named_pipe(rt: &HostRuntime, name: &str) -> bool {
     }
 }
 
+// Reports that this is no directory, or none that is there.
+fn report_no_directory(system: &System<'_>, name: &str) {
+    // (a path with a dot behind it leads nowhere but from a directory)
+    let Ok(path) = format!(in system.host().alloc(); "{name}/.") else {
+        return;
+    };
+    if let Err(error) = fs::metadata(system.host(), path.as_str()) {
+        let _ = system.eprintln(format_args!(
+            "ocfexec: logs {name}: {error}; the output of agents is lost until it is there"
+        ));
+    }
+}
+
 // The logs of this directory. Each is opened when an action of its resource begins, so a directory that cannot be used is no fault
-// here.
-fn logs_in(rt: &HostRuntime, name: &str) -> io::Result<Log> {
+// here, but it is reported.
+fn logs_in(system: &System<'_>, name: &str) -> io::Result<Log> {
+    let rt = system.host();
+    report_no_directory(system, name);
     let path = String::from_str(rt.alloc(), name)?;
     Ok(Log::to_directory(rt.alloc(), LogDirectory::new(*rt, path)))
 }
@@ -50,7 +65,7 @@ pub fn log_of(system: &System<'_>, log: Option<&str>, logs: Option<&str>) -> Res
 {
     let rt = system.host();
     let (name, made) = match (logs, log) {
-        (Some(name), _) => (name, logs_in(rt, name)),
+        (Some(name), _) => (name, logs_in(system, name)),
         (None, Some(name)) => (name, opened(rt, name)),
         (None, None) => return Ok(Log::none()),
     };

@@ -14,6 +14,7 @@ mod metadata;
 mod moment;
 mod once;
 mod quiet;
+mod reasons;
 
 use arguments::{arguments_of, named_journal};
 use diagnostics::{FirstError, report, report_cause};
@@ -54,11 +55,12 @@ fn start(system: &System<'_>) -> Result<u8, Fault> {
 // Reports the fault that ended the program on standard error.
 fn tell(system: &System<'_>, fault: Fault) {
     match fault {
-        // reported where it happened; `NotWell` by the status that was printed
+        // reported where it happened; `NotWell` and `NoExecutor` by the status that was printed
         Fault::Usage
         | Fault::Log
         | Fault::NotOpened
         | Fault::NotWell
+        | Fault::NoExecutor
         | Fault::Disk
         | Fault::InputOrOutput => {}
         Fault::Damaged(damage) => report_cause(system, fault, damage.cause),

@@ -66,9 +66,10 @@ fn command(alloc: Global, in_session: bool) -> Result<Command, AllocError> {
     Ok(command)
 }
 
+// Without setsid the shell is spawned by itself, whatever the reason is: it is needed more than its session.
 fn spawned(rt: &HostRuntime) -> io::Result<Child<SystemProcess>> {
     match command(rt.alloc(), true)?.spawn(rt) {
-        Err(error) if error.kind() == ErrorKind::NotFound => command(rt.alloc(), false)?.spawn(rt),
+        Err(_) => command(rt.alloc(), false)?.spawn(rt),
         spawned => spawned,
     }
 }

@@ -1,8 +1,7 @@
 use Rattle.std.proofs.Common.{length}
-use Rattle.log_lines.proofs.TextLemmas.{three}
 use Rattle.exec_metrics.specs.Metrics.{counts_text, single, size_text}
 use Rattle.exec_metrics.specs.declared.family.Family.TheVariants as family
-use Rattle.exec_metrics.proofs.TextLemmas.{last_of}
+use Rattle.exec_metrics.proofs.TextLemmas.{last_of, three}
 use Rattle.exec_metrics.proofs.text.add_journal.Goals as goal
 
 pub returns-clause-added : goal.returns-clause-added

@@ -3,6 +3,7 @@ use Rattle.disk_model.specs.Image.{Image}
 use Rattle.exec_journal.proofs.Openings.{opens_on, unwritten_opens}
 use Rattle.exec_journal.specs.Found.{FoundAs}
 use Rattle.journal_measure.specs.RanOn.{HasCounts}
+use Rattle.journal_measure.specs.RecordedOn.{HasRecorded}
 use Rattle.journal_measure.specs.Sizes.{IsSize}
 use Rattle.exec_metrics.specs.Metrics.{WritesAs}
 use Rattle.exec_metrics.proofs.writing.metrics.Goals as goal
@@ -16,6 +17,12 @@ write_measured-requires-clause-counts g c = λ honest s found.
     let same = c.measure.ensures.only_reads.unwritten.same honest in
     subst (λ (i : Image). HasCounts i c.in-Ok.measured.counts.entries) (sym same)
     (c.in-Ok.ensures.counts honest s (subst (λ (i : Image). FoundAs s i) same found))
+
+pub write_measured-requires-clause-recorded : goal.write_measured-requires-clause-recorded
+write_measured-requires-clause-recorded g c = λ honest s found.
+    let same = c.measure.ensures.only_reads.unwritten.same honest in
+    subst (λ (i : Image). HasRecorded i c.in-Ok.measured.recorded.entries) (sym same)
+    (c.in-Ok.ensures.recorded honest s (subst (λ (i : Image). FoundAs s i) same found))
 
 pub returns-in-Ok-clause-written : goal.returns-in-Ok-clause-written
 returns-in-Ok-clause-written g c = λ honest.

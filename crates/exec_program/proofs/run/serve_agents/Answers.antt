@@ -1,16 +1,16 @@
-use Rattle.std.proofs.Common.{rules, ◌∙◌, ℕ, List, Option, Result, Err, inl, inr, ap, refl, subst}
+use Rattle.std.proofs.Common.{◌∙◌, ℕ, List, Option, Result, Err, inl, inr, ap, subst}
 use Rattle.exec_faults.specs.declared.fault.Fault.{Fault}
-use Rattle.exec_program.specs.Limits.{book_room}
-use Rattle.exec_program.specs.Requests.{MakeAgents, OpenReader, WatchPaths}
+use Rattle.exec_program.specs.Requests.{WatchPaths}
 use Rattle.exec_program.specs.Runs.{EndsBy}
-use Rattle.exec_program.specs.Upkeeps.{upkeep_of}
+use Rattle.exec_program.proofs.SessionLemmas.{allows_agents, allows_reader}
 use Rattle.exec_program.proofs.run.serve_agents.Goals as goal
 
-pub prepared-requires : goal.prepared-requires
-prepared-requires g c = record {
-  may_read = c.requires.may OpenReader (inr (inr tt));
-  may_make = c.requires.may (MakeAgents (upkeep_of c.args.options) c.args.log book_room) (inr (inl (refl, c.requires.log, refl)));
-}
+pub prepared-requires-clause-may_read : goal.prepared-requires-clause-may_read
+prepared-requires-clause-may_read g c = allows_reader (g.H.Host.asked c.args.host.now) (g.H.Host.may c.args.host.now) c.args.options c.requires.may
+
+pub prepared-requires-clause-may_make : goal.prepared-requires-clause-may_make
+prepared-requires-clause-may_make g c =
+    allows_agents (g.H.Host.asked c.args.host.now) (g.H.Host.may c.args.host.now) c.args.options c.args.log c.requires.log c.requires.may
 
 pub watch-watch-requires : goal.watch-watch-requires
 watch-watch-requires g c = c.requires.may (WatchPaths _) (inr (inr c.served_directory.ensures))

@@ -1,4 +1,5 @@
-use Rattle.std.proofs.Common.{inr, map, option_map, string_bytes}
+use Rattle.std.proofs.Common.{Bool, inr, map, option_map, string_bytes, subst}
+use Rattle.exec_program.specs.Starts.{IsWrittenAs}
 use Rattle.exec_program.proofs.ProgramLemmas.{does_once}
 use Rattle.exec_program.proofs.RequestLemmas.{allows_journal, allows_once}
 use Rattle.exec_program.proofs.StartLemmas.{starts_asked_journal, starts_asked_once, starts_nothing}
@@ -39,5 +40,14 @@ returns-in-Ok-Once-clause-does g c =
 pub returns-in-Err-clause-ends : goal.returns-in-Err-clause-ends
 returns-in-Err-clause-ends g c =
     starts_nothing (option_map (λ s. s.now) c.args.named) (map string_bytes c.args.arguments.now)
-    c.in-Err.fault c.refuse.result c.with_status-in-Err.result
-    c.in-Err.ensures.fault c.refuse.ensures.reported c.with_status-in-Err.ensures
+    c.in-Err.fault c.refuse.result c.in-Err.ensures.fault
+    (subst (λ (b : Bool). IsWrittenAs b c.in-Err.fault c.refuse.result) c.is_once.ensures c.refuse.ensures.reported)
+
+pub returns-in-Err-clause-does : goal.returns-in-Err-clause-does
+returns-in-Err-clause-does g c = inr (inr (
+  c.in-Err.fault,
+  c.in-Err.ensures.fault,
+  c.in-Err.ensures.memory,
+  subst (λ (b : Bool). IsWrittenAs b c.in-Err.fault c.refuse.result) c.is_once.ensures c.refuse.ensures.reported,
+  c.refuse.ensures.prints,
+))
