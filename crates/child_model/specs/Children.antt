@@ -19,8 +19,8 @@ live_limit = resources_limit
 
 -- the children as the executor sees them: the book of answers and how many more entries fit, the log of all answers, which exists
 -- only in contracts, the greatest run for which a start was called (0 if none was), the live runs in the order of their starts,
--- the runs that were given up and not ended yet, the ids of the resources that are held because processes of an earlier action of
--- theirs live, and the only site at which they start agents, if they name one
+-- the runs that were given up and not ended yet, the ids of the resources that are held because processes of an action of theirs
+-- that has ended are known to live, and the only site at which they start agents, if they name one
 pub record ChildrenView : Type 0 where
   pub book : List Entry
   pub log : List Entry

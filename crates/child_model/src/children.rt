@@ -18,8 +18,8 @@ use std::alloc::Allocator;
 /// agent and to end agents, which may search for what they started.
 ///
 /// An agent that was killed, or whose poll failed, is given up: it is ended by the next `end_killed`, before which nothing is
-/// started. A resource is held while processes of an earlier action of it are known to live; the executor begins nothing for it.
-/// Which resources are held changes only in `end_killed` and `give_up_all`.
+/// started. A resource is held while processes are known to live of an action of it that was given up, or that an earlier process of
+/// the executor left; the executor begins nothing for it. Which resources are held changes only in `end_killed` and `give_up_all`.
 pub trait Children {
     ghost view: { Self → ChildrenView };
 
@@ -55,7 +55,7 @@ pub trait Children {
         ensures killed { view self.new ≡ after_kill (view self.old) run result };
 
     /// Ends all that were given up since the last call, each with its processes, together. From here on those resources are held of
-    /// whose earlier actions processes are known to live.
+    /// whose ended actions processes are known to live.
     fn end_killed(&mut self)
         ensures ended { Ended (view self.old) (view self.new) };
 
