@@ -4,12 +4,18 @@ PROGRAM := crates/ocfexec/out/ocfexec
 AGENTS := crates/ocf_agents/out/ocf_agents
 # in C; it is missing where there is no C compiler
 LAUNCHER := crates/ocfexec/out/ocfexec-run-agent
+# of the client
+MODULES := $(addprefix examples/,agents.py alerts.py calls.py control.py kept.py orders.py output.py resources.py targets.py)
 
-.PHONY: run test check mutants bench plots costs statement soak fuzz sanitize install install-python deb source guide clean
+.PHONY: run program test check mutants bench plots costs statement soak fuzz sanitize install install-python modules deb source release guide clean
 
 # Compiles every crate without proving it, and answers the example's commands with the example's agent.
 run:
 	@cd crates/ocfexec && rt try -- run --memory --root $(CURDIR)/examples < ../../examples/first.jsonl
+
+# Compiles an optimised program without proving it, in minutes, into build/ with the launcher of agents; its --version says so.
+program:
+	@package/program.sh build
 
 # The gate: proves every crate, tries the wrong bodies whose stamps are old, and then runs the checks of the programs that it built.
 test:
@@ -44,9 +50,10 @@ costs:
 statement:
 	@docs/statement.py
 
-# Plays a history of thirty days on a simulated clock; `make check` plays one of a day.
-soak:
-	@DAYS=30 tests/crash/soak.py
+# Plays a history of thirty days on a simulated clock; `make check` plays one of a day. With REAL=1: the program itself serves real agents
+# for an hour, while it is killed and its disk fills.
+soak: $(if $(REAL),$(PROGRAM))
+	@$(if $(REAL),LENGTH=3600 tests/load/real_soak.py $(PROGRAM),DAYS=30 tests/crash/soak.py)
 
 # Fuzzes each reader of bytes from outside for five minutes, two at a time. It needs the package afl++.
 fuzz:
@@ -56,25 +63,36 @@ fuzz:
 sanitize:
 	@tests/sanitize.sh
 
-# Installs the programs that the gate proved and built, or proves and builds them first; also the launcher of agents beside the program, the
-# manual page, README.md, the clients with their library, and the units.
+# Installs the programs that the gate proved and built, or proves and builds them first; also the launcher of agents beside the program,
+# ocfctl, the manual pages, README.md, the clients with their library, and the unit.
 install: $(PROGRAM) $(AGENTS) $(LAUNCHER) install-python
 	install -D $(PROGRAM) $(DESTDIR)$(PREFIX)/bin/ocfexec
 	[ ! -e $(LAUNCHER) ] || install -D $(LAUNCHER) $(DESTDIR)$(PREFIX)/bin/ocfexec-run-agent
 	install -D $(AGENTS) $(DESTDIR)$(PREFIX)/bin/ocf_agents
+	install -D examples/ocfctl.py $(DESTDIR)$(PREFIX)/bin/ocfctl
 	install -D -m 644 docs/ocfexec.8 $(DESTDIR)$(PREFIX)/share/man/man8/ocfexec.8
+	install -D -m 644 docs/ocfctl.8 $(DESTDIR)$(PREFIX)/share/man/man8/ocfctl.8
+	install -D -m 644 package/ocfctl.bash $(DESTDIR)$(PREFIX)/share/bash-completion/completions/ocfctl
 	install -d $(DESTDIR)$(PREFIX)/share/doc/ocfexec
-	install examples/client.py examples/client.sh examples/with-executor.sh $(DESTDIR)$(PREFIX)/share/doc/ocfexec
-	install -m 644 README.md examples/*.service examples/*.socket $(DESTDIR)$(PREFIX)/share/doc/ocfexec
-	install -m 644 examples/agents.py examples/kept.py examples/output.py examples/resources.py $(DESTDIR)$(PREFIX)/share/doc/ocfexec
+	install examples/client.py examples/client.sh examples/with-*.sh $(DESTDIR)$(PREFIX)/share/doc/ocfexec
+	install -m 644 README.md examples/ocfexec.service package/ocfexec.logrotate docs/CONTROL.md $(DESTDIR)$(PREFIX)/share/doc/ocfexec
+	install -m 644 $(MODULES) $(DESTDIR)$(PREFIX)/share/doc/ocfexec
 
 # Installs the Python package `ocfexec` alone, and makes the `python3` of PATH find it, if that looks for packages below PREFIX.
 install-python:
 	@package/python.sh "$(DESTDIR)" "$(PREFIX)"
 
+# Prints the modules of the client.
+modules:
+	@echo $(MODULES)
+
 # Builds Debian packages of the programs that the gate proved, and of no others but the launcher of agents, and of the Python library.
 deb:
 	@package/deb.sh
+
+# Writes the files of a release into out/VERSION: the packages, the source, the notes from CHANGELOG.md, and the sums.
+release:
+	@package/files.sh
 
 # Builds a Debian source package of the last commit. dpkg-buildpackage builds the package from it on a machine with `rt`.
 source:

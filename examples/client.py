@@ -5,6 +5,9 @@ it when a monitor fails. When the executor ends it is started again; with --jour
     client.py ocfexec serve --journal /var/lib/ocfexec --meta-variables --log -
     client.py --file resources.json --check
 
+With --socket FILE, people operate single resources by ocfctl(8), and other programs use the same executor: docs/CONTROL.md has the lines of
+that socket. What is set by hand, as a stop, is kept in the directory of --state, and holds until it is set otherwise.
+
   SIGTERM, SIGINT  stop the resources, and end the client; its status is 1 if a resource did not stop
   SIGUSR1          ends the client and leaves the resources running; running actions end first, and the next client continues
   SIGHUP           reads the file again: new resources are started; removed ones are stopped and taken out of the journal; those whose
@@ -13,7 +16,7 @@ it when a monitor fails. When the executor ends it is started again; with --jour
 
 resources.py describes the file. Resources are brought up in parallel, in no order. One that fails is restarted at once, and then after 1,
 2, 4 .. 60 seconds; one that has failed too often is stopped and given up, and named. If the file is missing, or names nothing, the client
-does nothing and starts no executor until SIGHUP.
+does nothing, and starts no executor until SIGHUP or until another program has a command for it.
 
 Every few seconds the client asks the executor whether it answers. One that does not answer is killed, and the journal is opened again.
 The client ends with status 2 if the file is wrong, or the program is missing or may not be run, and with the executor's status if another
@@ -28,6 +31,7 @@ of the command, or else with the ocfexec in PATH. --offline asks no agent.
 from __future__ import annotations
 
 import argparse
+import contextlib
 import errno
 import json
 import os
@@ -36,7 +40,7 @@ import shutil
 import signal
 import sys
 import time
-from typing import Dict, List
+from typing import Dict, Iterator, List, Optional
 
 sys.dont_write_bytecode = True
 HERE = os.path.dirname(os.path.realpath(__file__))
@@ -44,11 +48,16 @@ HERE = os.path.dirname(os.path.realpath(__file__))
 sys.path += [os.path.join(HERE, "../python"), os.path.join(HERE, "../../../lib/python3/dist-packages")]
 import resources  # noqa: E402
 from agents import Agents, all_faults, site_command  # noqa: E402
-from kept import LONGEST, NEVER, Resource, described  # noqa: E402
+from alerts import Alerts  # noqa: E402
+from calls import Calls  # noqa: E402
+from control import Control  # noqa: E402
+from kept import LONGEST, NEVER, Resource, Site, described  # noqa: E402
 from ocfexec import REPORTED, Ended, Error, Executor, Late, Refused, Result  # noqa: E402
-from output import Systemd, say, standard  # noqa: E402
+from orders import Orders, is_question  # noqa: E402
+from output import ERROR, INFO, Systemd, say, standard  # noqa: E402
+from targets import Targets, Unusable  # noqa: E402
 
-FILE = "/etc/ocfexec/resources.json"
+FILE, GROUP = "/etc/ocfexec/resources.json", "ocfexec"
 PATIENCE, ASK_EVERY = 30, 5  # how long an answer is waited for, and how often one is asked for, in seconds
 OPENING = 10  # how many times the patience an opening may take
 # why a program cannot be started, now and later
@@ -62,8 +71,8 @@ class NoProgram(Exception):
 class Client:
     """Keeps all resources, through one executor after another, until a signal ends the client."""
 
-    def __init__(self, file: str, command_line: List[str], patience: float) -> None:
-        self.file, self.patience = file, patience
+    def __init__(self, options: argparse.Namespace) -> None:
+        self.file, self.patience, command_line = options.file, options.patience, options.command_line
         self.asked: List[int] = []
         self.told = ""  # the state that systemd was told
         self.wake, waker = os.pipe()
@@ -74,37 +83,56 @@ class Client:
             signal.signal(number, lambda came, _: self.asked.append(came))
         self.systemd = Systemd(standard)
         # how often the executor is asked for an answer
-        self.ask_every = min(ASK_EVERY, patience / 4, (self.systemd.watchdog or NEVER) / 4)
+        self.ask_every = min(ASK_EVERY, self.patience / 4, (self.systemd.watchdog or NEVER) / 4)
         self.ask_at = 0.0
-        self.executor = Executor(command_line, wake=self.wake, patience=patience)
-        self.agents = Agents(self.metadata)
+        self.control = Control(options.socket, options.group, self.wake)
+        self.executor = Executor(command_line, wake=self.control.waits, patience=self.patience, idle=self.serve_questions,
+                                 on_new_journal=self.renew)
+        self.agents, self.targets, self.alerts = Agents(self.metadata), Targets(options.state), Alerts()
         self.resources: Dict[str, Resource] = {}
-        self.has_read = self.is_ready = self.is_stopping = self.is_leaving = self.has_opened = self.has_worked = False
+        self.calls = Calls(self.executor, self.control, self.targets, lambda name: name in self.resources)
+        self.orders = Orders(self)
+        self.site = Site(self.executor, self.agents, self.targets, self.alerts, self.is_of_program)
+        self.changed: List[Resource] = []  # those of which something else is wanted, and that have not begun with it
+        self.logs = value_of("--logs", command_line)  # the directory of the agents' output
+        self.has_read = self.has_named = self.is_ready = self.is_stopping = self.is_leaving = self.has_opened = self.has_worked = False
 
     # Its file and its signals
 
     def read(self) -> None:
         """Takes over what the file wants. A wrong file changes nothing. Raises Wrong, and OSError if it cannot be read."""
         wanted = resources.read(self.file)
+        self.has_named |= bool(wanted)
         self.agents.forget()
+        with self.noting():
+            self.targets.others.difference_update(wanted)
         for name in wanted:
-            self.resources.setdefault(name, Resource(name, self.executor, self.agents))
-        changed = [resource for name, resource in self.resources.items() if resource.want(wanted.get(name))]
-        for resource in changed if self.is_open() else ():
-            self.begin(resource)
+            self.add(name)
+        self.changed += [resource for name, resource in self.resources.items() if resource.want(wanted.get(name))]
+
+    def add(self, name: str) -> None:
+        """Adds a resource, unless it is there."""
+        if name not in self.resources:
+            self.resources[name] = Resource(name, self.site, self.resources)
 
     def begin(self, resource: Resource) -> None:
-        if self.is_stopping:
-            resource.begin(resource.stopped())
-        else:
-            resource.begin(resource.kept() if resource.wanted else resource.removed())
+        resource.begin(resource.ended() if self.is_stopping else resource.aimed())
 
-    def reload(self) -> None:
+    def begin_changed(self) -> None:
+        """Begins with what is wanted anew. Raises what an executor raises, after which the next one continues with each resource."""
+        while self.changed:
+            self.begin(self.changed.pop(0))
+
+    def read_again(self) -> None:
+        """Reads the file again, and says so. Raises as `read` does."""
         self.is_ready = False
         self.systemd.notify("RELOADING=1", f"MONOTONIC_USEC={time.monotonic_ns() // 1000}")
+        self.read()
+        say(f"{self.file} was read again")
+
+    def reload(self) -> None:
         try:
-            self.read()
-            say(f"{self.file} was read again")
+            self.read_again()
         except (resources.Wrong, OSError) as error:
             say(f"{self.file}: {error.strerror if isinstance(error, OSError) else error}")
             say("the file is not used, and nothing is changed")
@@ -127,14 +155,21 @@ class Client:
                 self.begin(resource)
         return self.is_leaving or self.is_stopping and not any(resource.task for resource in self.resources.values())
 
+    def needs_executor(self) -> bool:
+        """Whether there is something to do for an executor: resources of the file, or of other programs."""
+        return bool(self.resources or self.targets.others or self.calls.is_wanted)
+
     def rest(self, seconds: float = NEVER) -> bool:
-        """Waits without an executor until a signal comes. Returns whether the client has to leave, or to stop."""
-        until = time.monotonic() + seconds
-        while True:
+        """Waits without an executor until a signal comes, or one is needed that was not before. Returns whether the client has to leave,
+        or to stop."""
+        until, needed = time.monotonic() + seconds, self.needs_executor()
+        while not self.asked and self.needs_executor() == needed:
             self.systemd.feed()
             left = min(self.ask_every, until - time.monotonic())
-            if left <= 0 or select.select([self.wake], [], [], left)[0]:
+            if left <= 0:
                 break
+            select.select([self.control.waits], [], [], 0 if self.control.has_lines() else left)
+            self.serve()
         self.heed()
         return self.is_leaving or self.is_stopping
 
@@ -142,13 +177,35 @@ class Client:
         """Reports the state of all resources to systemd when it has changed; and, once, that each resource runs or has failed."""
         by_state: Dict[str, List[str]] = {}
         for resource in self.resources.values():
-            by_state.setdefault(resource.state, []).append(resource.name)
+            by_state.setdefault("held" if resource.held else resource.state, []).append(resource.name)
         told = "STATUS=" + ("; ".join(f"{state}: {', '.join(names)}" for state, names in by_state.items()) or "nothing is configured")
         if not self.is_ready and all(resource.is_settled or not resource.wanted for resource in self.resources.values()):
             self.is_ready, lines = True, (*lines, "READY=1")
         if lines or told != self.told:
             self.systemd.notify(*lines, told)
             self.told = told
+
+    # The control socket
+
+    def serve(self) -> None:
+        """Does what programs request."""
+        self.control.receive()
+        for program, line in self.control.lines():
+            self.orders.take(program, line)
+        self.orders.check()
+        self.control.flush()
+
+    def is_of_program(self, call: int) -> bool:
+        """Whether another program has requested a call, or somebody a monitor by hand."""
+        self.calls.hear()
+        return self.calls.has(call) or self.orders.has(call)
+
+    def serve_questions(self) -> None:
+        """Answers those that ask how it stands, while an answer of the executor is waited for."""
+        self.control.receive()
+        for program, line in self.control.lines(is_question):
+            self.orders.take(program, line)
+        self.control.flush()
 
     # One executor
 
@@ -167,14 +224,28 @@ class Client:
         """Starts the executor, and continues with each resource of the file and of the journal."""
         self.has_opened = self.has_worked = False
         self.start()
-        self.has_opened = True
+        self.has_opened = self.calls.is_open = True
         for result in self.executor.reported:
             say(f"{result.id}: {described(result)} when the executor ended")
-        for name in self.executor.histories:
-            self.resources.setdefault(name, Resource(name, self.executor, self.agents))
+        with self.noting():
+            self.targets.others.intersection_update(self.executor.histories)
+        # (while the file, which may be lost, has named nothing, nothing is taken for removed from it)
+        for name in self.executor.histories if self.has_named else ():
+            if name not in self.targets.others:
+                self.add(name)
+        for status in self.executor.status():
+            if status.id in self.resources and status.failed:
+                self.resources[status.id].failure = status.failed.raw
+        self.changed = []
         for resource in self.resources.values():
             if resource.state != "given up" or self.is_stopping:
                 self.begin(resource)
+
+    def renew(self, why: str) -> None:
+        """Forgets the calls of the journal before, whose numbers begin again."""
+        say(why)
+        self.calls.forget()
+        self.orders.lose()
 
     def start(self) -> None:
         """Starts the executor, and waits until it is ready. Raises NoProgram; and Late if an opening takes very long, or the
@@ -199,28 +270,55 @@ class Client:
 
     def look(self) -> None:
         """Waits for what comes next, and passes it to its resource. Asks the executor for an answer when that is due."""
+        self.begin_changed()
         due = min([self.ask_at, *(resource.due for resource in self.resources.values())])
-        self.executor.wait(max(0, due - time.monotonic()))
-        for result in self.print_results():
+        self.executor.wait(0 if self.control.has_lines() else max(0, due - time.monotonic()))
+        self.serve()
+        self.begin_changed()
+        for result in self.take_results():
             if result.id in self.resources:
                 self.resources[result.id].take(result)
-        for resource in self.resources.values():
-            if resource.due <= time.monotonic():
-                resource.go_on(None)
+        while any([resource.poll() for resource in self.resources.values()]):
+            pass
         while self.executor.problems:
             say(f"the executor could not make a turn: {self.executor.problems.pop(0)}")
-        self.resources = {name: resource for name, resource in self.resources.items() if resource.state != "gone"}
+        self.forget_gone()
         if self.ask_at <= time.monotonic():
             self.executor.version()
             self.systemd.feed()
+            self.control.open()
+            self.alerts.poll()
             self.ask_at = time.monotonic() + self.ask_every
+        self.orders.check()
+        self.control.flush()
 
-    def print_results(self) -> List[Result]:
-        """The results that have come, each of which is printed."""
+    def forget_gone(self) -> None:
+        """Forgets the resources that the file and the journal no longer have."""
+        gone = [name for name, resource in self.resources.items() if resource.state == "gone"]
+        with self.noting():
+            for name in gone:
+                self.targets.forget(name)
+        for name in gone:
+            del self.resources[name]
+
+    @contextlib.contextmanager
+    def noting(self) -> Iterator[None]:
+        """Changes of what is kept of the hand, which follow from others; the resources are kept even if it cannot be written."""
+        try:
+            with self.targets.changing():
+                yield
+        except OSError as error:
+            say(f"{self.targets.directory}: {error.strerror}")
+
+    def take_results(self) -> List[Result]:
+        """The results that have come, each of which is printed, and passed to the programs that it concerns."""
         found = self.executor.results()
+        self.calls.hear()
         for result in found:
             standard.result(json.dumps({**result.raw, "id": result.id}, separators=(",", ":"), sort_keys=True))
             self.has_worked |= result.outcome not in REPORTED
+            self.calls.notice(result)
+            self.orders.notice(result)
         return found
 
     def keep(self) -> int:
@@ -230,7 +328,8 @@ class Client:
             self.tell()
             self.look()
         status = self.leave()
-        self.print_results()
+        self.calls.lose()
+        self.take_results()
         if status:
             say(f"the executor ended with status {status}")
         return int(status != 0 or any(resource.state == "not stopped" for resource in self.resources.values()))
@@ -268,7 +367,7 @@ class Client:
             except FileNotFoundError:
                 pass
             self.has_read = True
-        while not self.resources:
+        while not self.needs_executor():
             say(f"{self.file} is missing or names no resource: nothing to do until SIGHUP")
             self.tell()
             if self.rest():
@@ -277,25 +376,33 @@ class Client:
     def run(self) -> int:
         """The client's exit status."""
         pause = 0
+        try:
+            self.targets.read()
+        except (Unusable, OSError) as error:
+            say(str(error), ERROR)
+            return 2
+        self.control.open()
         while True:
             try:
                 self.first_read()
-                return self.keep() if self.resources else 0
+                return self.keep() if self.needs_executor() else 0
             except Ended as ended:
-                say(str(ended))
+                say(str(ended), ERROR if ended.needs_administrator else INFO)
                 if ended.needs_administrator:
-                    self.print_results()
+                    self.calls.lose()
+                    self.take_results()
                     return ended.status
             except resources.Wrong as wrong:
-                say(f"{self.file}: {wrong}")
+                say(f"{self.file}: {wrong}", ERROR)
                 return 2
             except NoProgram as error:
-                say(str(error))
+                say(str(error), ERROR)
                 return 2
             except (Error, OSError, MemoryError) as error:
                 say(f"{error or type(error).__name__}")
                 self.end_executor()
-            self.print_results()
+            self.calls.lose()
+            self.take_results()
             if self.is_stopping and not self.has_opened:
                 return 1
             # if an executor has sent a result, the next one follows at once
@@ -304,6 +411,16 @@ class Client:
                 say(f"it is tried again in {pause} s")
                 if self.rest(pause) and self.is_leaving:
                     return 0
+
+
+def value_of(option: str, words: List[str]) -> Optional[str]:
+    """The value of an option of the executor's command line."""
+    for place, word in enumerate(words):
+        if word.startswith(f"{option}="):
+            return word.partition("=")[2]
+        if word == option and place + 1 < len(words):
+            return words[place + 1]
+    return None
 
 
 def check(file: str, command_line: List[str], is_offline: bool, patience: float) -> int:
@@ -356,15 +473,22 @@ def main() -> int:
     parser.add_argument("--offline", action="store_true", help="with --check: ask no agent")
     parser.add_argument("--patience", type=seconds, default=PATIENCE, metavar="SECONDS",
                         help="how long an answer of the executor is waited for (%(default)s)")
+    parser.add_argument("--socket", metavar="FILE", help="the control socket, which root may use; needs --state")
+    parser.add_argument("--group", default=GROUP, metavar="NAME", help="the group that may ask by the socket (%(default)s)")
+    parser.add_argument("--state", metavar="DIR", help="the directory in which is kept what was set by hand")
     parser.add_argument("command_line", nargs=argparse.REMAINDER, metavar="command", help="the executor's command line")
     options = parser.parse_args()
     if options.check:
         return check(options.file, options.command_line, options.offline, options.patience)
     if not options.command_line:
         parser.error("the executor's command line is missing")
+    if options.socket and not options.state:
+        parser.error("--socket needs --state")
+    client = Client(options)
     try:
-        return Client(options.file, options.command_line, options.patience).run()
+        return client.run()
     finally:
+        client.control.close()
         standard.end()
 
 

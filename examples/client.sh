@@ -35,19 +35,19 @@ ask() {
 }
 
 await '{"dropped":'
-ask "{\"op\":\"register\",\"id\":\"r1\",\"provider\":\"$provider\",\"type\":\"$type\",\"params\":{\"$parameter\":\"$value\"}}" '{"ok":'
+ask "{\"op\":\"register\",\"id\":\"r1\",\"provider\":\"$provider\",\"type\":\"$type\",\"params\":{\"$parameter\":\"$value\"}}" '{"kind":"reply",'
 ask '{"op":"exec","id":"r1","action":"start"}' '{"call":'
 await '{"action":"start"'
 ask '{"op":"recur","id":"r1","interval":1000}' '{"call":'
 for _ in 1 2 3; do
     await '{"action":"monitor"'
 done
-ask '{"op":"cancel","id":"r1","interval":1000}' '{"ok":'
+ask '{"op":"cancel","id":"r1","interval":1000}' '{"kind":"reply",'
 ask '{"op":"info","id":"r1"}' '{"failed":'
 queued=${line##*'"queued":['}
 for call in $(printf '%s' "${queued%%]*}" | tr , ' '); do
     # a withdrawal of an action that has begun meanwhile is refused, and the action ends by itself
-    ask "{\"op\":\"withdraw\",\"id\":\"r1\",\"call\":$call}" '{"ok":' ||
+    ask "{\"op\":\"withdraw\",\"id\":\"r1\",\"call\":$call}" '{"kind":"reply",' ||
         case $line in '{"error":"not-queued",'*) ;; *) exit 1 ;; esac
 done
 ask '{"op":"exec","id":"r1","action":"stop"}' '{"call":'

@@ -9,6 +9,7 @@ import threading
 from typing import Deque, Optional
 
 MOST = 1 << 20  # bytes that wait for a reader
+INFO, ERROR = 6, 3  # priorities of messages in the system's journal: sd-daemon(3)
 
 
 class Stream:
@@ -82,12 +83,15 @@ class Output:
                 os.open(os.devnull, os.O_RDWR)
         self.results, self.messages = Stream(1), Stream(2)
         self.is_said = False  # whether it was said that results are left out
+        found = os.fstat(2)
+        self.is_journal = os.environ.get("JOURNAL_STREAM") == f"{found.st_dev}:{found.st_ino}"
 
-    def say(self, what: str) -> None:
-        """Prints a message, after the number of those before it that were left out."""
-        if self.messages.left_out and self.messages.line(f"client: {self.messages.left_out} lines were left out"):
+    def say(self, what: str, priority: int = INFO) -> None:
+        """Prints a message, after the number of those before it that were left out; in the system's journal with its priority."""
+        mark = f"<{priority}>" if self.is_journal else ""
+        if self.messages.left_out and self.messages.line(f"{mark}client: {self.messages.left_out} lines were left out"):
             self.messages.left_out = 0
-        self.messages.line(f"client: {what}")
+        self.messages.line(f"{mark}client: {what}")
 
     def result(self, text: str) -> None:
         """Prints a result. What its reader does not read is left out, which is said once, and counted when it reads again."""

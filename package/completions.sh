@@ -1,6 +1,7 @@
 #!/usr/bin/env bash
 # Prints the completions of the program's arguments for a shell. Its subcommands, its options and their descriptions are read from its own
-# help, so that there is only one table of them. The ids of resources are asked of the program while a line is completed.
+# help, so that there is only one table of them. While a line is completed, the ids of resources are asked of the program, and the agents
+# are looked for below their root.
 # Use: completions.sh PROGRAM bash|zsh|fish
 set -euo pipefail
 program=$1
@@ -34,14 +35,68 @@ takes_id() {
 # shellcheck disable=SC2016 # the shell that completes expands it
 ids_of='command ocfexec show "${place[@]}" 2>/dev/null | sed -n "1s/.*\"resources\":\[\([^]]*\)\].*/\1/p" | tr -d "\"" | tr "," "\n"'
 
+# Prints the agents below a root, as PROVIDER:TYPE, in each shell. What begins with a dot, and the shell functions of an agent, are none.
+agents_of='command find "$root/resource.d" -mindepth 2 -maxdepth 2 -perm -u+x ! -type d ! -name ".*" -printf "%P\n" 2>/dev/null | sort | tr / :'
+
+# The default root of the agents, by the help.
+root=$("$program" once --help | sed -n '/--root/,/default/s/.*\[default: \(.*\)\].*/\1/p')
+
+# The actions of an agent.
+actions='start stop monitor promote demote reload-agent validate-all meta-data'
+
+# Prints the words that an option takes, if there are few.
+values_of() {
+    case $1 in
+        --color) echo "auto always never" ;;
+        --level) echo "0 10 20" ;;
+    esac
+}
+
+# The function of bash that completes the words of `once`: an agent, or after it or --of an action. A word with a colon is three words
+# for bash, which completes the last one alone.
+once_in_bash() {
+    cat <<BASH
+_ocfexec_after() {
+    local at
+    for ((at = 2; at < COMP_CWORD - 1; at++)); do
+        [ "\${COMP_WORDS[at]}" != "\$1" ] || echo "\${COMP_WORDS[at + 1]}"
+    done
+}
+_ocfexec_agents() {
+    local root
+    root=\$(_ocfexec_after --root)
+    root=\${root:-$root}
+    $agents_of
+}
+_ocfexec_once() {
+    local word=\${COMP_WORDS[COMP_CWORD]} before=COMP_CWORD
+    case \${COMP_WORDS[COMP_CWORD - 1]}\$word in
+    :*) word=\${COMP_WORDS[COMP_CWORD - 2]}:\$word before=\$((COMP_CWORD - 2)) ;;
+    *:) word=\${COMP_WORDS[COMP_CWORD - 1]}: before=\$((COMP_CWORD - 1)) ;;
+    esac
+    local words=" \${COMP_WORDS[*]:2:before-2} " action
+    for action in $actions; do
+        [[ \$words != *" \$action "* ]] || return
+    done
+    case \$words in
+    *" --of "* | *:*) mapfile -t COMPREPLY < <(compgen -W '$actions' -- "\$word") ;;
+    *)
+        mapfile -t COMPREPLY < <(compgen -W "\$(_ocfexec_agents)" -- "\$word")
+        [[ \$COMP_WORDBREAKS != *:* ]] || COMPREPLY=("\${COMPREPLY[@]#"\${word%"\${word##*:}"}"}")
+        ;;
+    esac
+}
+BASH
+}
+
 in_bash() {
     local name words
     echo "# Completions of ocfexec for bash."
+    once_in_bash
     echo "_ocfexec_ids() {"
-    echo "    local at place=()"
-    echo "    for ((at = 2; at < COMP_CWORD - 1; at++)); do"
-    echo "        [ \"\${COMP_WORDS[at]}\" != --journal ] || place=(--journal \"\${COMP_WORDS[at + 1]}\")"
-    echo "    done"
+    echo "    local directory place=()"
+    echo "    directory=\$(_ocfexec_after --journal)"
+    echo "    [ -z \"\$directory\" ] || place=(--journal \"\$directory\")"
     echo "    $ids_of"
     echo "}"
     echo "_ocfexec() {"
@@ -57,6 +112,16 @@ in_bash() {
     echo "        mapfile -t COMPREPLY < <(compgen -f -- \"\$word\")"
     echo "        return"
     echo "        ;;"
+    echo "    --of)"
+    echo "        mapfile -t COMPREPLY < <(compgen -W \"\$(_ocfexec_ids)\" -- \"\$word\")"
+    echo "        return"
+    echo "        ;;"
+    for name in --color --level; do
+        echo "    $name)"
+        echo "        mapfile -t COMPREPLY < <(compgen -W '$(values_of "$name")' -- \"\$word\")"
+        echo "        return"
+        echo "        ;;"
+    done
     echo "    esac"
     echo "    case \${COMP_WORDS[1]} in"
     for name in $(names); do
@@ -66,6 +131,13 @@ in_bash() {
             echo "        case \$word in"
             echo "        -*) mapfile -t COMPREPLY < <(compgen -W '$words' -- \"\$word\") ;;"
             echo "        *) mapfile -t COMPREPLY < <(compgen -W \"\$(_ocfexec_ids)\" -- \"\$word\") ;;"
+            echo "        esac"
+            echo "        ;;"
+        elif [ "$name" = once ]; then
+            echo "    $name)"
+            echo "        case \$word in"
+            echo "        -*) mapfile -t COMPREPLY < <(compgen -W '$words' -- \"\$word\") ;;"
+            echo "        *) _ocfexec_once ;;"
             echo "        esac"
             echo "        ;;"
         else
@@ -98,6 +170,20 @@ in_zsh() {
     echo "    ids=(\${(f)\"\$($ids_of)\"})"
     echo "    compadd -- \$ids"
     echo "}"
+    echo "_ocfexec_once() {"
+    echo "    local action at root=$root agents"
+    echo "    for action in $actions; do"
+    echo "        ((\${words[(Ie)\$action]} == 0 || \${words[(Ie)\$action]} >= CURRENT)) || return"
+    echo "    done"
+    echo "    if [[ \"\${words[1,CURRENT-1]}\" == *(:|--of\ )* ]]; then"
+    echo "        compadd -- $actions"
+    echo "        return"
+    echo "    fi"
+    echo "    at=\${words[(i)--root]}"
+    echo "    ((at >= \${#words})) || root=\$words[at+1]"
+    echo "    agents=(\${(f)\"\$($agents_of)\"})"
+    echo "    compadd -- \$agents"
+    echo "}"
     echo "_ocfexec() {"
     echo "    if ((CURRENT == 2)); then"
     echo "        local commands=("
@@ -120,10 +206,12 @@ in_zsh() {
                 -) echo "        '$option[$help]' \\" ;;
                 DIR) echo "        '$option[$help]:$value:_files -/' \\" ;;
                 FILE | PROGRAM) echo "        '$option[$help]:$value:_files' \\" ;;
-                *) echo "        '$option[$help]:$value:' \\" ;;
+                ID) echo "        '$option[$help]:$value:_ocfexec_ids' \\" ;;
+                *) echo "        '$option[$help]:$value:($(values_of "$option"))' \\" ;;
             esac
         done < <(options "$name")
-        ! takes_id "$name" || echo "        ':ID:_ocfexec_ids' \\"
+        ! takes_id "$name" || echo "        '*:ID:_ocfexec_ids' \\"
+        [ "$name" != once ] || echo "        '*:ACTION:_ocfexec_once' \\"
         echo "        ;;"
     done
     echo "    esac"
@@ -144,17 +232,35 @@ in_fish() {
     # shellcheck disable=SC2001 # a pattern is replaced
     echo "    $(sed 's/"${place\[@\]}"/$place/' <<< "$ids_of")"
     echo "end"
+    echo "function __ocfexec_once"
+    echo "    set -l root $root"
+    echo "    set -l words (commandline -opc)"
+    echo "    if set -l at (contains -i -- --root \$words); and test \$at -lt (count \$words)"
+    echo "        set root \$words[(math \$at + 1)]"
+    echo "    end"
+    echo "    for action in $actions"
+    echo "        not contains \$action \$words; or return"
+    echo "    end"
+    echo "    if contains -- --of \$words; or string match -q '*:*' -- \$words"
+    echo "        string split ' ' '$actions'"
+    echo "    else"
+    echo "        $agents_of"
+    echo "    end"
+    echo "end"
     echo "complete -c ocfexec -f"
     while IFS=$'\t' read -r name help; do
         seen="__fish_seen_subcommand_from $name"
         echo "complete -c ocfexec -n __fish_use_subcommand -a $name -d '$(quoted "$help")'"
         ! takes_id "$name" || echo "complete -c ocfexec -n '$seen' -a '(__ocfexec_ids)' -d resource"
+        [ "$name" != once ] || echo "complete -c ocfexec -n '$seen' -a '(__ocfexec_once)'"
         while IFS=$'\t' read -r option value help; do
             help=$(quoted "$help")
             case $value in
                 -) echo "complete -c ocfexec -n '$seen' -l ${option#--} -d '$help'" ;;
                 DIR) echo "complete -c ocfexec -n '$seen' -l ${option#--} -x -a '(__fish_complete_directories)' -d '$help'" ;;
                 FILE | PROGRAM) echo "complete -c ocfexec -n '$seen' -l ${option#--} -r -F -d '$help'" ;;
+                ID) echo "complete -c ocfexec -n '$seen' -l ${option#--} -x -a '(__ocfexec_ids)' -d '$help'" ;;
+                WHEN | N) echo "complete -c ocfexec -n '$seen' -l ${option#--} -x -a '$(values_of "$option")' -d '$help'" ;;
                 *) echo "complete -c ocfexec -n '$seen' -l ${option#--} -x -d '$help'" ;;
             esac
         done < <(options "$name")

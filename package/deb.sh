@@ -40,38 +40,44 @@ install -D -m 755 "$program" "$root/usr/bin/ocfexec"
 install -D -m 755 "$agents" "$root/usr/lib/ocf/resource.d/ocfexec/Dummy"
 launcher/build.sh "$root/usr/bin/ocfexec-run-agent"
 if command -v strip > /dev/null; then
-    strip "$root"/usr/bin/* "$root/usr/lib/ocf/resource.d/ocfexec/Dummy"
+    strip "$root/usr/bin/ocfexec" "$root/usr/bin/ocfexec-run-agent" "$root/usr/lib/ocf/resource.d/ocfexec/Dummy"
 fi
+install -D -m 755 examples/ocfctl.py "$root/usr/bin/ocfctl"
+sed -i '1s#.*#\#!/usr/bin/python3#' "$root/usr/bin/ocfctl"
 ln -s Dummy "$root/usr/lib/ocf/resource.d/ocfexec/Stateful"
-install -D -m 644 docs/ocfexec.8 "$root/usr/share/man/man8/ocfexec.8"
-gzip -9n "$root/usr/share/man/man8/ocfexec.8"
+for page in ocfexec ocfctl; do
+    install -D -m 644 "docs/$page.8" "$root/usr/share/man/man8/$page.8"
+    gzip -9n "$root/usr/share/man/man8/$page.8"
+done
 mkdir -p "$root/usr/libexec/ocfexec" "$doc/docs" "$doc/examples"
-install -m 755 examples/client.py examples/client.sh examples/with-executor.sh "$root/usr/libexec/ocfexec"
-install -m 644 examples/agents.py examples/kept.py examples/output.py examples/resources.py "$root/usr/libexec/ocfexec"
+install -m 755 examples/client.py examples/client.sh examples/with-*.sh "$root/usr/libexec/ocfexec"
+read -r -a modules <<< "$(make --silent --no-print-directory modules)"
+install -m 644 "${modules[@]}" "$root/usr/libexec/ocfexec"
 # the client has a library of its own version beside it, whichever version of python3-ocfexec is installed, if any
 install -d "$root/usr/libexec/ocfexec/ocfexec"
 install -m 644 python/ocfexec/*.py python/ocfexec/py.typed "$root/usr/libexec/ocfexec/ocfexec"
-install -m 644 README.md "$doc"
-install -m 644 docs/GUIDE.md docs/CLIENTS.md docs/FORMAT.md docs/protocol.schema.json docs/resources.schema.json docs/CLUSTER.md "$doc/docs"
-cp -R examples/*.sh examples/*.py examples/*.jsonl examples/*.service examples/*.socket examples/resource.d examples/cluster "$doc/examples"
-# the units of this package: with its own paths, and the executor's options of the client from a file that an administrator keeps
+install -m 644 package/README.md CHANGELOG.md "$doc"
+install -m 644 docs/{GUIDE,CLIENTS,CONTROL,FORMAT,CLUSTER}.md docs/{protocol,resources}.schema.json "$doc/docs"
+cp -R examples/*.sh examples/*.py examples/*.jsonl examples/*.service examples/resource.d examples/cluster examples/go "$doc/examples"
+# the unit of this package: with its own paths, and the executor's options of the client from a file that an administrator keeps
 mkdir -p "$root/lib/systemd/system" "$root/etc/default" "$root/etc/ocfexec"
-for unit in examples/*.service examples/*.socket; do
-    sed -e 's#/usr/local/share/doc/ocfexec/#/usr/libexec/ocfexec/#' -e 's#/usr/local/bin/#/usr/bin/#' "$unit" \
-        > "$root/lib/systemd/system/${unit##*/}"
-done
-sed -i -e 's#^\[Service\]#&\nEnvironmentFile=/etc/default/ocfexec#' -e '/^ .*serve --journal/s#$# $OCFEXEC_OPTIONS#' \
-    "$root/lib/systemd/system/ocfexec.service"
+sed -e 's#/usr/local/share/doc/ocfexec/#/usr/libexec/ocfexec/#' -e 's#/usr/local/bin/#/usr/bin/#' \
+    -e 's#^\[Service\]#&\nEnvironmentFile=/etc/default/ocfexec#' -e '/^ .*serve --journal/s#$# $OCFEXEC_OPTIONS#' \
+    examples/ocfexec.service > "$root/lib/systemd/system/ocfexec.service"
 cat > "$root/etc/default/ocfexec" << 'OPTIONS'
 # Further options of ocfexec serve in ocfexec.service, such as --tidy-at 0. See ocfexec(8).
+#
+# --via /usr/libexec/ocfexec/with-scope.sh runs each start in a scope of its own, so that each service has its own control group:
+# `systemctl status 'ocf-web-*'` shows it, and no service counts as left over from ocfexec.service.
 OCFEXEC_OPTIONS=
 OPTIONS
-chmod 644 "$root"/lib/systemd/system/* "$root/etc/default/ocfexec"
+chmod 644 "$root/lib/systemd/system/ocfexec.service" "$root/etc/default/ocfexec"
+install -D -m 644 package/ocfexec.logrotate "$root/etc/logrotate.d/ocfexec"
 for shell in bash-completion/completions/ocfexec:bash zsh/vendor-completions/_ocfexec:zsh fish/vendor_completions.d/ocfexec.fish:fish; do
     mkdir -p "$(dirname "$root/usr/share/${shell%:*}")"
     package/completions.sh "$program" "${shell#*:}" > "$root/usr/share/${shell%:*}"
 done
-mkdir -p "$doc"
+install -m 644 package/ocfctl.bash "$root/usr/share/bash-completion/completions/ocfctl"
 install -m 644 "$debian/copyright" "$doc/copyright"
 printf '%s, and docs/PROVED.md there says what.\n' "$proved" > "$doc/README.gate"
 echo "$changelog" | gzip -9n > "$doc/changelog.gz"
@@ -83,7 +89,7 @@ printf '%s\n' "# a removal ends the unit by a signal that leaves services runnin
     "ocfexec: statically-linked-binary [usr/bin/ocfexec-run-agent]" "ocfexec: no-manual-page [usr/bin/ocfexec-run-agent]" \
     > "$root/usr/share/lintian/overrides/ocfexec"
 mkdir "$root/DEBIAN" && install -m 755 package/postinst package/prerm package/postrm "$root/DEBIAN"
-echo /etc/default/ocfexec > "$root/DEBIAN/conffiles"
+printf '%s\n' /etc/default/ocfexec /etc/logrotate.d/ocfexec > "$root/DEBIAN/conffiles"
 (cd "$root" && find . -path ./DEBIAN -prune -o -type f -printf '%P\0' | sort -z | xargs -0 md5sum) > "$root/DEBIAN/md5sums"
 # the fields of the package, and those from its source; the programs are linked only with the C library
 {

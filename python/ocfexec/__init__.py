@@ -17,15 +17,18 @@
 Results and other replies are dataclasses, whose `raw` is the dictionary of the program's line. Milliseconds are those of the program
 (`interval`, `timeout=` of an action); waits of this library (`patience`, the `timeout=` of `result` and `events`) are in seconds.
 
+Calls and runs are numbers of one journal. Where an opening finds another one, or an older copy, the caller is told by `on_new_journal`, and
+each result of that journal is new; those in its histories are delivered only as `histories`.
+
 Threads: an object belongs to one thread at a time, and an `AsyncExecutor` to its event loop. The library starts no threads. Another
 thread may read `pid`, send that process a signal, and write to the descriptor `wake`, which ends a wait of `events`.
 
 It uses only Python's standard library, and needs Linux.
 """
 from ._async import AsyncExecutor
-from ._core import REPORTED
 from ._errors import AlreadyRunning, Ended, Error, Garbled, Late, NoMetadata, NotStarted, Refused, TooOld
 from ._executor import Executor
+from ._inbox import REPORTED
 from ._values import Failure, Info, Monitor, Ready, Result, Running, Status
 
 __version__ = "0.1.0"

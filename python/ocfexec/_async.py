@@ -6,7 +6,7 @@ from types import TracebackType
 from typing import Any, AsyncIterator, Callable, Container, Iterable, List, Mapping, Optional, Sequence, Set, Type, TypeVar
 
 from . import _commands
-from ._core import GRACE, LIST, PIECE, Command, Core, Deadline, Reply, write_some
+from ._core import GRACE, LIST, PIECE, Command, Core, Deadline, Reply, log, write_some
 from ._errors import Ended, Garbled, Late, NoMetadata, Refused, TooOld
 from ._process import Process
 from ._values import Info, Ready, Result, Status
@@ -20,10 +20,11 @@ class AsyncExecutor(Core):
     commands, a result that a task waits for with `result` or `perform` goes to that task, and any other one to one of `events`. The
     program's output is read whenever the loop runs, and kept until it is taken."""
 
-    def __init__(self, command_line: Sequence[str], *, patience: Optional[float] = None, own_session: bool = True) -> None:
+    def __init__(self, command_line: Sequence[str], *, patience: Optional[float] = None, own_session: bool = True,
+                 on_new_journal: Callable[[str], object] = log) -> None:
         """`command_line` is a list of arguments. `patience` is how many seconds a reply is waited for; None is for ever. `own_session`
-        keeps a terminal's signals from the program."""
-        super().__init__(command_line, patience, own_session)
+        keeps a terminal's signals from the program. `on_new_journal` is called as for `Executor`."""
+        super().__init__(command_line, patience, own_session, on_new_journal)
         self._waiters: Set[asyncio.Future[None]] = set()
         self._fault: Optional[Garbled] = None
         self._loop: Optional[asyncio.AbstractEventLoop] = None
@@ -58,6 +59,8 @@ class AsyncExecutor(Core):
             self._loop.add_reader(self._live()[0].stdout.fileno(), self._read)
 
         def goes_on() -> Optional[Ready]:
+            if self._fault is not None:  # also if its program has ended since
+                raise self._fault
             ready = self._go_on_opening()
             self._write()
             return ready
@@ -278,7 +281,7 @@ class AsyncExecutor(Core):
             return
         if part:
             try:
-                lines.receive(part)
+                self._receive(lines, part)
             except Garbled as garbled:
                 self._fault = garbled
                 process.kill()

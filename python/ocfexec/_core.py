@@ -1,23 +1,23 @@
 """What both executors share: the state of one program after another, and each result once."""
 from __future__ import annotations
 
-import collections
+import logging
 import time
-from typing import Any, Container, Counter, Dict, Iterable, List, Mapping, Optional, Sequence, Tuple
+from typing import Any, Callable, Container, Dict, List, Mapping, Optional, Sequence, Tuple
 
 from ._errors import AlreadyRunning, Ended, Late, NotStarted, Refused, TooOld
+from ._inbox import REPORTED, Inbox, Seen
 from ._lines import Lines
 from ._process import Process
 from ._values import Ready, Result
 
-REPORTED = ("interrupted", "dropped")  # outcomes that only an opening reports
-KEPT = 64  # results of a resource that a journal keeps
 PIECE = 65536  # bytes that are read or written at a time
 # seconds that a killed program, or one whose output has ended, has to end
 GRACE = 10.0
 LIST = {"op": "list"}
 Command = Mapping[str, Any]
 Reply = Dict[str, Any]
+log = logging.getLogger("ocfexec").warning
 
 
 class Deadline:
@@ -38,73 +38,6 @@ class Deadline:
         return Late(what, self.seconds or 0)
 
 
-class Inbox:
-    """The results that have come and were not taken yet, oldest first; each result comes once, whichever line or history has it."""
-
-    def __init__(self) -> None:
-        self._results: Dict[Tuple[int, int], Result] = {}
-        self._arriving: Dict[Tuple[int, int], Result] = {}  # during an opening: after what its histories have
-        self._delivered: Dict[str, Dict[Tuple[int, int], None]] = {}  # by resource: the last results, by call and run
-        self._reserved: Counter[int] = collections.Counter()  # calls whose results are waited for, or will be
-        self.is_opening = False
-
-    def add(self, result: Result) -> None:
-        if self._is_new(result):
-            (self._arriving if self.is_opening else self._results)[result.call, result.run] = result
-
-    def opened(self, results: Iterable[Result], is_first: bool) -> None:
-        """Adds the new results of histories. At the first opening these are of another program, and are not delivered. No line reports
-        withdrawn actions."""
-        for result in results:
-            if result.outcome != "cancelled" and self._is_new(result) and not is_first:
-                self._results[result.call, result.run] = result
-        self.arrived()
-
-    def arrived(self) -> None:
-        """Ends an opening."""
-        self._results.update(self._arriving)
-        self._arriving, self.is_opening = {}, False
-
-    def forget(self) -> None:
-        """Forgets which results were delivered: the numbers of a new journal begin again."""
-        self._delivered.clear()
-
-    def _is_new(self, result: Result) -> bool:
-        key, delivered = (result.call, result.run), self._delivered.setdefault(result.id, {})
-        if key in delivered:
-            return False
-        delivered[key] = None
-        if len(delivered) > 2 * KEPT:
-            del delivered[next(iter(delivered))]
-        return True
-
-    def reserve(self, call: int) -> None:
-        """Keeps the results of a call for `take_call`."""
-        self._reserved[call] += 1
-
-    def release(self, call: int) -> None:
-        self._reserved[call] -= 1
-        if self._reserved[call] <= 0:
-            del self._reserved[call]
-
-    def _oldest(self) -> Optional[Tuple[int, int]]:
-        return next((key for key in self._results if key[0] not in self._reserved), None)
-
-    def has_result(self) -> bool:
-        """Whether `take` finds a result."""
-        return self._oldest() is not None
-
-    def take(self) -> Optional[Result]:
-        """The oldest result that is not reserved."""
-        key = self._oldest()
-        return None if key is None else self._results.pop(key)
-
-    def take_call(self, call: int) -> Optional[Result]:
-        """The oldest result of this call."""
-        key = next((key for key in self._results if key[0] == call), None)
-        return None if key is None else self._results.pop(key)
-
-
 class Core:
     """The state of an executor: never started, opening its journal, running, or ended. From each of them `start` leads to running.
 
@@ -113,10 +46,12 @@ class Core:
     problems   words such as "full", each of which says that a turn could not be made; the program repeats the turn by itself
     """
 
-    def __init__(self, command_line: Sequence[str], patience: Optional[float], own_session: bool) -> None:
+    def __init__(self, command_line: Sequence[str], patience: Optional[float], own_session: bool,
+                 on_new_journal: Callable[[str], object]) -> None:
         if isinstance(command_line, str) or not command_line:
             raise ValueError("the command line is a list of arguments, of which the first is the program")
         self.command_line, self.patience, self.own_session = list(command_line), patience, own_session
+        self.on_new_journal = on_new_journal
         self.reported: List[Result] = []
         self.histories: Dict[str, List[Result]] = {}
         self.problems: List[str] = []
@@ -127,7 +62,9 @@ class Core:
         # of an opening: the resources, once they are known, and the numbers of the commands whose replies it waits for
         self._names: Optional[List[str]] = None
         self._asked = range(0)
-        self._inbox = Inbox()
+        self._inbox, self._seen = Inbox(), Seen()
+        self._early: List[Result] = []  # of a report, up to the ready line, which tells of which journal they are
+        self._differences: List[str] = []  # which the caller is still to be told
 
     @property
     def ready(self) -> Ready:
@@ -171,6 +108,8 @@ class Core:
                 raise AlreadyRunning(self._process.pid)
             return False
         self._process = Process(self.command_line, self.own_session)
+        if self._lines is not None:
+            self._seen.call(self._lines.last_call)
         self._lines, self._status = Lines(self._hear), None
         self.reported, self._is_open = [], False
         self._inbox.arrived()
@@ -196,7 +135,10 @@ class Core:
     def _opened(self, names: Sequence[str], replies: Sequence[Reply]) -> Ready:
         """Ends an opening, with the histories of these resources."""
         self.histories = {name: [Result.of(value, name) for value in reply.get("results", [])] for name, reply in zip(names, replies)}
-        self._inbox.opened((result for results in self.histories.values() for result in results), not self._opened_before)
+        found = [result for results in self.histories.values() for result in results]
+        for result in found:
+            self._seen.result(result)
+        self._inbox.opened(found, not self._opened_before)
         self._opened_before = self._is_open = True
         return self.ready
 
@@ -208,17 +150,52 @@ class Core:
         self._inbox.arrived()
         return Ended(status, self.command_line)
 
-    def _hear(self, value: Reply) -> None:
-        """Takes a line that replies to no command."""
-        if "outcome" in value:
-            result = Result.of(value, value["id"])
-            if result.outcome in REPORTED:
-                self.reported.append(result)
-            self._inbox.add(result)
-        elif "end" in value:
-            self.problems.append(value["end"])
-        elif value["journal"] is None:
-            self._inbox.forget()
+    def _receive(self, lines: Lines, part: bytes) -> None:
+        """Takes bytes that were read, and tells the caller of another journal before any of its results can be taken. Raises Garbled."""
+        lines.receive(part)
+        while self._differences:
+            self.on_new_journal(self._differences.pop(0))
+
+    def _hear(self, kind: str, value: Reply) -> None:
+        """Takes a line of this kind, which replies to no command."""
+        if kind == "ready":
+            self._hear_ready(Ready.of(value))
+        elif kind == "trouble":
+            self.problems.append(str(value["end"]))
+        elif self._lines is not None and self._lines.ready is not None:
+            self._hear_result(Result.of(value, value["id"]))
+        else:
+            self._early.append(Result.of(value, value["id"]))
+            self.reported += self._early[-1:] if self._early[-1].outcome in REPORTED else []
+
+    def _hear_ready(self, ready: Ready) -> None:
+        """Compares the journal with the one before, and then takes the report."""
+        difference = self._seen.difference(ready)
+        if difference is None and not all(self._inbox.is_new(result) for result in self._early):
+            difference = "the journal is an older copy: it reports actions whose results have come"
+        if difference is not None:
+            self._renew(difference)
+        self._seen.open(ready)
+        for result in self._early:
+            self._take(result)
+        self._early = []
+
+    def _hear_result(self, result: Result) -> None:
+        """Takes a notice: runs that begin after an opening have greater numbers than all before it."""
+        if not self._inbox.is_new(result) or 0 < result.run <= self._seen.before:
+            self._renew(f"the journal is an older copy: run {result.run} has come before")
+        self._take(result)
+
+    def _take(self, result: Result) -> None:
+        self._seen.result(result)
+        self._inbox.add(result)
+
+    def _renew(self, difference: str) -> None:
+        """Goes on with another journal."""
+        self._differences.append(difference)
+        self._inbox.renew()
+        self._seen.renew()
+        self._opened_before = self._is_open
 
     @staticmethod
     def _checked(command: Command, reply: Reply, allow: Container[str]) -> Reply:

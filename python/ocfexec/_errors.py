@@ -15,6 +15,7 @@ REASONS = {
     6: "the journal is full",
     7: "its input or output failed, or a log file could not be opened",
     8: "SIGCHLD was ignored when it started",
+    9: "the directory has no journal, and a new one was not wanted",
 }
 # statuses that another start does not mend
 FINAL = (2, 3, 6, 8)

@@ -8,8 +8,8 @@ from types import TracebackType
 from typing import Callable, Container, Iterable, Iterator, List, Mapping, Optional, Sequence, Type, TypeVar
 
 from . import _commands
-from ._core import GRACE, LIST, PIECE, Command, Core, Deadline, Reply, write_some
-from ._errors import Ended, Garbled, Late, NoMetadata, Refused, TooOld
+from ._core import GRACE, LIST, PIECE, Command, Core, Deadline, Reply, log, write_some
+from ._errors import Ended, Garbled, Late, NoMetadata, NotStarted, Refused, TooOld
 from ._process import Process
 from ._values import Info, Ready, Result, Status
 
@@ -28,11 +28,13 @@ class Executor(Core):
     """
 
     def __init__(self, command_line: Sequence[str], *, patience: Optional[float] = None, idle: Optional[Callable[[], object]] = None,
-                 wake: Optional[int] = None, own_session: bool = True) -> None:
+                 wake: Optional[int] = None, own_session: bool = True, on_new_journal: Callable[[str], object] = log) -> None:
         """`command_line` is a list of arguments. `patience` is how many seconds a reply is waited for; None is for ever. `idle` is called
         ten times a second while a reply or a result is waited for. `wake` is a file descriptor: while it is readable, `events` does not
-        wait. `own_session` keeps a terminal's signals from the program."""
-        super().__init__(command_line, patience, own_session)
+        wait. `own_session` keeps a terminal's signals from the program. `on_new_journal` is called with a sentence when an opening finds
+        another journal than the one before, or an older copy: calls and runs are then counted anew, and calls of before have no results;
+        by default it is a warning of the logger `ocfexec`."""
+        super().__init__(command_line, patience, own_session, on_new_journal)
         self.idle, self.wake = idle, wake
 
     def __enter__(self) -> Executor:
@@ -123,6 +125,18 @@ class Executor(Core):
         this is faster than one after another."""
         return self._ask_all(list(commands), Deadline(self.patience if timeout is None else timeout))
 
+    def submit(self, commands: Iterable[Command]) -> range:
+        """Adds commands to what is written, without a wait, and returns their numbers, for `replies`. It is for a program that passes
+        on commands of others, and must wait for none of them."""
+        return self._live()[1].send(list(commands))
+
+    def replies(self, numbers: range) -> Optional[List[Reply]]:
+        """The replies to submitted commands, once the last one has come; they are given once. Reads nothing: `wait` does. When the program
+        has ended it has those that came before, until `start`."""
+        if self._lines is None:
+            raise NotStarted()
+        return self._lines.replies_to(numbers)
+
     def register(self, id: str, agent: str, params: Optional[Mapping[str, str]] = None, /, **more: str) -> None:
         """Registers a resource with an agent, PROVIDER:TYPE, and its parameters, as a mapping or by name."""
         self.ask(_commands.register(id, agent, {**(params or {}), **more}))
@@ -209,10 +223,10 @@ class Executor(Core):
             is_last = limit.is_over() or not came and self._is_woken()
 
     def wait(self, timeout: Optional[float] = None) -> bool:
-        """Waits until `results` has a result, a problem is noted, `wake` is readable, or this many seconds are over; None is for ever.
-        Returns whether `results` has one. Raises Ended once everything was read."""
+        """Waits until `results` has a result, a submitted command a reply, a problem is noted, `wake` is readable, or this many seconds
+        are over; None is for ever. Returns whether `results` has one. Raises Ended once everything was read."""
         limit, known = Deadline(timeout), len(self.problems)
-        while not self._inbox.has_result():
+        while not self._inbox.has_result() and not (self._lines and self._lines.has_replies()):
             came = self._exchange(limit.left(), wakes=True)
             if limit.is_over() or len(self.problems) > known or not came and self._is_woken():
                 break
@@ -274,7 +288,7 @@ class Executor(Core):
         if part is None:
             return False
         try:
-            lines.receive(part)
+            self._receive(lines, part)
         except Garbled:
             process.kill()
             self._ended(self._reap(process))

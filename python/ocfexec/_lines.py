@@ -11,16 +11,19 @@ from ._values import Ready
 NOT_HERE = ("drain", "watch")
 # commands that {"end":..} may reply to: each is given a tag, since without one the line could be about the program's own turns
 ENDING = ("tidy", "leave", "meta")
+# the kinds of lines that reply to no command
+HEARD = ("ready", "report", "notice", "trouble")
 
 
 class Lines:
     """Gathers commands as bytes to write, takes bytes that were read, and finds the reply to each command by its number. The program
     answers in the order of the commands."""
 
-    def __init__(self, hear: Callable[[Dict[str, Any]], None]) -> None:
-        """`hear` is called with each notice, and with each line that replies to no command, in their order."""
+    def __init__(self, hear: Callable[[str, Dict[str, Any]], None]) -> None:
+        """`hear` is called with each line that replies to no command, and with its kind, in their order."""
         self.hear = hear
         self.ready: Optional[Ready] = None
+        self.last_call = 0  # the last one that a reply has told
         self.outgoing = bytearray()
         self._read = bytearray()
         self._asked: Deque[Tuple[bool, Optional[Callable[[int], None]]]] = collections.deque()  # whether it has a tag, and `reserve`
@@ -43,6 +46,10 @@ class Lines:
             return None
         return [self._replies.pop(number) for number in numbers]
 
+    def has_replies(self) -> bool:
+        """Whether a reply has come and was not given."""
+        return bool(self._replies)
+
     def dismiss(self, numbers: range) -> None:
         """Ignores the replies to these commands, those that have come and those that will."""
         for number in numbers:
@@ -63,11 +70,16 @@ class Lines:
                 raise Garbled(bytes(line)) from None
 
     def take(self, value: Dict[str, Any]) -> None:
-        """Takes the value of one line."""
-        if "ready" in value:
-            self.ready = Ready.of(value)
-        if "outcome" in value or "ready" in value or ("end" in value and "tag" not in value):
-            return self.hear(value)
+        """Takes the value of one line. One of an unknown kind is ignored."""
+        kind = _kind_of(value)
+        if kind in HEARD:
+            if kind == "ready":
+                self.ready = Ready.of(value)
+            return self.hear(kind, value)
+        if kind != "reply":
+            return None
+        value.pop("kind", None)
+        self.last_call = max(self.last_call, value.get("call", 0))
         has_tag, reserve = self._asked.popleft()
         number, self._answered = self._answered, self._answered + 1
         if not has_tag:
@@ -79,6 +91,17 @@ class Lines:
             reserve(value["call"])
         self._replies[number] = value
         return None
+
+
+def _kind_of(value: Mapping[str, Any]) -> str:
+    """The kind of a line, by its key `kind`, or by its other keys where an older program sends none."""
+    if "kind" in value:
+        return str(value["kind"])
+    if "ready" in value:
+        return "ready"
+    if "outcome" in value:
+        return "notice"
+    return "trouble" if "end" in value and "tag" not in value else "reply"
 
 
 def _line_of(command: Mapping[str, Any]) -> bytes:

@@ -16,13 +16,17 @@ def _of(kind: Type[T], value: Mapping[str, Any], **more: Any) -> T:
 
 @dataclass(frozen=True)
 class Ready:
-    """What the program sent when it had opened its journal: the number of reported results of each kind, and of registered resources."""
+    """What the program sent when it had opened its journal: the directory as it was given, the number of reported results of each kind and
+    of registered resources, and the journal's identity, 32 hex digits, and next call, which an older program does not send. With --memory
+    directory and identity are None."""
 
     version: str
     journal: Optional[str]
     resources: int
     interrupted: int
     dropped: int
+    identity: Optional[str] = None
+    next_call: Optional[int] = None
     raw: Dict[str, Any] = field(default_factory=dict, repr=False, compare=False)
 
     @classmethod
@@ -32,8 +36,8 @@ class Ready:
 
 @dataclass(frozen=True)
 class Result:
-    """The result of an action. Only one that came as a notice has a `key`, the expected code (`expect`), and whether it has `failed`; the
-    report of an opening has no tags."""
+    """The result of an action. Only one that came as a notice has a `key`, the expected code (`expect`), whether it has `failed`, and why
+    (`reason`), where that is known; the report of an opening has no tags."""
 
     id: str
     call: int
@@ -51,6 +55,7 @@ class Result:
     tag: Optional[str] = None
     lives: Optional[int] = None
     signal: Optional[int] = None
+    reason: Optional[str] = None
     raw: Dict[str, Any] = field(default_factory=dict, repr=False, compare=False)
 
     @classmethod

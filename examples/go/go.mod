@@ -1,0 +1,3 @@
+module ocfexec
+
+go 1.19
