@@ -26,12 +26,12 @@ stop) rm -f "$OCF_RESKEY_up"/service ;;
 esac
 """
 
-# Notes its own number under a name, and then goes on for a minute. Use: NOTE NAME
+# Notes its own number under a name, and then goes on for ten minutes, longer than a check waits for its end. Use: NOTE NAME
 NOTE = """#!/bin/sh
 echo $$ > "$OCF_RESKEY_up/$1.new" && mv "$OCF_RESKEY_up/$1.new" "$OCF_RESKEY_up/$1"
 trap '' TERM
 i=0
-while [ $i -lt 600 ]; do sleep 0.1; i=$((i + 1)); done
+while [ $i -lt 6000 ]; do sleep 0.1; i=$((i + 1)); done
 """
 
 
@@ -163,19 +163,19 @@ class Endings(helper.Check):
 
     def test_background_job(self):
         """a background job of the agent's group whose parent has ended ends on the timeout"""
-        _, pids = self.timed_out("sh -c 'NOTE child &'; sleep 60")
+        _, pids = self.timed_out("sh -c 'NOTE child &'; sleep 600")
         self.ended(pids)
 
     def test_forks(self):
         """an agent that starts a process each millisecond ends with all of them"""
-        does = f"while :; do sleep 61.{MINE} & sleep 0.001; done"
+        does = f"while :; do sleep 601.{MINE} & sleep 0.001; done"
         self.timed_out(f"echo $$ > {self.up}/child; {does}", timeout=700)
-        found = subprocess.run(["pgrep", "-f", f"^sleep 61[.]{MINE}"], capture_output=True, check=False).stdout.split()
+        found = subprocess.run(["pgrep", "-f", f"^sleep 601[.]{MINE}"], capture_output=True, check=False).stdout.split()
         self.ended([int(pid) for pid in found])
 
     def test_daemon(self):
         """a daemon, in a session of its own and with an ended parent, lives on"""
-        _, pids = self.timed_out("(setsid NOTE child &) ; sleep 60")
+        _, pids = self.timed_out("(setsid NOTE child &) ; sleep 600")
         self.assertTrue(helper.is_alive(pids[0]), "the daemon lives")
         self.assertEqual(helper.STILL_ALIVE.sub("", self.said()), "")
 
@@ -214,12 +214,12 @@ class Endings(helper.Check):
         """256 timeouts in one turn, each agent with a child"""
         run = self.opened()
         for n in range(256):
-            run.tell(self.register(f"sleep 62.{MINE}{n:03}; :", name=f"r{n}"))
+            run.tell(self.register(f"sleep 602.{MINE}{n:03}; :", name=f"r{n}"))
         run.tell(*[helper.action(f"r{n}", "start", timeout=4000) for n in range(256)])
         first, _ = run.awaits(helper.is_notice, 60)
         self.eventually("256 notices", lambda: len(run.told()) >= 256)
         self.assertEqual([end["outcome"] for end in run.told()], ["timed-out"] * 256)
-        found = subprocess.run(["pgrep", "-f", f"^sleep 62[.]{MINE}"], capture_output=True, check=False).stdout.split()
+        found = subprocess.run(["pgrep", "-f", f"^sleep 602[.]{MINE}"], capture_output=True, check=False).stdout.split()
         self.ended([int(pid) for pid in found])
         last = [moment for moment, line in run.lines if "outcome" in helper.value_of(line)][-1]
         at = [end["at"] for end in run.told()]

@@ -32,6 +32,7 @@ FINDS = """cat /proc/$$/environ /proc/$$/cmdline > UP/found
 # A process that has a successor before it ends, again and again, so that each of its numbers is gone as soon as it is read.
 COMET = """#!/bin/sh
 [ -e {up}/go ] || exit
+echo flies >> {up}/flown
 {here}/comet &
 """
 # A service whose master stays in the group of its start, and makes workers when it is told to: each of them has lost its parent.
@@ -264,10 +265,11 @@ class Groups(acting.Acting):
         run = self.opened()
         run.tell(self.register(start=": > UP/go; n=0; while [ $n -lt 60 ]; do HERE/comet & n=$((n + 1)); done; wait; WAITS bomb"),
                  self.register("r2", monitor="echo r2 >> UP/monitors"))
-        run.tell({"op": "recur", "id": "r2", "interval": 100}, helper.action("r1", "start", timeout=3000))
-        self.eventually("the comets fly", lambda: len(acting.with_word(self.place("comet"))) > 1)
+        run.tell({"op": "recur", "id": "r2", "interval": 100}, helper.action("r1", "start", timeout=4000))
         [end] = self.ends_of(run, "r1", "start")
         self.assertEqual(end["outcome"], "timed-out", self.seen())
+        # (a process that looks for them, on a busy machine, may not see one of them)
+        self.assertGreater(os.path.getsize(os.path.join(self.up, "flown")), 60 * len("flies\n"), "the comets had successors")
         monitors = os.path.join(self.up, "monitors")
         before = os.path.getsize(monitors) if os.path.exists(monitors) else 0
         self.eventually("five more monitors of the other resource", lambda: os.path.exists(monitors) and

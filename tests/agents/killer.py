@@ -1,12 +1,15 @@
 #!/usr/bin/env python3
 """What ends an action where that is hard. Wanted: a start past its timeout stays down behind its stop where no process can be made, in a
 cgroup at its limit and for a user at its limit; where /proc shows nothing; and after the process that sends the signals was killed, or
-stopped. That process is in a session of its own and ends with its executor. Two hundred and fifty agents with large environments that pass
+stopped. That process is in a session of its own, if setsid can be run, and ends with its executor. What it could not end is killed again
+each second. Two hundred and fifty agents with large environments that pass
 their timeouts at once delay no monitor of another resource.
 Use: killer.py PROGRAM, with LATE_MILLIS in the environment"""
 import contextlib
 import os
+import shutil
 import signal
+import subprocess
 import sys
 import time
 import unittest
@@ -205,6 +208,60 @@ class Killer(acting.Acting):
         self.passes(run, child)
         self.is_down(run)
         self.assertEqual(self.done(run, "r2", "monitor")["code"], 7)
+
+    def behind(self, *mounts, kept=("--memory",)):
+        """An executor in a mount namespace of its own, in which these files lie over others; its agent's shell is no file of the system."""
+        shell = self.place("sh")
+        if not os.path.exists(shell):
+            shutil.copy("/bin/sh", shell)
+        for name in ("resource.d/test/Acts", "waits"):
+            with open(self.place(name), encoding="utf-8") as script:
+                text = script.read()
+            self.script(name, text.replace("#!/bin/sh", f"#!{shell}", 1))
+        words = " && ".join([*[f"mount --bind {over} {file}" for over, file in mounts],
+                             f"exec {helper.PROGRAM} serve {' '.join(kept)} --root {self.here}"])
+        return self.heard("-m", shell, "-c", words, err=self.err, program="unshare", start_new_session=True)
+
+    @unittest.skipUnless(os.getuid() == 0 and acting.can("unshare", "-m", "true") and shutil.which("setsid"), "run as root, with unshare")
+    def test_no_setsid(self):
+        """where setsid is there and cannot be run, a start past its timeout stays down behind its stop"""
+        for what, mode in (("may not be run", 0o644), ("is no program", 0o755)):
+            with self.subTest(what):
+                over = self.place(f"setsid-{mode:o}")
+                self.written(over, "\x7fELF, and nothing else\n")
+                os.chmod(over, mode)
+                run = self.behind((over, os.path.realpath(shutil.which("setsid"))))
+                child = self.begins(run, timeout=1500)
+                self.passes(run, child)
+                self.is_down(run)
+                os.remove(os.path.join(self.up, "child"))
+                self.assertEqual(run.ends(), 0)
+
+    @unittest.skipUnless(os.getuid() == 0 and acting.can("unshare", "-m", "true") and shutil.which("nsenter"), "run as root, with unshare")
+    def test_is_repeated(self):
+        """what could not be killed holds its resource, and is killed as soon as signals can be sent; its begin and its end are told once"""
+        folder = self.journal()
+        run = self.behind(("/dev/null", "/bin/sh"), kept=("--journal", folder))
+        child = self.begins(run, timeout=1500)
+        [end] = self.ends_of(run, "r1", "start")
+        self.assertEqual(end["outcome"], "timed-out")
+        run.tell(helper.action("r1", "stop"), self.register("r2", monitor="exit 7"))
+        # (while kills are repeated in vain)
+        until = time.monotonic() + 3
+        while time.monotonic() < until:
+            self.assertEqual(self.done(run, "r2", "monitor")["code"], 7)
+        self.assertTrue(helper.is_alive(child), "it could not be killed")
+        status = helper.run("status", "--journal", folder).stdout.decode()
+        self.assertRegex(status, r"\bwaits for pid \d+ of start\b")
+        self.assertEqual([end for end in run.told() if end["action"] == "stop"], [], "no stop beside the start")
+        subprocess.run(["nsenter", "-t", str(run.run.pid), "-m", "umount", "/bin/sh"], check=True)
+        [stop] = self.ends_of(run, "r1", "stop")
+        self.assertEqual((stop["outcome"], stop["code"]), ("done", 0))
+        self.assertFalse(helper.is_alive(child), "nothing of the start lives beside the stop")
+        self.is_down(run)
+        self.assertNotIn("waits", helper.run("status", "--journal", folder).stdout.decode())
+        for line in (r"^ocfexec: r1 waits for pid \d+ \(.*\) of start, ", r"^ocfexec: r1 waits no longer: "):
+            self.assertEqual(len(self.lines_of(line)), 1, self.said())
 
     def stamps(self):
         """The moments at which the monitors of the other resource began, in seconds."""

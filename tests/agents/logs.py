@@ -175,19 +175,20 @@ class Logs(WithLogs):
         self.assertTrue(self.read("web.log.1").endswith("daemon: 0\n"), self.read("web.log.1"))
 
     def names(self, done, *wanted):
-        """Standard error is one line, which names the log."""
+        """Standard error has a line for each of these: it names the log, or at the start the directory."""
         said = done.stderr.decode().splitlines()
-        self.assertEqual(len(said), 1, said)
-        for part in wanted:
-            self.assertIn(part, said[0])
+        self.assertEqual(len(said), len(wanted), said)
+        for part, line in zip(wanted, said):
+            self.assertIn(part, line)
 
     def test_missing_directory(self):
-        """a directory that is missing is named once for two actions, and both are done"""
+        """a directory that is missing is named at the start, and its log once for two actions; both are done"""
         gone = self.place("gone")
         done = helper.run("run", "--memory", "--root", self.here, "--logs", gone, told=helper.lines(
             helper.register("web", "Says"), helper.action("web", "start"), helper.action("web", "stop"), {"op": "drain"}))
         self.assertEqual([value["code"] for value in helper.replies(done.stdout) if helper.is_notice(value)], [0, 0])
-        self.names(done, f"{gone}/web.log: No such file or directory")
+        self.names(done, f"ocfexec: logs {gone}: No such file or directory (os error 2); the output of agents is lost until it is there",
+                   f"{gone}/web.log: No such file or directory")
 
     @unittest.skipUnless(os.geteuid() == 0 and shutil.which("setpriv"), "needs root and setpriv, to give up root")
     def test_no_permission(self):
@@ -198,7 +199,7 @@ class Logs(WithLogs):
                                "--root", self.here, "--logs", self.logs], capture_output=True, check=False, timeout=60,
                               input=helper.lines(helper.register("web", "Says"), helper.action("web", "start"), {"op": "drain"}))
         self.ends_with(done, code=0)
-        self.names(done, f"{self.logs}/web.log: Permission denied")
+        self.names(done, f"ocfexec: logs {self.logs}: Permission denied", f"{self.logs}/web.log: Permission denied")
 
     def test_no_file(self):
         """a link and a named pipe in place of a log are left alone, and the action is done"""

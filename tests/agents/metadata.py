@@ -25,7 +25,7 @@ printf '{{"of":"%s"}}' "$(basename "$0")"
 LIST = {"op": "list"}
 SLOW_TEXT = {"metadata": '{"of":"Slow"}', "ok": True}
 # how serve refuses a limit
-REFUSED = '{"error":"%s","key":"limit","message":"limit must be a number from 0 to 86400000","number":%d}'
+REFUSED = '{"error":"%s","key":"limit","kind":"reply","message":"limit must be a number from 0 to 86400000","number":%d}'
 
 
 def meta(kind, **more):
@@ -183,9 +183,9 @@ class Metadata(helper.Check):
             with self.subTest(limit=limit):
                 self.assertEqual(self.answers("run", meta("Brief", limit=limit)), ['{"error":"bad-value","number":4}'])
                 self.assertEqual(self.answers("serve", meta("Brief", limit=limit)), [REFUSED % ("bad-value", 4)])
-        for word, brief in (("run", ['{"meta":5}', "brief"]), ("serve", ['{"metadata":"brief","ok":true}'])):
+        for word, brief in (("run", ['{"meta":5}', "brief"]), ("serve", ['{"kind":"reply","metadata":"brief","ok":true}'])):
             self.assertEqual(self.answers(word, meta("Brief", limit=86_400_000)), brief)
-            self.assertEqual(self.answers(word, meta("Brief", limit=100)), ['{"end":"limit"}'])
+            self.assertEqual([helper.value_of(line) for line in self.answers(word, meta("Brief", limit=100))], [{"end": "limit"}])
             [refused] = self.answers(word, {"op": "watch"})
             self.assertEqual(helper.bare(helper.value_of(refused)), {"error": "syntax", "number": 1})
 

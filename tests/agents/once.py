@@ -2,6 +2,8 @@
 """An action that is run once. Its status is that of its agent, or says why there is none. Its agent finds exactly the variables of an
 action, and writes to the program's output. Past its timeout it has ended with everything that it started.
 Use: once.py PROGRAM"""
+import os
+import signal
 import sys
 import time
 
@@ -53,21 +55,97 @@ class Once(helper.Check):
         with open(self.place("pid"), encoding="ascii") as file:
             self.assertFalse(helper.is_alive(file.read().strip()), "what the agent started is gone")
 
+    def test_level(self):
+        """A monitor gets its level; no other action takes one but 0."""
+        self.agent("Level", 'echo "$OCF_CHECK_LEVEL"\n')
+        for level in ("0", "10", "20"):
+            self.assertEqual(self.once("--level", level, "test:Level", "monitor"), (0, level + "\n", ""))
+        self.assertEqual(self.once("--level", "0", "test:Level", "start")[0], 0)
+        for words in (["--level", "10", "test:Level", "start"], ["--level", "0", "test:Level", "meta-data"]):
+            self.assertEqual(self.once(*words), (125, "", "ocfexec: give --level with a monitor only\n"), words)
+
     def test_not_run(self):
         """The status is 125 if nothing was run, with a line that says why."""
         self.agent("Ends", "exit 0\n")
         for words, why in ((["test:None", "start"], "the agent was not started: "), (["Ends", "start"], "give an agent as "),
                            (["test:Ends", "fly"], "give an action: "), (["test:Ends", "start", "novalue"], "give parameters as "),
+                           (["test:Ends", "start", "1a=b"], "give a parameter a name of "),
+                           (["test:Ends", "start", "=b"], "give a parameter a name of "),
+                           (["test:Ends", "start", "a=" + "x" * 1025], "give a parameter a value of at most 1024 bytes"),
+                           (["test:Ends", "start", *(f"a{number}=b" for number in range(65))], "give at most 64 parameters"),
                            (["--id", "a/b", "test:Ends", "start"], "give --id "), (["--id", "..", "test:Ends", "start"], "give --id ")):
             code, out, err = self.once(*words)
             self.assertEqual((code, out, err.count("\n")), (125, "", 1), words)
             self.assertTrue(err.startswith("ocfexec: " + why), err)
+        self.assertEqual(self.once("test:Ends", "start", "a=" + "x" * 1024, *(f"a{number}=b" for number in range(63)))[0], 0)
 
     def test_words(self):
-        """The status is 2 if the arguments are not those of the command line."""
-        for words in (["test:Ends"], ["--timeout", "0", "test:Ends", "start"], ["--timeout", "1s", "test:Ends", "start"],
-                      ["--journal", self.here, "test:Ends", "start"]):
-            self.assertEqual(self.once(*words)[0], 2, words)
+        """The status is 125, which no agent has, if the arguments are not those of the command line."""
+        for words in (["test:Ends"], [], ["--timeout", "0", "test:Ends", "start"], ["--timeout", "1s", "test:Ends", "start"],
+                      ["--level", "5", "test:Ends", "monitor"], ["--level", "x", "test:Ends", "monitor"],
+                      ["--nosuch", "test:Ends", "start"], ["--journal", self.here, "test:Ends", "start"],
+                      ["--beside", "test:Ends", "start"], ["--root", "usr", "test:Ends", "start"], ["--of", "web"],
+                      ["--of", "web", "--id", "web", "start"], ["--of", "web", "start", "a=1"]):
+            code, out, err = self.once(*words)
+            self.assertEqual((code, out), (125, ""), words)
+            self.assertNotEqual(err, "")
+        self.assertEqual(self.once("--help")[0], 0)
+
+
+class OfAJournal(helper.Check):
+    """The actions of a resource that is registered in a journal."""
+
+    def setUp(self):
+        super().setUp()
+        self.folder = self.journal()
+        self.agent("Env", 'echo "$1 $OCF_RESOURCE_INSTANCE $OCF_RESKEY_a $OCF_CHECK_LEVEL"\n')
+        self.agent("Waits", '[ "$1" != start ] || { echo $$ > "$OCF_RESKEY_pid"; exec sleep 60; }\n')
+        commands = helper.lines(helper.register("web", "Env", a="b c"), helper.register("slow", "Waits", pid=self.place("pid")))
+        helper.run("run", "--root", self.here, "--journal", self.folder, told=commands)
+
+    def once(self, *words, **how):
+        done = helper.run("once", "--root", self.here, *words, **how)
+        return done.returncode, done.stdout.decode(), done.stderr.decode()
+
+    def test_registered(self):
+        """The agent gets the parameters that are registered, and the journal is not changed."""
+        before = helper.parts(self.folder)
+        self.assertEqual(self.once("--of", "web", "monitor", "--level", "10", "--journal", self.folder), (0, "monitor web b c 10\n", ""))
+        self.assertEqual(self.once("--of", "web", "start", env={**os.environ, "OCFEXEC_JOURNAL": self.folder})[:2], (0, "start web b c \n"))
+        self.assertEqual(helper.parts(self.folder), before)
+
+    def test_unknown(self):
+        """A resource or a journal that is not there is named as such, and nothing is run."""
+        for words, why in ((["--of", "db", "--journal", self.folder], "no resource of this id"),
+                           (["--of", "a/b", "--journal", self.folder], "give --id or --of the id of a resource"),
+                           (["--of", "web", "--journal", self.here], "no journal here yet"),
+                           (["--of", "web", "--journal", self.place("none")], "disk")):
+            code, out, err = self.once(*words, "monitor")
+            self.assertEqual((code, out), (125, ""), words)
+            self.assertTrue(err.startswith("ocfexec: " + why), err)
+
+    def starts(self):
+        """An executor of the journal that runs a start, and the number of its agent."""
+        server = self.heard("serve", "--root", self.here, "--journal", self.folder)
+        server.tell(helper.action("slow", "start", timeout=50000))
+        return server, self.numbers_in(self.place("pid"))[0]
+
+    def test_busy(self):
+        """While an action of the resource runs another is refused, unless it is to run beside that."""
+        self.starts()
+        self.assertEqual(self.once("--of", "slow", "monitor", "--journal", self.folder),
+                         (125, "", "ocfexec: an action of this resource runs; give --beside to run another beside it\n"))
+        self.assertEqual(self.once("--of", "slow", "monitor", "--beside", "--journal", self.folder), (0, "", ""))
+        self.assertEqual(self.once("--of", "web", "monitor", "--journal", self.folder)[0], 0)
+
+    def test_left(self):
+        """What an action of a killed executor left counts as one that runs, until it has ended."""
+        server, pid = self.starts()
+        server.run.kill()
+        server.run.wait()
+        self.assertEqual(self.once("--of", "slow", "monitor", "--journal", self.folder)[0], 125)
+        os.kill(pid, signal.SIGKILL)
+        self.eventually("a monitor", lambda: self.once("--of", "slow", "monitor", "--journal", self.folder)[0] == 0)
 
 
 if __name__ == "__main__":

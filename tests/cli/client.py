@@ -18,8 +18,10 @@ import unittest
 
 sys.path[0] += "/../lib"
 import helper  # noqa: E402
+import keeping  # noqa: E402
 import schema  # noqa: E402
 from helper import PROGRAM  # noqa: E402
+from keeping import CLIENT  # noqa: E402
 
 sys.dont_write_bytecode = True
 sys.path[1:1] = [os.path.join(helper.TOP, "examples"), os.path.join(helper.TOP, "python")]
@@ -39,18 +41,6 @@ cat {here}/metadata
 exit
 fi
 """
-CLIENT = os.path.join(helper.TOP, "examples/client.py")
-# an agent whose service is a file; it fails if the file `fails` beside it names its action, and its monitor ends with the code in the file
-# `code`
-AGENT = """state=$OCF_RESKEY_state
-echo "$OCF_RESOURCE_TYPE $1 $state" >> {here}/calls
-if [ -e "$state.fails" ] && grep -q -x "$1" "$state.fails"; then exit 1; fi
-case $1 in
-start) : > "$state" ;;
-stop) rm -f "$state" ;;
-monitor) [ -e "$state" ] || exit 7; [ ! -e "$state.code" ] || exit "$(cat "$state.code")" ;;
-esac
-"""
 # invalid content of a file, and how the message about it begins
 WRONG = (
     ("[]", "the file: expected an object"),
@@ -69,7 +59,21 @@ WRONG = (
     ('{"resources": {"a": {"provider": "p", "type": "T", "interval": true}}}', "resources.a.interval: expected a whole number from 1"),
     ('{"resources": {"a": {"provider": "p", "type": "T", "timeouts": {"start": 0}}}}',
      "resources.a.timeouts.start: expected a whole number"),
-    ('{"resources": {"a": {"provider": "p", "type": "T", "timeouts": {"promote": 1}}}}', "resources.a.timeouts.promote: unknown key"),
+    ('{"resources": {"a": {"provider": "p", "type": "T", "timeouts": {"reload": 1}}}}', "resources.a.timeouts.reload: unknown key"),
+    ('{"resources": {"a": {"provider": "p", "type": "T", "target": "up"}}}', "resources.a.target: expected started, stopped, promoted or"),
+    ('{"resources": {"a": {"provider": "p", "type": "T", "managed": "no"}}}', "resources.a.managed: expected true or false"),
+    ('{"resources": {"a": {"provider": "p", "type": "T", "alert": "tell"}}}', "resources.a.alert: expected the absolute path"),
+    ('{"resources": {"a": {"provider": "p", "type": "T", "monitors": {}}}}', "resources.a.monitors: expected a list of at most 7"),
+    ('{"resources": {"a": {"provider": "p", "type": "T", "monitors": [{"interval": 0}]}}}', "resources.a.monitors.0.interval: expected"),
+    ('{"resources": {"a": {"provider": "p", "type": "T", "monitors": [{"interval": 1, "level": 5}]}}}',
+     "resources.a.monitors.0.level: expected 0, 10 or 20"),
+    ('{"resources": {"a": {"provider": "p", "type": "T", "monitors": [{"interval": 10000}]}}}',
+     "resources.a.monitors.0.interval: another monitor"),
+    ('{"resources": {"a": {"provider": "p", "type": "T", "after": "b"}}}', "resources.a.after: expected a list"),
+    ('{"resources": {"a": {"provider": "p", "type": "T", "after": ["b"]}}}', "resources.a.after: there is no resource b"),
+    ('{"resources": {"a": {"provider": "p", "type": "T", "after": ["a"]}}}', "resources.a.after: a circle: a after a"),
+    ('{"resources": {"a": {"provider": "p", "type": "T", "after": ["b"]}, "b": {"provider": "p", "type": "T", "after": ["c"]}, '
+     '"c": {"provider": "p", "type": "T", "after": ["b"]}}}', "resources.a.after: a circle: b after c after b"),
     ('{"resources": {"a": {"provider": "p", "type": "T", "restarts": -1}}}', "resources.a.restarts: expected a whole number from 0"),
     (json.dumps({"resources": {"a": {"provider": "p", "type": "T", "params": {f"p{n}": "x" * 1024 for n in range(16)}}}}),
      "resources.a.params: with the names"),
@@ -82,35 +86,21 @@ RIGHT = (
     json.dumps({"resources": {str(n): {"provider": "p", "type": "T", "params": {f"p{n}": "x" * 1024 for n in range(15)}}
                               for n in range(256)}}),
     json.dumps({"resources": {"a": {"provider": "p", "type": "T", "params": {f"p{n}": "x" * 200 for n in range(64)}}}}),
+    json.dumps({"resources": {"a": {"provider": "p", "type": "T", "target": "promoted", "managed": False, "alert": "/bin/true",
+                                    "monitors": [{"interval": n + 1, "level": 10 * (n % 3)} for n in range(7)], "after": ["b", "c"]},
+                              "b": {"provider": "p", "type": "T", "after": ["c"]}, "c": {"provider": "p", "type": "T"}}}),
 )
 # content that is not JSON, or is hidden when it is read as JSON, or is too large as a whole, so that no schema refuses it
-BEFORE = ("not JSON", "a: this key occurs twice", "resources.a.params: with the names")
+BEFORE = ("not JSON", "a: this key occurs twice", "resources.a.params: with the names", "resources.a.monitors.0.interval: another",
+          "resources.a.after: there is no", "resources.a.after: a circle")
 
 
-class Kept(helper.Check):
+class Kept(keeping.Keeping):
     def setUp(self):
         super().setUp()
-        for kind in ("Dummy", "Other"):
-            self.agent(kind, AGENT.format(here=self.here))
-        self.agent("Told", (TOLD + AGENT).format(here=self.here))
+        self.agent("Told", (TOLD + keeping.AGENT).format(here=self.here))
         with open(self.place("metadata"), "w", encoding="ascii") as file:
             file.write(METADATA)
-        self.journal()
-
-    def wants(self, **wanted):
-        """Writes the file, with resources by their keys in it."""
-        with open(self.place("new"), "w", encoding="ascii") as file:
-            json.dump({"resources": wanted}, file)
-        os.rename(self.place("new"), self.place("resources.json"))
-
-    def dummy(self, name, kind="Dummy", **more):
-        return {"provider": "test", "type": kind, "params": {"state": self.place(name)}, "interval": 100, **more}
-
-    def words(self, *options):
-        return [*options, "--file", self.place("resources.json"), PROGRAM, "serve", "--journal", self.place("journal"), "--root", self.here]
-
-    def client(self, *options, **how):
-        return self.heard(*self.words(*options), program=CLIENT, err=self.place("err"), **how)
 
     def unread(self, *options, **how):
         """A client whose standard output is a pipe that nobody reads, as small as possible."""
@@ -131,52 +121,6 @@ class Kept(helper.Check):
                               timeout=helper.WHOLE)
         prefix = f"{self.place('resources.json')}: "
         return done.returncode, [line.removeprefix(prefix) for line in (done.stdout + done.stderr).splitlines()]
-
-    def said(self):
-        with open(self.place("err"), encoding="utf-8") as file:
-            return file.read()
-
-    def waits(self, what, holds, seconds=helper.PATIENCE):
-        until = time.monotonic() + seconds
-        while not holds():
-            if time.monotonic() > until + helper.more_patience(seconds):
-                self.fail(f"no {what} within {seconds} s:\n{self.said()}")
-            time.sleep(0.02)
-
-    def is_up(self, name):
-        return os.path.exists(self.place(name))
-
-    def stops(self, name):
-        """The service of a resource stops by itself."""
-        os.remove(self.place(name))
-
-    def called(self, *words):
-        """How often an agent was called with these words at the beginning of its line."""
-        with open(self.place("calls"), encoding="ascii") as file:
-            return [line.split()[:len(words)] for line in file].count([*words])
-
-    def runs(self, *names):
-        self.waits(f"running {names}", lambda: all(os.path.exists(self.place(name)) for name in names))
-
-    def comes(self, client, after=0, **wanted):
-        return client.awaits(lambda value: helper.is_notice(value, **wanted), after=after)[1]
-
-    def ended(self, client, number):
-        """Sends a signal, which ends the client; returns its status."""
-        os.kill(client.run.pid, number)
-        status = client.run.wait(4 * helper.PATIENCE)
-        client.reader.join()
-        return status
-
-    def starts(self):
-        with open(self.place("calls"), encoding="ascii") as file:
-            return [line.split()[:2] for line in file].count(["Dummy", "start"])
-
-    def child(self, client):
-        """The executor that a client has started, if there is one."""
-        with open(f"/proc/{client.run.pid}/task/{client.run.pid}/children", encoding="ascii") as file:
-            found = file.read().split()
-        return int(found[0]) if found else None
 
     def test_kept(self):
         """resources are probed as stopped, started, monitored, restarted when they stop, and stopped at the end"""

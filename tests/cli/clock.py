@@ -103,9 +103,9 @@ class Clock(helper.Check):
         return run
 
     def status(self, seconds, name="journal", *words):
-        # the table, while the wall clock is this many seconds ahead, with one space in place of each gap
+        # the status of these or both resources, while the wall clock is this many seconds ahead, with one space in place of each gap
         self.set_ahead(seconds)
-        done = helper.run("status", "--journal", self.place(name), *words, env=self.environment())
+        done = helper.run("status", "--journal", self.place(name), *(words or ("r1", "r2")), env=self.environment())
         self.assertEqual((done.returncode, done.stderr), (0, b""))
         return re.sub(" +", " ", done.stdout.decode())
 
@@ -119,6 +119,7 @@ class Clock(helper.Check):
 
     def is_true_to(self, table, seconds):
         # no duration is longer, and no moment is in the future
+        table = re.sub(r" of at most \d+ s\b", "", table)
         spans = [int(count) * UNITS[unit] for count, unit in re.findall(r"(\d+) (ms|s|min|h|days)\b", table)]
         self.assertGreaterEqual(len(spans), 4, table)
         self.assertLess(max(spans), seconds * 1000, table)
@@ -133,7 +134,7 @@ class Clock(helper.Check):
         for seconds in (0, -3600, 3600, -YEARS, YEARS):
             table = self.status(seconds)
             self.is_true_to(table, 5 + time.monotonic() - began)
-            self.assertRegex(table, r"r1 test:Sleeper never run start since \d+ (ms|s)\n")
+            self.assertRegex(table, r"r1 test:Sleeper never run starting for \d+ (ms|s) of at most 90 s\n")
             self.assertRegex(table, r"\n every 2 s running, \d+ (ms|s) ago; due (in )?\d+ (ms|s)")
         self.is_true_to(self.status(YEARS, "journal", "r2"), 5 + time.monotonic() - began)
         run.run.kill()
@@ -165,10 +166,10 @@ class Clock(helper.Check):
             name = self.copied(f"copy{place}", agents)
             self.is_true_to(self.status(0, name), 5 + time.monotonic() - began)
             table = self.status(-3600, name)
-            self.assertIn("r1 test:Sleeper never run start since a moment in the future by the clock\n", table)
+            self.assertIn("r1 test:Sleeper never run starting since a moment in the future by the clock\n", table)
             self.assertIn("\n every 2 s running, in the future by the clock; due within 2 s\n", table)
             table = self.status(YEARS, name)
-            self.assertIn("r1 test:Sleeper never run start since 3650 days\n", table)
+            self.assertIn("r1 test:Sleeper never run starting for 3650 days of at most 90 s\n", table)
             self.assertRegex(table, r"\n every 2 s running, 3650 days ago; due 36(49|50) days ago\n")
 
 

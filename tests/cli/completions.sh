@@ -16,7 +16,8 @@ missing() {
 # The offers of bash for words, the last of which is being completed, each after a space. Use: in_bash WORD..
 in_bash() {
     bash --norc -c '. "$1"; shift; complete -p ocfexec > /dev/null || exit 1
-        COMP_WORDS=("$@"); COMP_CWORD=$(($# - 1)); _ocfexec; printf "%s\n" "${COMPREPLY[@]}"' bash "$here/bash" "$@" | sort | xargs
+        COMP_WORDBREAKS=" :"; COMP_WORDS=("$@"); COMP_CWORD=$(($# - 1)); _ocfexec; printf "%s\n" "${COMPREPLY[@]}"' \
+        bash "$here/bash" "$@" | sort | xargs
 }
 same "bash, subcommands" "--help --version log metrics once run serve show status" "$(in_bash ocfexec '')"
 same "bash, an option" "--journal" "$(in_bash ocfexec serve --jo)"
@@ -32,6 +33,21 @@ printf '{"op":"register","id":"%s","provider":"heartbeat","type":"Dummy"}\n' web
 mkdir "$here/bin" && ln -s "$program" "$here/bin/ocfexec"
 same "bash, ids of the journal that is named" "db web" "$(PATH=$here/bin:$PATH in_bash ocfexec status --journal "$here/journal" '')"
 same "bash, an id of the journal of the environment" "web" "$(PATH=$here/bin:$PATH OCFEXEC_JOURNAL=$here/journal in_bash ocfexec log w)"
+same "bash, an id after --of" "web" "$(PATH=$here/bin:$PATH in_bash ocfexec once --journal "$here/journal" --of w)"
+same "bash, a word of an option" "always auto never" "$(in_bash ocfexec status --color '')"
+mkdir -p "$here/ocf/resource.d/heartbeat" "$here/ocf/resource.d/my"
+for agent in heartbeat/Dummy heartbeat/Delay heartbeat/.ocf-shellfuncs my/web; do
+    printf '#!/bin/sh\n' > "$here/ocf/resource.d/$agent"
+    chmod +x "$here/ocf/resource.d/$agent"
+done
+echo text > "$here/ocf/resource.d/heartbeat/README"
+same "bash, agents" "heartbeat:Delay heartbeat:Dummy my:web" "$(in_bash ocfexec once --root "$here/ocf" '')"
+same "bash, agents of a provider" "heartbeat:Delay heartbeat:Dummy" "$(in_bash ocfexec once --root "$here/ocf" heart)"
+same "bash, agents after a colon" "Delay Dummy" "$(in_bash ocfexec once --root "$here/ocf" heartbeat :)"
+same "bash, an agent after a colon" "Dummy" "$(in_bash ocfexec once --root "$here/ocf" heartbeat : Du)"
+same "bash, an action" "meta-data monitor" "$(in_bash ocfexec once --root "$here/ocf" heartbeat : Dummy m)"
+same "bash, an action of a resource" "start stop" "$(in_bash ocfexec once --of web st)"
+same "bash, nothing after the action" "" "$(in_bash ocfexec once heartbeat : Dummy monitor '')"
 checked "bash"
 
 # The offers of fish for a line. Use: in_fish LINE
@@ -44,6 +60,9 @@ if command -v fish > /dev/null; then
     same "fish, an option" "--journal" "$(in_fish 'ocfexec serve --jo')"
     same "fish, an option of status, and no word of what fish finds nowhere" "--json" "$(in_fish 'ocfexec status --js' 2>&1)"
     same "fish, an id" "web" "$(PATH=$here/bin:$PATH in_fish "ocfexec status --journal $here/journal w")"
+    same "fish, an id after --of" "web" "$(PATH=$here/bin:$PATH in_fish "ocfexec once --journal $here/journal --of w")"
+    same "fish, an agent" "heartbeat:Dummy" "$(in_fish "ocfexec once --root $here/ocf heartbeat:Du")"
+    same "fish, an action" "monitor" "$(in_fish "ocfexec once heartbeat:Dummy mo")"
     same "fish, a directory" "$here/lib/ $here/libexec/" "$(in_fish "ocfexec serve --journal $here/li")"
     checked "fish"
 else
@@ -84,9 +103,11 @@ if command -v zsh > /dev/null; then
 serve --journal
 status --json
 serve --journal $here/libexec
-status --journal $here/journal web" \
+status --journal $here/journal web
+once --root $here/ocf my:web
+once my:web promote" \
         "$(PATH=$here/bin:$PATH in_zsh 'ocfexec se' 'ocfexec serve --jo' 'ocfexec status --js' "ocfexec serve --journal $here/libe" \
-            "ocfexec status --journal $here/journal w")"
+            "ocfexec status --journal $here/journal w" "ocfexec once --root $here/ocf my" "ocfexec once my:web pro")"
     checked "zsh"
 else
     missing zsh

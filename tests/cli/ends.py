@@ -152,7 +152,7 @@ class Ends(helper.Check):
             run.stdin.flush()
             if word == "serve":
                 helper.opening(run.stdout)
-            self.assertEqual(run.stdout.readline(), b'{"ok":true}\n', word)
+            self.assertEqual(helper.value_of(run.stdout.readline()), {"ok": True}, word)
             self.ends_unheard(run)
             again = helper.run("run", "--journal", folder, told=helper.lines({"op": "list"}))
             self.assertEqual(helper.replies(again.stdout), [{"ok": True, "resources": ["r1"]}], word)
@@ -209,7 +209,7 @@ class Ends(helper.Check):
         run.reader.join()
         self.assertEqual(run.values()[1:], [{"end": "disk"}])
         with open(err, encoding="utf-8") as file:
-            self.assertEqual(file.read().splitlines()[:2], ["ocfexec: disk", f"{folder}/part-a: {why}"])
+            self.assertEqual(file.read().splitlines()[0], f"ocfexec: disk: {folder}/part-a: {why}")
 
     def test_removed(self):
         """a journal that is removed while serve is idle ends it within a second"""

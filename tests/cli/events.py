@@ -16,11 +16,11 @@ ENDS = """case $OCF_RESKEY_code in kill) kill -9 $$ ;; sleep) exec sleep 20 ;; *
 """
 # the line of a start that ends so, and its priority
 STARTS = [
-    ("0", "web: start ok (0) in N ms", 6),
-    ("1", "web: start error (OCF_ERR_GENERIC, 1) in N ms", 3),
-    ("5", "web: start not installed (OCF_ERR_INSTALLED, 5) in N ms", 3),
-    ("6", "web: start not configured (OCF_ERR_CONFIGURED, 6) in N ms", 3),
-    ("77", "web: start a code of the agent's own (other, 77) in N ms", 3),
+    ("0", "web: start ok after N ms", 6),
+    ("1", "web: start failed: error (OCF_ERR_GENERIC, 1) after N ms", 3),
+    ("5", "web: start failed: not installed (OCF_ERR_INSTALLED, 5) after N ms", 3),
+    ("6", "web: start failed: not configured (OCF_ERR_CONFIGURED, 6) after N ms", 3),
+    ("77", "web: start failed: a code of the agent's own (other, 77) after N ms", 3),
     ("kill", "web: start failed: a signal ended the agent after N ms", 3),
 ]
 
@@ -63,13 +63,13 @@ class Events(helper.Check):
     def test_probe(self):
         """a probe that finds it not running is not a failure"""
         self.assertEqual(self.events(self.commands("7", "monitor", expect=7), run=helper.explained),
-                         ["<6>web: monitor not running (OCF_NOT_RUNNING, 7) in N ms"])
+                         ["<6>web: monitor: not running (OCF_NOT_RUNNING, 7) after N ms"])
 
     def test_together(self):
         """both results of a turn have failed: a monitor that finds it not running, and a start of an agent that is missing by then"""
         self.agent("Goes", 'rm "$0"\nexit 7\n')
         told = helper.lines(helper.register("web", "Goes"), helper.action("web", "monitor"), helper.action("web", "start"), {"op": "drain"})
-        self.assertEqual(self.events(told, run=helper.explained), ["<3>web: monitor not running (OCF_NOT_RUNNING, 7) in N ms",
+        self.assertEqual(self.events(told, run=helper.explained), ["<3>web: monitor failed: not running (OCF_NOT_RUNNING, 7) after N ms",
                                                                    "<3>web: start failed: the agent's file is missing"])
 
     def test_recurring(self):
@@ -81,7 +81,7 @@ class Events(helper.Check):
         self.assertEqual(run.ends(), 0)
         with open(self.place("err"), encoding="utf-8") as err:
             first = without_times(err.read()).splitlines()[0]
-        self.assertEqual(first, "<3>web: monitor not running (OCF_NOT_RUNNING, 7) in N ms")
+        self.assertEqual(first, "<3>web: monitor failed: not running (OCF_NOT_RUNNING, 7) after N ms")
 
     def stream(self):
         """A file of standard error that the environment names as the stream to the system's journal; it is created here, and emptied for

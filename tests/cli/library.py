@@ -4,7 +4,9 @@ line and the report of an opening, errors with all that is known, no state that 
 executor is killed; by threads' own executors, and by asyncio.
 Use: library.py PROGRAM"""
 import asyncio
+import concurrent.futures
 import inspect
+import json
 import os
 import random
 import shutil
@@ -25,6 +27,7 @@ sys.path.insert(1, os.path.join(helper.TOP, "python"))
 import ocfexec  # noqa: E402
 import ocfexec._core  # noqa: E402
 
+LIB, CASES, GO = os.path.join(helper.TOP, "tests/lib"), os.path.join(helper.TOP, "tests/cli/library_cases.json"), shutil.which("go")
 KILLS, LONGEST = 100, 100  # and the seconds after which there are no more
 LIST, INFO = {"op": "list"}, {"op": "info", "id": "a"}
 # a program that answers with this instead of the ready line of an executor
@@ -163,7 +166,7 @@ class Library(Case):
         """it has the ready line of the program, also after a report that is longer than a pipe"""
         folder, names, version = self.journal(), [f"r{number}" for number in range(120)], helper.run("--version").stdout.decode().split()[1]
         executor = self.executor("--journal", folder)
-        self.assertEqual(executor.ready, ocfexec.Ready(version, folder, 0, 0, 0))
+        self.assertEqual(self.said(executor.ready), (version, folder, 0, 0, 0))
         executor.ask_all([register(name, "Slow") for name in names])
         executor.ask_all([action(name, "start", timeout=60_000) for name in names for _ in range(30)])
         self.begun(1)
@@ -172,8 +175,11 @@ class Library(Case):
         found = [result.outcome for result in executor.reported]
         # on a busy machine some have ended before; a pipe has 65,536 bytes, and a line of the report more than 100
         self.assertGreater(len(found), 1000)
-        self.assertEqual(executor.ready, ocfexec.Ready(version, folder, 120, found.count("interrupted"), found.count("dropped")))
+        self.assertEqual(self.said(executor.ready), (version, folder, 120, found.count("interrupted"), found.count("dropped")))
         self.assertEqual(executor.leave(), 0)
+
+    def said(self, ready):
+        return ready.version, ready.journal, ready.resources, ready.interrupted, ready.dropped
 
     def test_ends(self):
         """metadata and a tidy that have no text end with a word, which is no problem of a turn"""
@@ -298,12 +304,33 @@ class Library(Case):
 
     def test_memory(self):
         """each program without a journal has numbers of its own, and all its results are delivered"""
-        executor = self.executor("--memory")
+        told = []
+        executor = self.executor("--memory", on_new_journal=told.append)
         for _ in range(3):
             executor.register("a", "test:Fast")
             self.assertEqual(executor.perform("a", "start").run, 1)
             executor.kill()
             executor.start()
+        self.assertEqual(told, 3 * ["the program keeps no journal: calls and runs begin again at 1"])
+
+    def test_identity(self):
+        """a journal keeps its identity, and another one in its place is told, all results of which are delivered"""
+        folder, told = self.journal(), []
+        executor = self.executor("--journal", folder, on_new_journal=told.append)
+        identity = executor.ready.identity
+        self.assertRegex(identity, "^[0-9a-f]{32}$")
+        executor.register("a", "test:Fast")
+        self.assertEqual(executor.perform("a", "start").run, 1)
+        executor.kill()
+        self.assertEqual((executor.start().identity, executor.ready.next_call, told), (identity, 2, []))
+        executor.kill()
+        shutil.rmtree(folder)
+        os.mkdir(folder)
+        executor.start()
+        self.assertNotEqual(executor.ready.identity, identity)
+        self.assertEqual(told, [f"the journal is another one, {executor.ready.identity}: its calls and runs are others"])
+        executor.register("a", "test:Fast")
+        self.assertEqual(executor.perform("a", "start").run, 1)
 
     def test_with(self):
         """a with statement starts the program and lets it leave; one that does not answer is killed"""
@@ -544,6 +571,60 @@ class Asynchronous(Case):
         self.assertEqual([len(reply["params"]) for reply in self.plays(play, patience=240)[1::2]], [15] * 300)
 
 
+class Behaviours(helper.Check):
+    """The list of behaviours of library_cases.json, with an executor that plays their programs."""
+
+    def plays(self, *driver):
+        """Does the steps of all cases with this driver of a library, several at once."""
+        with open(CASES, encoding="utf-8") as file:
+            cases = json.load(file)
+        with concurrent.futures.ThreadPoolExecutor(4) as pool:
+            found = [*pool.map(lambda number: self.came(driver, number, cases[number]), range(len(cases)))]
+        self.assertGreater(len(cases), 20)
+        for case, printed in zip(cases, found):
+            self.assertEqual(printed, (case["prints"], ""), case["name"])
+
+    def came(self, driver, number, case):
+        """What a driver prints, without the first results that a case skips, and its standard error."""
+        words = [sys.executable, os.path.join(LIB, "player.py"), CASES, str(number), self.place(f"starts-{number}")]
+        done = subprocess.run([*driver, CASES, str(number), *words], capture_output=True, text=True, timeout=helper.WHOLE)
+        lines, skipped = [json.loads(line) for line in done.stdout.splitlines()], 0
+        if "skips" in case:
+            results = [line for line in lines if isinstance(line, str)][:case["skips"]]
+            runs = [int(line.split()[2]) for line in results]
+            self.assertEqual(runs, list(range(1, case["skips"] + 1)), case["name"])
+            skipped = len(results)
+        return [line for line in lines if not isinstance(line, str) or (skipped := skipped - 1) < 0], done.stderr
+
+    def test_python(self):
+        """the library does what its list of behaviours says"""
+        self.plays(sys.executable, os.path.join(LIB, "driver.py"), "executor")
+
+    def test_asyncio(self):
+        """with asyncio, too, it does what the list says"""
+        self.plays(sys.executable, os.path.join(LIB, "driver.py"), "asyncio")
+
+    @unittest.skipUnless(GO, "install the package golang-go")
+    def test_go(self):
+        """the library in Go does what the list says"""
+        self.goes("build", "-o", self.place("driver"), ".", folder=os.path.join(LIB, "driver"))
+        self.plays(self.place("driver"))
+
+    def goes(self, *words, folder, tool=GO):
+        """A run of Go's tools, which need no network."""
+        more = {"GOFLAGS": "-mod=mod", "GOPROXY": "off", "GOTOOLCHAIN": "local", "CGO_ENABLED": "0"}
+        home = {} if os.environ.get("HOME") else {"HOME": self.here}
+        done = subprocess.run([tool, *words], cwd=folder, env={**os.environ, **more, **home}, capture_output=True, text=True)
+        self.assertEqual((done.returncode, done.stdout, done.stderr), (0, "", ""))
+
+    @unittest.skipUnless(GO, "install the package golang-go")
+    def test_go_form(self):
+        """gofmt and go vet find nothing in what is written in Go"""
+        for folder in (os.path.join(helper.TOP, "examples/go"), os.path.join(LIB, "driver")):
+            self.goes("vet", "./...", folder=folder)
+            self.goes("-l", ".", folder=folder, tool="gofmt")
+
+
 class Package(helper.Check):
     def test_version(self):
         """its version is that of the program, and all its names exist"""
@@ -551,10 +632,10 @@ class Package(helper.Check):
         self.assertEqual([name for name in ocfexec.__all__ if not hasattr(ocfexec, name)], [])
 
     def test_same_names(self):
-        """both executors have the same methods with the same parameters"""
+        """both executors have the same methods with the same parameters, except those for a program that waits for nothing"""
         kinds = (ocfexec.Executor, ocfexec.AsyncExecutor)
         names = [{name for name in vars(kind) if not name.startswith("_")} for kind in kinds]
-        self.assertEqual(names[0] - {"fileno"}, names[1])
+        self.assertEqual(names[0] - {"fileno", "replies", "submit"}, names[1])
         for name in names[1]:
             parameters = [[(one.name, one.kind, one.default) for one in inspect.signature(getattr(kind, name)).parameters.values()]
                           for kind in kinds]
@@ -575,7 +656,8 @@ class Package(helper.Check):
     def test_types(self):
         """mypy passes it, the client of examples and a program that uses it, and refuses a wrong use"""
         package, examples = os.path.join(helper.TOP, "python"), os.path.join(helper.TOP, "examples")
-        clients = [os.path.join(examples, f"{name}.py") for name in ("client", "agents", "kept", "output", "resources")]
+        names = ("client", "agents", "alerts", "calls", "control", "kept", "ocfctl", "orders", "output", "resources", "targets")
+        clients = [os.path.join(examples, f"{name}.py") for name in names]
         wrong = TYPED.replace("call: int", "call: str")
         for text, status in ((TYPED, 0), (wrong, 1)):
             with open(self.place("uses.py"), "w", encoding="ascii") as file:

@@ -94,7 +94,12 @@ FAULTY = [
 ]
 REFUSED = [command for _, command in FAULTY]
 NEVER = {"failed": None, "id": "r1", "queued": 0, "running": None, "since": None, "state": "never run"}
-READY = {"dropped": 0, "interrupted": 1, "journal": "/var/lib/ocfexec", "ready": True, "resources": 3, "version": "0.1.0"}
+SHOWN = {**NEVER, "at_least": False, "executor": None, "held": None, "identity": None}
+READY = {"dropped": 0, "identity": "0123456789abcdef" * 2, "interrupted": 1, "journal": "/var/lib/ocfexec", "kind": "ready",
+         "next_call": 42, "ready": True, "resources": 3, "version": "0.1.0"}
+NOTICE = {"action": "start", "at": 2, "call": 1, "code": 0, "expect": 0, "failed": False, "id": "r1", "interval": 0, "key": "r1_start_0",
+          "kind": "notice", "name": "OCF_SUCCESS", "outcome": "done", "reason": None, "run": 1, "since": 1}
+REPORT = {**NOTICE, "code": 1, "kind": "report", "name": "OCF_ERR_GENERIC", "outcome": "interrupted"}
 NO_LINES = [
     {"ok": False},
     {"ok": True, "call": 0, "key": "r1_start_0"},
@@ -117,27 +122,62 @@ NO_LINES = [
     {**READY, "journal": 5},
     {**READY, "interrupted": 257},
     {**READY, "tag": "a"},
+    {**READY, "identity": "0123456789ABCDEF" * 2},
+    {**READY, "identity": "0" * 31},
+    {**READY, "next_call": 0},
+    *({key: READY[key] for key in READY if key != left_out} for left_out in READY),
+    {**READY, "kind": "reply"},
     {"ready": True},
     {"meta": 4, "tag": "a"},
+    {"meta": 4, "kind": "reply"},
     {"metadata": "<?xml"},
-    {"metadata": 4, "ok": True},
+    {"kind": "reply", "metadata": 4, "ok": True},
+    {"kind": "notice", "ok": True},
+    {"end": "idle", "kind": "trouble"},
+    {"end": "full", "kind": "trouble", "tag": "a"},
+    {"end": "idle", "tag": "a"},
+    {**NOTICE, "kind": "report"},
+    {**NOTICE, "lives": 4711},
+    {**NOTICE, "outcome": "dropped"},
+    *({key: NOTICE[key] for key in NOTICE if key != left_out} for left_out in ("kind", "reason", "failed")),
+    {**REPORT, "kind": "notice"},
+    {**REPORT, "tag": "a"},
+    NEVER,
     {**NEVER, "tag": "a"},
+    {**SHOWN, "tag": "a"},
+    {**SHOWN, "identity": "F" * 32},
+    {**SHOWN, "running": {"action": "start", "since": 5}},
+]
+# lines of status --json
+SHOWN_LINES = [
+    SHOWN,
+    {**SHOWN, "executor": False, "identity": "0" * 32, "running": {"action": "start", "since": 5, "timeout": 20000}},
 ]
 # and lines that serve prints
 LINES = [
     READY,
     {**READY, "journal": None, "interrupted": 256, "dropped": 8192, "resources": 256},
-    {"ok": True, "version": "10.20.30"},
-    {"ok": True, "status": [], "tag": ""},
-    {"ok": True, "status": [NEVER], "tag": "a"},
-    {"metadata": "", "ok": True, "tag": "a"},
-    {"end": "no-text", "tag": "a"},
-    {"code": 5, "end": "failed", "tag": "a"},
-    {"error": "exists", "message": "this id is registered already", "number": 6, "tag": "a"},
-    {"ok": True, "tag": "x" * 64},
-    {"call": 1, "key": "r1_start_0", "ok": True, "tag": "a"},
-    {"ok": True, "resources": ["r1"], "tag": "a"},
-    {"ok": True, "results": [], "tag": "a"},
+    {**READY, "identity": None},
+    NOTICE,
+    {**NOTICE, "failed": True, "reason": "no such file", "signal": 9, "tag": "a"},
+    REPORT,
+    {**REPORT, "lives": 4711},
+    {**REPORT, "outcome": "dropped", "run": 0},
+    {"end": "full", "kind": "trouble"},
+    *({"kind": "reply", **reply} for reply in (
+        {"ok": True},
+        {"ok": True, "version": "10.20.30"},
+        {"ok": True, "status": [], "tag": ""},
+        {"ok": True, "status": [NEVER], "tag": "a"},
+        {"metadata": "", "ok": True, "tag": "a"},
+        {"end": "no-text", "tag": "a"},
+        {"code": 5, "end": "failed", "tag": "a"},
+        {"error": "exists", "message": "this id is registered already", "number": 6, "tag": "a"},
+        {"ok": True, "tag": "x" * 64},
+        {"call": 1, "key": "r1_start_0", "ok": True, "tag": "a"},
+        {"ok": True, "resources": ["r1"], "tag": "a"},
+        {"ok": True, "results": [], "tag": "a"},
+    )),
 ]
 
 
@@ -170,9 +210,11 @@ class Schema(helper.Check):
             self.assertFalse(schema.lines().is_valid(value), json.dumps(value))
 
     def test_lines(self):
-        """a line that serve prints is valid"""
-        for value in LINES:
+        """a line that serve or status prints is valid"""
+        for value in LINES + SHOWN_LINES:
             self.assertTrue(schema.lines().is_valid(value), json.dumps(value))
+        for value in LINES:
+            self.assertTrue(schema.validator_of("served_line").is_valid(value), json.dumps(value))
 
     def test_served_alone(self):
         """keys and operations of serve alone are accepted or refused as by the schema; run knows neither these words nor a tag"""
@@ -197,7 +239,8 @@ class Schema(helper.Check):
             self.assertNotIn("message", of_run, asked)
             if key:
                 self.assertEqual(of_serve["key"], key, asked)
-                self.assertIn(f"{key} must be " if key != "unknown" else "no such key", of_serve["message"], asked)
+                wanted = {"unknown": "no such key", "op": " operation|op must be "}.get(key, f"{key} must be ")
+                self.assertRegex(of_serve["message"], wanted, asked)
 
     def test_commands(self):
         """the program refuses as malformed exactly the commands that the schema refuses"""

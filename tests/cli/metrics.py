@@ -3,6 +3,7 @@
 is installed; compared with the output of `show` and `status`, and with a second reader of the journal, at rest, while an action runs, and
 after a timeout, an interruption and a tidy. The numbers of ended and failed runs are counted anew from the journal's bytes.
 Use: metrics.py PROGRAM"""
+import fcntl
 import os
 import re
 import shutil
@@ -31,6 +32,8 @@ FAMILIES = {
     "ocfexec_resource_failure_age_seconds": ("gauge", ["resource"]),
     "ocfexec_monitor_last_code": ("gauge", ["resource", "interval_ms", "outcome"]),
     "ocfexec_monitor_last_age_seconds": ("gauge", ["resource", "interval_ms"]),
+    "ocfexec_up": ("gauge", []), "ocfexec_start_time_seconds": ("gauge", []), "ocfexec_last_record_age_seconds": ("gauge", []),
+    "ocfexec_resource_held": ("gauge", ["resource"]),
 }
 NAME = r"[a-zA-Z_:][a-zA-Z0-9_:]*"
 LABEL = re.compile(r'([a-zA-Z_][a-zA-Z0-9_]*)="((?:[^"\\\n]|\\["\\n])*)"')
@@ -168,6 +171,10 @@ class Metrics(helper.Check):
         ages = {family: dict(found.pop(family)) for family in [family for family in found if family.endswith("_age_seconds")]}
         part = journal_format.found(*helper.parts(self.folder))
         kinds = [event["event"] for event in part.events()]
+        is_up = self.is_held()
+        self.assertEqual(len(found.pop("ocfexec_start_time_seconds")), is_up)
+        # (what a killed executor left ends at some time)
+        self.assertLessEqual(set(found.pop("ocfexec_resource_held")), {((name,), 1) for name in names})
         counts = counted(part)
         self.assertEqual(list(counts), names)
         runs = [(name, monitor["interval"], [result for result in results[name] if result["call"] == monitor["call"]])
@@ -175,7 +182,7 @@ class Metrics(helper.Check):
         last = [(name, results[name][-1]) for name in names if results[name]]
         failed = [(name, infos[name]["failed"]) for name in names if infos[name]["failed"]]
         self.assertEqual(found, {
-            "ocfexec_journal_epoch": [((), part.epoch)], "ocfexec_journal_bytes": [((), part.end)],
+            "ocfexec_up": [((), is_up)], "ocfexec_journal_epoch": [((), part.epoch)], "ocfexec_journal_bytes": [((), part.end)],
             "ocfexec_calls_total": [((), part.state["next_call"] - 1 + kinds.count("exec") + kinds.count("recur"))],
             "ocfexec_runs_total": [((), part.state["next_run"] - 1 + kinds.count("begin"))], "ocfexec_resources": [((), len(names))],
             "ocfexec_resource_state": [((name, state), int(states[name]["state"] == state)) for name in names for state in STATES],
@@ -188,7 +195,9 @@ class Metrics(helper.Check):
             "ocfexec_monitor_last_code": [((name, str(interval), each[-1]["outcome"]), each[-1]["code"])
                                           for name, interval, each in runs if each],
         })
+        newest = max([part.state["clock"], *(event["at"] for event in part.events())])
         at = {
+            "ocfexec_last_record_age_seconds": {(): newest} if newest else {},
             "ocfexec_resource_last_age_seconds": {(name,): each["at"] for name, each in last},
             "ocfexec_resource_failure_age_seconds": {(name,): each["at"] for name, each in failed},
             "ocfexec_monitor_last_age_seconds": {(name, str(interval)): each[-1]["at"] for name, interval, each in runs if each},
@@ -198,6 +207,17 @@ class Metrics(helper.Check):
             for series, moment in moments.items():
                 self.assertAlmostEqual(ages[family][series], now - moment / 1000, delta=5 * helper.slowness(), msg=f"{family} of {series}")
         return found
+
+    def is_held(self):
+        """Whether an executor holds the lock of the directory."""
+        directory = os.open(self.folder, os.O_RDONLY)
+        try:
+            fcntl.flock(directory, fcntl.LOCK_SH | fcntl.LOCK_NB)
+        except BlockingIOError:
+            return 1
+        finally:
+            os.close(directory)
+        return 0
 
     def counts(self, found):
         """The runs and the failures of each resource."""
@@ -284,6 +304,28 @@ class Metrics(helper.Check):
         found = self.counts(self.is_whole())
         self.assertEqual((found["web"], found["slow"], found["db"][1]), ((0, 0), (1, 1), 0))
         self.assertGreater(found["db"][0], 0)
+
+    def test_executor(self):
+        """whether an executor has the journal, and since when; and a resource that waits for what an executor left"""
+        self.agent("Slow", 'echo $$ > "$OCF_RESKEY_pid"\nexec sleep 60\n')
+        self.asks(register("web", "Slow", pid=self.place("pid")))
+        self.assertEqual(self.metrics()["ocfexec_up"], [((), 0)])
+        began = int(time.time())
+        run = self.heard("serve", "--journal", self.folder, "--root", self.here)
+        run.ready()
+        found = self.metrics()
+        self.assertEqual((found["ocfexec_up"], found["ocfexec_resource_held"]), ([((), 1)], []))
+        self.assertAlmostEqual(found["ocfexec_start_time_seconds"][0][1], began, delta=5 * helper.slowness())
+        run.tell(action("web", "start"))
+        self.numbers_in(self.place("pid"))
+        run.killed()
+        found = self.metrics()
+        self.assertEqual((found["ocfexec_up"], found["ocfexec_start_time_seconds"]), ([((), 0)], []))
+        run = self.heard("serve", "--journal", self.folder, "--root", self.here)
+        run.ready()
+        self.assertEqual(self.metrics()["ocfexec_resource_held"], [(("web",), 1)])
+        run.killed()
+        self.asks()
 
     @unittest.skipUnless(PROMTOOL, "install prometheus, for promtool")
     def test_promtool(self):

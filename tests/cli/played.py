@@ -16,10 +16,13 @@ from journal_format import CLOSED, LAST_EPOCH, MOST, START, STOP, event, head, r
 REG = register("r1", "Dummy", "pacemaker")
 LIST, DRAIN = {"op": "list"}, {"op": "drain"}
 OK, ONE_LISTED = '{"ok":true}', '{"ok":true,"resources":["r1"]}'
+SERVED_OK, TROUBLE = '{"kind":"reply","ok":true}', '{"end":"disk","kind":"trouble"}'
 STARTED = '{"action":"start","call":1,"code":0,"id":"r1","interval":0,"name":"OCF_SUCCESS","outcome":"done","run":1}'
 ACCEPTED, IDLE = '{"call":1,"key":"r1_start_0","ok":true}', '{"end":"idle"}'
 DISK, CLOSED_NOW = '{"error":"disk","number":16}', '{"error":"closed","number":17}'
 ROOT, PATH = "/usr/lib/ocf", "/usr/sbin:/usr/bin:/sbin:/bin"
+# of each simulated journal
+IDENTITY = "00112233445566778899aabbccddeeff"
 
 
 def refusal(word, number):
@@ -87,8 +90,11 @@ class Played(helper.Check):
     def is_ready(self, run, **said):
         """A serving run sends one ready line, with this: what it found, and its version."""
         version = self.play("ocfexec --version")[0].out[0].split(" ")[1]
-        found = {"dropped": 0, "interrupted": 0, "journal": "/j", "ready": True, "resources": 0, "version": version, **said}
-        self.assertEqual(run.ready, [json.dumps(found, separators=(",", ":"))])
+        found = {"dropped": 0, "identity": IDENTITY, "interrupted": 0, "journal": "/j", "kind": "ready", "next_call": 1, "ready": True,
+                 "resources": 0, "version": version, **said}
+        [ready] = map(json.loads, run.ready)
+        self.assertEqual(ready, found)
+        self.assertEqual(run.ready, [json.dumps(ready, separators=(",", ":"), sort_keys=True)])
 
     def memory(self, out, *commands, words="ocfexec run --memory", more=()):
         """The run of these commands in memory, which ends well."""
@@ -210,22 +216,23 @@ class Asked(Played):
         run = self.ends("0", [OK], "directory /j", "clock 500", *lines(REG), f"ocfexec run {words}")
         self.assertEqual(run.asked(), [
             "ignored", "signals", "log l d", "files /j yes", "reader", "agents /j 7 yes no 768", "watch -", "moment 500", "moment 500",
-            "source /r /p v yes", "groups no", "writer -", "give-up", "ran well", "ended 0"])
+            "source /r /p v yes", "groups no", "identity /j", "writer -", "reasons d", "give-up", "ran well", "ended 0"])
 
     def test_serve(self):
         """the requests of a serving run: its directory is watched; by default agents are where the manual page says"""
-        run = self.ends("0", [OK], "directory /j", *lines(REG), "ocfexec serve --journal /j")
+        run = self.ends("0", [SERVED_OK], "directory /j", *lines(REG), "ocfexec serve --journal /j")
         self.assertEqual(run.asked(), [
             "ignored", "signals", "log - -", "files /j no", "reader", "agents /j 20000 no yes 768", "watch /j", "moment 0", "moment 0",
-            f"source {ROOT} {PATH} - no", "groups yes", "writer /j", "give-up", "ran well", "ended 0"])
+            f"source {ROOT} {PATH} - no", "groups yes", "identity /j", "writer /j", "reasons -", "give-up", "ran well", "ended 0"])
         self.is_ready(run)
 
     def test_memory(self):
         """a run in memory requests no directory and writes nothing on standard error"""
         run = self.ends("0", [], "ocfexec serve --memory")
         self.assertEqual(run.asked(), ["ignored", "signals", "log - -", "reader", "agents - 20000 no yes 768", "watch -", "moment 0",
-                                       f"source {ROOT} {PATH} - no", "groups yes", "writer -", "give-up", "ran well", "ended 0"])
-        self.is_ready(run, journal=None)
+                                       f"source {ROOT} {PATH} - no", "groups yes", "identity -", "writer -", "reasons -", "give-up",
+                                       "ran well", "ended 0"])
+        self.is_ready(run, journal=None, identity=None)
 
     def test_site(self):
         """an agent is called at the site of the options"""
@@ -249,8 +256,9 @@ class Asked(Played):
 
     def test_once(self):
         """an action that is run once has its own status, and requests no journal"""
-        run = self.ends("77", [], "ocfexec once heartbeat:Dummy start --root /r")
-        self.assertEqual(run.asked(), ["once heartbeat:Dummy start", f"site /r {PATH} - no", "ended 77"])
+        for words, asked in [("heartbeat:Dummy start", "heartbeat:Dummy start"), ("--of web start --journal /j", "web of /j start")]:
+            run = self.ends("77", [], f"ocfexec once {words} --root /r")
+            self.assertEqual(run.asked(), [f"once {asked}", f"site /r {PATH} - no", "ended 77"])
 
     def test_left(self):
         """serve names an orphan by its number, run does not; orphans are looked for before the moment of the opening"""
@@ -262,7 +270,7 @@ class Asked(Played):
             if word == "serve":
                 said = run.of(">")
                 self.assertEqual(said[:2], [run.out[0], run.ready[0]], "it is ready behind the report")
-                self.is_ready(run, interrupted=1, resources=1)
+                self.is_ready(run, interrupted=1, next_call=2, resources=1)
             asked = run.asked()
             self.assertLess(asked.index("agents /j 20000 yes yes 768"), asked.index("moment 500"))
 
@@ -280,7 +288,7 @@ class Asked(Played):
         for fails, mark in [([], ""), (["fail marked"], "<6>")]:
             run = self.memory([OK, ACCEPTED, STARTED, IDLE], REG, action("r1", "start"), DRAIN, more=["poll exited 0", *fails],
                               words="ocfexec run --memory --events")
-            self.assertEqual([line.rpartition(" in ")[0] for line in run.err], [f"{mark}r1: start ok (0)"])
+            self.assertEqual([line.rpartition(" after ")[0] for line in run.err], [f"{mark}r1: start ok"])
 
     def test_tidied(self):
         """a tidy that gains less than two megabytes is not made, however little the journal may hold"""
@@ -335,11 +343,11 @@ class Fails(Played):
     def test_served(self):
         """a removed journal ends serve with 5 and a line, and a reader that goes away with 7; run goes on"""
         gone = ["directory /j", "gone /j 2000", "end 10000", *lines(REG)]
-        run = self.ends("5 disk", [OK, '{"end":"disk"}'], *gone, "ocfexec serve --journal /j")
+        run = self.ends("5 disk", [SERVED_OK, TROUBLE], *gone, "ocfexec serve --journal /j")
         self.assertEqual([run.of("check"), len(run.of("met"))], [[""], 1])
         unread = ["unread 2000", "end 10000", *lines(REG), "ocfexec serve --memory"]
-        self.assertEqual(self.ends("7 input or output", [OK], *unread).of("check"), [])
-        self.ends("0", [OK], "end 10000", *lines(REG), "ocfexec serve --memory")
+        self.assertEqual(self.ends("7 input or output", [SERVED_OK], *unread).of("check"), [])
+        self.ends("0", [SERVED_OK], "end 10000", *lines(REG), "ocfexec serve --memory")
 
     def test_texts(self):
         """help that is printed, that nobody reads, and that cannot be written"""
@@ -349,20 +357,22 @@ class Fails(Played):
         self.assertEqual(self.play("ocfexec --version")[0].out[0].split(" ")[0], "ocfexec")
 
     def test_usage(self):
-        """arguments that are refused, with the text and status 2"""
-        for words in ("ocfexec", "ocfexec fly", "ocfexec run --fast"):
-            run = self.ends("2 usage", [], words)
+        """arguments that are refused, with the text and status 2; of once with 125"""
+        for words, ended in [("ocfexec", "2 usage"), ("ocfexec fly", "2 usage"), ("ocfexec run --fast", "2 usage"),
+                             ("ocfexec once --fast", "125")]:
+            run = self.ends(ended, [], words)
             self.assertIn("Usage:", "\n".join(run.err))
-            self.assertEqual(run.asked(), ["ended 2 usage"])
-        choice = "2 give one of --journal and --memory"
-        for words, ended in [("run", choice), ("show --memory --journal /j", choice),
-                             ("run --memory --tidy-at x", "2 give --tidy-at a number from 0 to 8388608"),
-                             ("run --memory --root r", "2 give --root an absolute path"),
-                             ("run --memory --orphans 86400001", "2 give --orphans a number from 0 to 86400000")]:
-            self.fails(ended, [], f"ocfexec {words}")
-        for words, line in [("log --memory --since no", "give --since a moment, as 2026-11-27 or 2026-11-27T06:30"),
-                            ("once p:t start --timeout 0", "give --timeout milliseconds, from 1 to 4294967295")]:
-            self.assertEqual(self.ends("2 usage", [], f"ocfexec {words}").err, [f"ocfexec: {line}"])
+            self.assertEqual(run.asked(), [f"ended {ended}"])
+        for words in ("run", "show --memory --journal /j"):
+            self.fails("2 give one of --journal and --memory", [], f"ocfexec {words}")
+        since = "give --since a moment, as 2026-11-27 or 2026-11-27T06:30, or a span, as 10m or 2h"
+        for words, ended, line in [("run --memory --tidy-at x", "2 usage", "give --tidy-at a number from 0 to 8388608"),
+                                   ("run --memory --root r", "2 usage", "give --root an absolute path"),
+                                   ("run --memory --orphans 86400001", "2 usage", "give --orphans a number from 0 to 86400000"),
+                                   ("log --memory --since no", "2 usage", since),
+                                   ("once p:t start --timeout 0", "125", "give --timeout milliseconds, from 1 to 4294967295")]:
+            run = self.ends(ended, [], f"ocfexec {words}")
+            self.assertEqual((run.err, run.asked()), ([line], [f"ended {ended}"]))
 
 
 if __name__ == "__main__":

@@ -13,12 +13,13 @@ LARGE = {f"p{place}": "x" * 1024 for place in range(16)}
 # Commands, and for each refused one its word, its key and a part of its sentence, from FORMAT.
 SPOKEN = [
     (register("r1", "None"), None),
-    (register("r1", "None"), ("exists", None, "this id is registered")),
+    (register("r1", "None"), ("exists", None, "register: a resource of this id is registered.")),
     ({"op": "info", "id": "r2"}, ("unknown-resource", "id", "no resource of this id")),
     ({"op": "cancel", "id": "r1", "interval": 5}, ("no-such-recurring", "interval", "no recurring monitor of this interval")),
     ({"op": "withdraw", "id": "r1", "call": 7}, ("not-queued", "call", "no action of this call is queued")),
     ({"op": "params", "id": "r1", "params": LARGE}, ("too-large", "params", "16384 bytes")),
     *[({"op": "recur", "id": "r1", "interval": 86400000 + place}, None) for place in range(8)],
+    ({"op": "recur", "id": "r1", "interval": 86400000}, ("exists", None, "recur: this resource has a recurring monitor of this interval.")),
     ({"op": "recur", "id": "r1", "interval": 86400009}, ("recurring-full", "id", "8 recurring monitors")),
     *[(action("r1", "stop"), None) for _ in range(32)],
     (action("r1", "stop"), ("queue-full", "id", "32 actions")),
@@ -29,7 +30,14 @@ SPOKEN = [
     ({"op": "exec", "id": "r1", "action": "restart"}, ("bad-value", "action", "start, stop, monitor, promote, demote, reload-agent or")),
     ({"op": "drain", "limit": -1}, ("syntax", "limit", "a number from 0 to 86400000")),
     ({"op": "watch", "limit": 0}, ("bad-value", "limit", "a number from 1 to 4294967295")),
-    ({"op": "start", "id": "r1"}, ("unknown-op", "op", "the name of an operation")),
+    ({"op": "start", "id": "r1"}, ("unknown-op", "op", 'there is no operation start; use {"op":"exec","action":"start",..}')),
+    *[({"op": what, "id": "r1"}, ("unknown-op", "op", f'use {{"op":"exec","action":"{what}",..}}'))
+      for what in ("stop", "monitor", "promote", "demote", "reload-agent", "validate-all")],
+    *[({"op": what}, ("unknown-op", "op", f"there is no operation {what}; op must be one of register, unregister, params, exec,"))
+      for what in ("restart", "Register", 'a "\u00e9\0', "x" * 64)],
+    ({"op": "x" * 65}, ("unknown-op", "op", "op must be one of register,")),
+    ({"op": 5}, ("syntax", "op", "op must be one of register,")),
+    ({}, ("syntax", "op", "op must be one of register,")),
 ]
 # Lines that are no commands.
 BROKEN = [b"x", b"{", b'"list"', b"[]", b" " * 131_073, b'{"op":"list","op":"list"}', b"\xff"]

@@ -96,9 +96,14 @@ class Service(helper.Check):
 class Ready(Service):
     def is_ready(self, run, **said):
         """It sends the ready line, with this: what it found, and its version."""
-        found = {"dropped": 0, "interrupted": 0, "journal": None, "ready": True, "resources": 0, "version": self.version(), **said}
-        self.assertEqual(run.ready(), found)
-        self.assertEqual(run.said[-1].decode(), written(found) + "\n", "as it is written")
+        found = {"dropped": 0, "identity": None, "interrupted": 0, "journal": None, "next_call": 1, "ready": True, "resources": 0,
+                 "version": self.version(), **said}
+        ready = run.ready()
+        if found["journal"] is not None:
+            self.assertRegex(ready["identity"], "^[0-9a-f]{32}$")
+            found["identity"] = ready["identity"]
+        self.assertEqual(ready, found)
+        self.assertEqual(run.said[-1].decode(), written({**found, "kind": "ready"}) + "\n", "as it is written")
 
     def version(self):
         return helper.run("--version").stdout.decode().split()[1]
@@ -147,12 +152,28 @@ class Ready(Service):
         outcomes = [value.get("outcome", "ready" if "ready" in value else "reply") for value in found if value.get("interval") != 50][:7]
         self.assertEqual(sorted(outcomes[:5]), ["dropped"] * 3 + ["interrupted"] * 2)
         self.assertEqual(outcomes[5:], ["ready", "reply"])
-        self.assertEqual(helper.opened(done.stdout)[1],
-                         {"dropped": 3, "interrupted": 3, "journal": folder, "ready": True, "resources": 3, "version": self.version()})
+        ready = helper.opened(done.stdout)[1]
+        self.assertEqual({**ready, "identity": None},
+                         {"dropped": 3, "identity": None, "interrupted": 3, "journal": folder, "next_call": 7, "ready": True,
+                          "resources": 3, "version": self.version()})
         # (actions begun after that opening were ended with the input)
         self.assertEqual(helper.run("run", "--journal", folder).returncode, 0)
         run = self.serves("--journal", folder)
-        self.is_ready(run, journal=folder, resources=3)
+        self.is_ready(run, journal=folder, resources=3, next_call=7)
+
+    def test_next_call(self):
+        """the ready line has the call that the next accepted action or monitor gets"""
+        folder = self.journal()
+        run = self.serves("--journal", folder)
+        self.is_ready(run, journal=folder)
+        self.asked(run, register("a", "Ends"), {"op": "info", "id": "a"}, action("b", "start"))
+        self.assertEqual(self.asked(run, action("a", "start"), action("a", "stop"))[0]["call"], 1)
+        self.told(run, call=2)
+        self.assertEqual(run.ends(), 0)
+        run = self.serves("--journal", folder)
+        self.is_ready(run, journal=folder, resources=1, next_call=3)
+        self.assertEqual(self.asked(run, recur("a", 70_000))[0]["call"], 3)
+        self.assertEqual(run.ends(), 0)
 
     def test_orphan(self):
         """it is ready while an orphan of an interrupted action lives, whose number is in the report"""
@@ -164,7 +185,7 @@ class Ready(Service):
         self.addCleanup(lambda: helper.is_alive(pid) and os.kill(pid, 9))
         run.killed()
         run = self.serves("--journal", folder)
-        self.is_ready(run, journal=folder, interrupted=1, resources=1)
+        self.is_ready(run, journal=folder, interrupted=1, next_call=2, resources=1)
         self.assertTrue(helper.is_alive(pid), "it lives")
         self.assertEqual([helper.value_of(line)["lives"] for line in run.said[:-1]], [pid])
         self.assertEqual(run.ends(), 0)
@@ -178,11 +199,19 @@ class Ready(Service):
 
 
 class Statuses(Service):
-    def is_as_printed(self, run, folder):
-        """The status of all resources, as status --json prints it for the same journal."""
+    def is_as_printed(self, run, folder, forgotten=()):
+        """The status of all resources: what status --json prints for the same journal has these keys and more, where the histories reach
+        as far as its records. Those of forgotten resources do not: by the records they are unknown."""
         [found] = self.asked(run, STATUS)
-        printed = helper.replies(helper.run("status", "--json", "--journal", folder).stdout)
-        self.assertEqual(found, {"ok": True, "status": [value for value in printed if "state" in value]})
+        printed = [value for value in helper.replies(helper.run("status", "--json", "--journal", folder).stdout) if "state" in value]
+        for value in printed:
+            if value["running"]:
+                del value["running"]["timeout"]
+            if value["id"] in forgotten:
+                self.assertEqual(value["state"], "unknown")
+                value["state"] = "never run"
+        keys = ("failed", "id", "queued", "running", "since", "state")
+        self.assertEqual(found, {"ok": True, "status": [{key: value[key] for key in keys} for value in printed]})
         return {value["id"]: value for value in found["status"]}
 
     def test_states(self):
@@ -215,7 +244,7 @@ class Statuses(Service):
         self.opens()
         self.told(run, id="runs", action="monitor")
         self.asked(run, {"op": "unregister", "id": "started"}, {"op": "forget", "id": "failed"}, register("started", "Ends"))
-        found = self.is_as_printed(run, folder)
+        found = self.is_as_printed(run, folder, forgotten=["failed"])
         self.assertEqual((list(found)[-1], found["started"]["state"], found["failed"]["state"]), ("started", "never run", "never run"))
         self.assertEqual(run.ends(), 0)
 
@@ -260,7 +289,7 @@ class Metadata(Service):
         of_serve, of_run = [helper.run(word, "--memory", "--root", self.here, told=helper.lines(meta("Tells", **more))).stdout
                             for word in ("serve", "run")]
         [line] = of_serve.splitlines(keepends=True)[1:]
-        self.assertEqual(line.decode(), written(helper.value_of(line)) + "\n", "as it is written")
+        self.assertEqual(line.decode(), written(json.loads(line)) + "\n", "as it is written")
         return helper.value_of(line), of_run
 
     def test_texts(self):

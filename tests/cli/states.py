@@ -9,22 +9,24 @@ import time
 sys.path[0] += "/../lib"
 import helper  # noqa: E402
 
-# Whether an administrator has to act, by the exit status.
+# Whether an administrator has to act, by the exit status, while an executor has the journal; without one it is 10.
 ALARM = {"failed": 9, "unknown": 9}
+LEFT = 10
 # a duration, and the space that it leaves in its column
 LENGTH = re.compile(r"\d+ (ms|s|min)\b *|(?<=STATE) +")
-# The ends of actions, one after the other, and the state of the resource after them.
+# The ends of actions, one after the other, and the state of the resource after them, as a table has it.
 BY_CODES = [
     (0, "monitor", "started"), (7, "monitor", "failed"), (0, "start", "started"), (0, "validate-all", "started"),
     (0, "promote", "promoted"), (0, "reload-agent", "promoted"), (0, "demote", "started"), (0, "stop", "stopped"),
-    (190, "monitor", "started"), (1, "monitor", "failed"), (0, "start", "started"), (6, "reload-agent", "failed"),
+    (190, "monitor", "started, degraded"), (1, "monitor", "failed"), (0, "start", "started"), (6, "reload-agent", "failed"),
     (0, "start", "started"), (1, "stop", "failed"), (0, "stop", "stopped"), (9, "monitor", "failed"), (255, "monitor", "failed"),
     (0, "promote", "promoted"), (190, "promote", "failed"), (0, "stop", "failed"), (0, "start", "started"), (0, "stop", "stopped"),
     (0, "start", "started"), (7, "monitor", "failed"), (0, "stop", "failed"), (1, "start", "failed"), (0, "stop", "failed"),
     (0, "start", "started"), (0, "stop", "stopped"),
 ]
 # The code of a monitor, the expected code, and the state of the resource after it.
-EXPECTED = [(7, 7, "stopped"), (8, 8, "promoted"), (191, 8, "promoted"), (0, 8, "failed"), (0, 7, "failed")]
+EXPECTED = [(7, 7, "stopped"), (8, 8, "promoted"), (191, 8, "promoted, degraded"), (190, 7, "failed"), (190, 8, "failed"),
+            (0, 8, "failed"), (0, 7, "failed")]
 
 
 class States(helper.Check):
@@ -52,15 +54,15 @@ class States(helper.Check):
         """The line of a resource in JSON that has its state."""
         return helper.replies(self.status("--json", name))[-1]
 
-    def is_so(self, name, state):
-        """A resource is in this state, in a table and as JSON, and --exit-code says whether an administrator has to act."""
+    def is_so(self, name, state, ends=LEFT):
+        """A resource is in this state, in a table and as JSON, and --exit-code ends so."""
         table = self.status().decode()
-        row = re.search(rf"^{name} +\S+ +(.*?)( since \d+ [a-z]+)?  ", table, re.MULTILINE)
-        self.assertEqual(row and row[1], state, table)
-        self.assertEqual(self.condition(name)["state"], state)
+        row = re.search(rf"^{name} +\S+ +(.*?)(?: \d+ [a-z]+ ago)?(, degraded)?(?:  .*)?$", table, re.MULTILINE)
+        self.assertEqual(row and row[1] + (row[2] or ""), state, table)
+        self.assertEqual(self.condition(name)["state"], state.removesuffix(", degraded"))
         for words in ([name], ["--json", name], [name, "--json"]):
-            self.status("--exit-code", *words, status=ALARM.get(state, 0))
-        plain, coded = self.status(name), self.status(name, "--exit-code", status=ALARM.get(state, 0))
+            self.status("--exit-code", *words, status=ends)
+        plain, coded = self.status(name), self.status(name, "--exit-code", status=ends)
         self.assertEqual(LENGTH.sub("TIME", coded.decode()), LENGTH.sub("TIME", plain.decode()), "the same with --exit-code")
         return plain.decode()
 
@@ -98,20 +100,30 @@ class States(helper.Check):
         run = self.heard("serve", "--journal", self.folder, "--root", self.here, "--orphans", "0")
         run.tell({"op": "params", "id": "r1", "params": {"code": "sleep"}}, helper.action("r1", "stop"), helper.action("r1", "start"))
         self.eventually("a stop that runs", lambda: self.condition("r1")["running"])
-        self.is_so("r1", "started")
-        self.assertRegex(self.status().decode(), r"(?m)^r1 .*stop since \d+ (ms|s), 1 queued$")
+        self.is_so("r1", "started", ends=0)
+        self.assertRegex(self.status().decode(), r"(?m)^r1 .*stopping for \d+ (ms|s) of at most 20 s, 1 queued$")
         run.killed()
         self.asks()
         self.is_so("r1", "unknown")
 
-    def test_all(self):
-        """for all resources, a failed or unknown one is enough"""
-        self.status("--exit-code")
-        self.ends(1, "monitor")
-        self.status("--exit-code", status=9)
-        self.asks({"op": "forget", "id": "r1"})
-        self.is_so("r1", "never run")
-        self.status("--exit-code")
+    def test_alarm(self):
+        """while an executor has the journal, a failed or unknown resource that is requested is enough for status 9"""
+        states = {"r1": "started", "r2": "never run"}
+        for code, action, state in ((0, "start", "started"), (1, "monitor", "failed"), (0, "stop", "failed"), (0, "start", "started")):
+            self.ends(code, action)
+            states["r1"] = state
+            run = self.heard("serve", "--journal", self.folder, "--root", self.here, "--orphans", "0")
+            run.ready()
+            for words, seen in (([], states.values()), (["r1"], [state]), (["r2"], ["never run"]), (["r2", "r1"], states.values())):
+                self.status("--exit-code", *words, status=max(ALARM.get(each, 0) for each in seen))
+            self.assertEqual(run.ends(), 0)
+
+    def test_forget(self):
+        """after forget it is unknown, unless it never ran"""
+        self.ends(0, "start")
+        self.asks({"op": "forget", "id": "r1"}, {"op": "forget", "id": "r2"})
+        self.is_so("r1", "unknown")
+        self.is_so("r2", "never run")
 
     def test_since(self):
         """since the first of the results after which no other state follows"""

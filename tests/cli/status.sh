@@ -23,7 +23,7 @@ tells() {
 }
 
 tells --memory
-same "no resource" "RESOURCE  AGENT  STATE  NOW" "$(cat "$here/out")"
+same "no resource" "0 resources" "$(cat "$here/out")"
 for more in "" --json --exit-code; do
     tells $more --journal "$here/empty"
     same "a folder without a journal $more, status" 9 "$status"
@@ -33,7 +33,8 @@ for more in "" --json --exit-code; do
 done
 "$program" run --journal "$here/empty" < /dev/null
 tells --exit-code --journal "$here/empty"
-same "a new journal" "0 RESOURCE  AGENT  STATE  NOW" "$status $(cat "$here/out")"
+same "a new journal" "10 no executor has this journal; it has no record
+0 resources" "$status $(cat "$here/out")"
 checked "nothing"
 
 run "$here/journal" '{"op":"register","id":"a-longer-name","provider":"test","type":"Slow","params":{"time":""}}' \
@@ -51,17 +52,18 @@ eventually "a start that runs" "$here/replies" is_running a-longer-name_start_0 
 cp -r "$here/journal" "$here/before"
 tells --journal "$here/journal"
 cat > "$here/wanted" <<'TABLE'
-RESOURCE       AGENT      STATE               NOW
-a-longer-name  test:Slow  failed since TIME   start since TIME, 1 queued
+RESOURCE       AGENT      STATE            NOW
+a-longer-name  test:Slow  failed TIME ago  starting for TIME of at most TIME, 1 queued
   monitor       not running, TIME ago
   start         failed: the agent's file is missing, TIME ago
   promote       failed: a signal ended the agent, TIME ago
   last failure  promote: failed: a signal ended the agent (OCF_ERR_GENERIC, 1), TIME ago
-b              test:None  failed since TIME   idle
+b              test:None  failed TIME ago
   start         failed: the agent's file is missing, TIME ago
   stop          cancelled: it was withdrawn before it began, TIME ago
   every TIME failed: the agent's file is missing, TIME ago; due
   last failure  monitor: failed: the agent's file is missing (OCF_ERR_INSTALLED, 5), TIME ago
+2 resources: 2 failed
 TABLE
 sed -E -i 's/  +/  /g' "$here/wanted" "$here/out"
 is_wanted "a journal in use" "$here/out"
@@ -71,7 +73,7 @@ tells --journal "$here/journal" b
 sed -E -i 's/call [0-9]+/call N/; s/  +/  /g' "$here/out"
 cat > "$here/wanted" <<'TABLE'
 RESOURCE  AGENT  STATE  NOW
-b  test:None  failed since TIME  idle
+b  test:None  failed TIME ago
   start  failed: the agent's file is missing, TIME ago
   stop  cancelled: it was withdrawn before it began, TIME ago
   every TIME failed: the agent's file is missing, TIME ago; due
@@ -93,10 +95,10 @@ checked "no such resource"
 "$program" status --json --journal "$here/journal" > "$here/json"
 "$program" show --journal "$here/journal" > "$here/shown"
 head -n 5 "$here/json" | cmp -s - "$here/shown" || differs "status --json" "first what show prints" "$(cat "$here/json")"
-sed -n '6,$p' "$here/json" | sed -E 's/"(at|since)":[0-9]+/"\1":N/g' > "$here/states"
+sed -n '6,$p' "$here/json" | sed -E 's/"(at|since)":[0-9]+/"\1":N/g; s/"identity":"[0-9a-f]{32}"/"identity":ID/' > "$here/states"
 cat > "$here/wanted" <<'LINES'
-{"failed":{"action":"promote","at":N,"code":1,"name":"OCF_ERR_GENERIC","outcome":"signaled","reason":null},"id":"a-longer-name","queued":1,"running":{"action":"start","since":N},"since":N,"state":"failed"}
-{"failed":{"action":"monitor","at":N,"code":5,"name":"OCF_ERR_INSTALLED","outcome":"not-started","reason":null},"id":"b","queued":0,"running":null,"since":N,"state":"failed"}
+{"at_least":false,"executor":true,"failed":{"action":"promote","at":N,"code":1,"name":"OCF_ERR_GENERIC","outcome":"signaled","reason":null},"held":null,"id":"a-longer-name","identity":ID,"queued":1,"running":{"action":"start","since":N,"timeout":90000},"since":N,"state":"failed"}
+{"at_least":false,"executor":true,"failed":{"action":"monitor","at":N,"code":5,"name":"OCF_ERR_INSTALLED","outcome":"not-started","reason":null},"held":null,"id":"b","identity":ID,"queued":0,"running":null,"since":N,"state":"failed"}
 LINES
 is_wanted "the states as JSON" "$here/states"
 "$program" status --json --journal "$here/journal" b > "$here/one"

@@ -95,17 +95,21 @@ holds --help "Usage: ocfexec" "run " "show " --version Example: "ocfexec run --m
 for command in register unregister params exec recur cancel withdraw forget list info history drain watch meta tidy; do
     grep -q -e "^  $command " "$here/out" || differs "--help" "a line of $command" "$(cat "$here/out")"
 done
+for command in "" run serve show status log metrics once; do
+    # shellcheck disable=SC2086 # no word for the program's own help
+    ends 0 "" $command --help
+    same "the longest line of $command --help has at most 80 columns" "" "$(awk 'length > 80' "$here/out")"
+done
 ends 0 "" run --help
 holds "run --help" "--journal <DIR>" --memory "--root <DIR>" "--via <PROGRAM>" "--path <PATH>" "[default: /usr/lib/ocf]" \
     "[default: /usr/sbin:/usr/bin:/sbin:/bin]" --any-owner "--tidy-at <BYTES>" "[default: 6291456]" "--orphans <MS>" \
-    "[default: 20000]" --leave-orphans --no-groups "exactly one of --journal and --memory" Examples: "ocfexec run --memory"
+    "[default: 20000]" --leave-orphans --no-groups --existing "exactly one of --journal and --memory" Examples: "ocfexec run --memory"
 ends 0 "" show --help
-holds "show --help" Examples: "ocfexec show --journal /srv/journal" \
-    "run and serve create its files part-a and part-b if they are missing" OCFEXEC_JOURNAL
+holds "show --help" Examples: "ocfexec show --journal /srv/journal" OCFEXEC_JOURNAL
 same "show --help, options" "--help --journal --memory" \
     "$(grep -o -e '^ *\(-., \)\?--[a-z-]*' "$here/out" | grep -o -e '--.*' | sort | xargs)"
 ends 0 "" status --help
-same "status --help, options" "--exit-code --help --journal --json --logs --memory" \
+same "status --help, options" "--color --exit-code --failed --help --journal --json --logs --memory --times --watch" \
     "$(grep -o -e '^ *\(-., \)\?--[a-z-]*' "$here/out" | grep -o -e '--.*' | sort | xargs)"
 ends 0 "" show -h
 ends 0 "" help run
@@ -139,9 +143,9 @@ takes '{"meta":38}
 /usr/lib/ocf/resource.d/p/t meta-data' --via echo
 takes '{"meta":28}
 /r/resource.d/p/t meta-data' --path=/usr/bin:/bin --root=/r --via=echo
-# a program without a slash is searched by the launcher, which ends with 127 where there is none
-takes '{"code":127,"end":"failed"}' --root /r --via echo --path /nowhere
-takes '{"code":127,"end":"failed"}' --via=-x
+# a program without a slash is searched in the agents' PATH
+takes '{"end":"missing"}' --root /r --via echo --path /nowhere
+takes '{"end":"missing"}' --via=-x
 takes '{"end":"missing"}' --via=/nowhere/x
 mkdir "$here/journal"
 ends 0 "" show --journal "$here/journal"
@@ -166,7 +170,7 @@ OCFEXEC_JOURNAL=$(printf '\377') ends 2 "ocfexec: an argument or OCFEXEC_JOURNAL
 unset OCFEXEC_JOURNAL
 if [ ! -e /var/lib/ocfexec ]; then
     ends 5 "ocfexec: disk" show
-    OCFEXEC_JOURNAL='' ends 5 "ocfexec: disk" status
+    OCFEXEC_JOURNAL='' ends 5 "ocfexec: disk: /var/lib/ocfexec: No such file or directory (os error 2)" status
 fi
 
 checked "the journal that is looked at"
@@ -181,9 +185,19 @@ for bytes in "" no 1k 1.5 8388609 18446744073709551616; do
 done
 ends 2 "ocfexec: give --tidy-at a number from 0 to 8388608" run --memory --tidy-at=-1
 ends 2 "ocfexec: give --orphans a number from 0 to 86400000" run --memory --leave-orphans --orphans 86400001
-for moment in no 2026-13-01 2026-11-27T06:30Z; do
-    ends 2 "ocfexec: give --since a moment, as 2026-11-27 or 2026-11-27T06:30" log --memory --since "$moment"
+for moment in "" no 2026-13-01 2026-1 2026-11-2 2026-11-27T6:30 2026-11-27T06:30:00+1 1969 m 1.5h -1d 10 10x "10 m" 999999999999999d; do
+    for name in since until; do
+        ends 2 "ocfexec: give --$name a moment, as 2026-11-27 or 2026-11-27T06:30, or a span, as 10m or 2h" \
+            log --memory "--$name=$moment"
+    done
 done
+for number in "" no -1 1.5; do
+    ends 2 "ocfexec: give -n a number of records" log --memory "--last=$number"
+    ends 2 "ocfexec: give --watch a number of seconds, from 1 to 86400" status --memory "--watch=$number"
+done
+ends 2 "ocfexec: give --watch a number of seconds, from 1 to 86400" status --memory --watch 0
+ends 2 "ocfexec: give --color one of auto, always and never" status --memory --color red
+ends 2 "ocfexec: give at most 16 ids of resources" status --memory {1..17}
 ends 5 "ocfexec: disk" run --journal "$here/none"
 ends 5 "ocfexec: disk" show --journal=
 ends 2 "ocfexec: an argument or OCFEXEC_JOURNAL is not UTF-8" run --memory --via "$(printf 'a\377')"
@@ -194,8 +208,6 @@ misused "unexpected argument '--fast'" run --memory --fast
 misused "unexpected argument '--root'" show --memory --root /r
 misused "unexpected argument '--any-owner'" status --memory --any-owner
 misused "unexpected argument '--events'" log --memory --events
-misused "unexpected argument '--journal'" once p:t start --journal folder
-misused "required arguments" once p:t
 misused "Usage: ocfexec run" run --fast
 misused "^error: " --memory
 misused "^error: " run --memory more
@@ -213,6 +225,14 @@ misused "a value is required" run --journal
 misused "cannot be used multiple times" run --memory --memory
 
 checked "words that are refused"
+
+# Moments and spans that are understood: an empty journal in memory has no records
+for moment in 2026 2026-11 2026-11-27 2026-11-27T06 2026-11-27T06:30 2026-11-27T06:30Z 2026-11-27T06:30:20 2026-11-27T06:30:20.114Z \
+    2026-11-27T06:30:20.1 2026-11-27T07:30+01:00 2026-11-27T06:30:20-05:30 30s 10m 2h 1d 0s; do
+    ends 0 "" log --memory --since "$moment" --until "$moment"
+done
+
+checked "moments that are understood"
 
 # Output and input that fail
 full_output --help

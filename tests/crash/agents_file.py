@@ -1,8 +1,9 @@
 #!/usr/bin/env python3
 """The file `agents` of a journal's directory: who runs. Wanted: it has one length, an entry for each running agent and none for an ended
-one. An opening believes only what it can: a file of garbage, of another length or of another boot, a named pipe, a directory and a link are
-no record, are told in one line, stop nothing and hold nothing, and so is an entry of a process that is another one by now; garbage in one
-line hides no other entry. What a link leads to is left alone.
+one; it is written once for each spawn and once for each end, and never synced. An opening believes only what it can: a file of garbage, of
+another length or of another boot, a named pipe, a directory and a link are no record, are told in one line, stop nothing and hold nothing,
+and so is an entry of a process that is another one by now; garbage in one line hides no other entry. What a link leads to is left alone.
+A stop runs also where no line is free for it.
 Use: agents_file.py PROGRAM"""
 import os
 import shutil
@@ -10,6 +11,7 @@ import stat
 import subprocess
 import sys
 import time
+import unittest
 
 sys.path[0] += "/../lib"
 import acting  # noqa: E402
@@ -136,10 +138,38 @@ class AgentsFile(acting.Acting):
         self.assertEqual(self.entries(), [])
         self.assertEqual(run.ends(), 0)
 
+    @unittest.skipUnless(shutil.which("cc"), "install a C compiler")
+    def test_writes(self):
+        """it is written once after each spawn and once at each end, at no other time, and is never synced"""
+        calls = self.place("calls")
+        with open(calls, "w", encoding="ascii"):
+            pass
+        run = self.serves(env={**os.environ, "LD_PRELOAD": helper.shim("record.c", self.here), "CALLS": calls})
+        run.ready()
+
+        def noted():
+            with open(calls, encoding="ascii") as file:
+                return file.read()
+        opened = noted()
+        run.tell(self.register("r1", start="exec HERE/waits agent"), self.register("r2", start="exit 0"))
+        for _ in range(5):
+            self.assertEqual(self.done(run, "r2", "start")["code"], 0)
+        self.assertEqual(noted()[len(opened):], "ww" * 5)
+        run.tell(helper.action("r1", "start", timeout=600_000))
+        self.pid("agent")
+        for _ in range(5):
+            self.answered(run, {"op": "list"})
+        self.assertEqual(noted()[len(opened):], "ww" * 5 + "w", "while an agent runs")
+        self.goes_on()
+        self.ends_of(run, "r1", "start")
+        self.assertEqual(noted()[len(opened):], "ww" * 6)
+        self.assertEqual(run.ends(), 0)
+        self.assertNotIn("s", noted())
+
     def test_not_executor(self):
         """there is no other file beside the parts, and none of an executor that has ended"""
         self.begun()
-        self.assertEqual(sorted(os.listdir(self.folder)), ["agents", "part-a", "part-b"])
+        self.assertEqual(sorted(os.listdir(self.folder)), ["agents", "identity", "part-a", "part-b"])
 
     def test_missing(self):
         """a missing file is made, and nothing is told"""
@@ -274,22 +304,34 @@ class AgentsFile(acting.Acting):
             self.assertEqual(self.done(run, name, what)["outcome"], "done", self.seen())
         self.assertTrue(helper.is_alive(pid), "its process has time left")
 
-    def test_full(self):
-        """a file whose lines are all taken by processes that live stops no executor, and no action any more when they have ended"""
+    def taken(self):
+        """An executor over a file whose lines are all taken by a process that lives and has time left, and that process."""
         self.begun()
-        head, now = self.lines()[0], monotonic()
         idle = subprocess.Popen(["sleep", "600"], start_new_session=True)
         self.addCleanup(lambda: (idle.kill(), idle.wait()))
-        self.write(head + entry(1, "other", "start", idle.pid, acting.stat_of(idle.pid)[4], now, 600_000) * SLOTS)
+        self.write(self.lines()[0] + entry(1, "other", "start", idle.pid, acting.stat_of(idle.pid)[4], monotonic(), 600_000) * SLOTS)
         run = self.serves()
         run.ready()
-        self.assertIn(self.done(run, "r2", "start")["outcome"], ("done", "not-started"), self.seen())
+        return run, idle
+
+    def test_full(self):
+        """where all lines are taken a start is refused, in one line, until a process that took one has ended"""
+        run, idle = self.taken()
+        self.assertEqual(self.done(run, "r2", "start")["outcome"], "not-started", self.seen())
+        self.says(r"\Aocfexec: run \d+ of r2 was not started: .*agents")
         idle.kill()
         idle.wait()
         self.eventually("no line is taken", lambda: not self.entries())
         for name, what in (("r1", "stop"), ("r2", "start")):
             self.assertEqual(self.done(run, name, what)["outcome"], "done", self.seen())
         self.assertEqual(run.ends(), 0)
+
+    def test_full_stop(self):
+        """where all lines are taken a stop runs all the same, and one line says that no later executor will know of it"""
+        run, _ = self.taken()
+        stop = self.done(run, "r1", "stop")
+        self.assertEqual((stop["outcome"], stop["code"]), ("done", 0), self.seen())
+        self.says(r"\Aocfexec: run \d+ of r1 .*agents")
 
     def test_status(self):
         """status reads a journal beside each of these files"""

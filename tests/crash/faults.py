@@ -142,7 +142,7 @@ class Faults(helper.Check):
         while not self.asks(run, {"op": "forget", "id": "full"}, 200):
             pass
         time.sleep(0.5)
-        return self.told(run, 0, '{"end":"full"}')
+        return self.told(run, 0, '{"end":"full","kind":"trouble"}')
 
     def test_full(self):
         """serve reports a full journal once, and again after it was not full"""

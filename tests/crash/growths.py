@@ -416,8 +416,8 @@ class Growths(helper.Check):
         before = self.prepared(helper.register("r1", "Dummy", a="b"), helper.action("r1", "start"), helper.action("r1", "stop"))
         self.sweep(self.words("run"), [Step(LIST), Step(LIST)], before=before)
 
-    def shows(self, folder, words, ended):
-        # refuses each growth of a show
+    def shows(self, folder, words, ended, beside=()):
+        # refuses each growth of a show; what it finds beside the parts has these keys, and is null where it cannot be told
         files, base = files_of(folder), self.play(words, [])
         ends, refuse = collections.Counter(), 1
         while (found := self.play(words, [], refuse)).refused:
@@ -425,8 +425,10 @@ class Growths(helper.Check):
                 ends[found.status] += 1
                 self.assertIn(found.status, ended, found.err)
                 values = found.answers[0] if found.answers else []
-                self.assertEqual(values, base.answers[0][:len(values)])
-                self.assertTrue(found.status or found.answers == base.answers, "all with status 0")
+                wanted = [{key: None if key in beside and value.get(key) is None else known for key, known in whole.items()}
+                          for value, whole in zip(values, base.answers[0])]
+                self.assertEqual(values, wanted)
+                self.assertTrue(found.status or len(values) == len(base.answers[0]), "all with status 0")
                 self.assertTrue(found.status != 4 or not values, "nothing with status 4")
                 self.assertEqual(files_of(folder), files)
             refuse += 1
@@ -442,7 +444,7 @@ class Growths(helper.Check):
     def test_status(self):
         """a status, for a program"""
         folder = self.prepared(helper.register("r1", "Dummy", a="b"), helper.action("r1", "start"), helper.register("r2", "Dummy"))
-        self.shows(folder, ["status", "--json", "--journal", folder], (0, 4, 7))
+        self.shows(folder, ["status", "--json", "--journal", folder], (0, 4, 7), beside=("executor", "identity"))
 
     def noticed(self, words, steps, key, before=None):
         # refuses each growth: a notice with this key is that of a run without a refusal, or the run ends by a reply without memory

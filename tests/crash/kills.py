@@ -104,6 +104,8 @@ class Kills(helper.Check):
         rounds = helper.number("ROUNDS", 12)
         self.agent("Step", 'echo "$OCF_RESOURCE_INSTANCE" >> "$OCF_RESKEY_log"\nsleep "$OCF_RESKEY_time"\n')
         journal = self.journal()
+        # (a copy that is made while the journal is could have marks of what is not in it)
+        self.opened(journal)
         acknowledged, told = {}, []
         for number in range(rounds):
             early, replies = self.killed(number)

@@ -3,8 +3,8 @@
 """Runs the program with less and less address space (RLIMIT_AS), from what it needs down to where it does not start. Wanted: it ends well,
 or for lack of memory, which is reported for people: status 4 before the first line is read, 7 after it; no stream is reported as failed. It
 may only crash if the stack itself cannot grow, which no program can handle: that comes before the first line is read, in ranges of at most
-128 KiB together. The answers are a prefix of those with enough memory, except for commands that were refused with `memory`, and the next
-opening finds them.
+160 KiB together (the options are copied, and hold the ids of sixteen resources). The answers are a prefix of those with enough memory,
+except for commands that were refused with `memory`, and the next opening finds them.
 Use: memory.py PROGRAM"""
 import re
 import resource
@@ -84,7 +84,7 @@ class Memory(helper.Check):
         print("memory: ended as", sorted(seen), flush=True)
         self.assertIn((4, False), seen, "an opening without memory")
         print("memory: the stack could not grow in", self.stackless, "by steps of", stride, flush=True)
-        self.assertLessEqual(len(self.stackless) * stride, 128 << 10, "bytes in which the stack cannot grow")
+        self.assertLessEqual(len(self.stackless) * stride, 160 << 10, "bytes in which the stack cannot grow")
         self.assertTrue(any(status == 7 or refused for status, refused in seen), "a run that found no memory")
 
     def test_stands(self):

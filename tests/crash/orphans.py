@@ -4,7 +4,8 @@ ready at once, with the number of an orphan that lives. Until that has ended wit
 resource begins nothing, whatever the orphan has made of itself; commands for it are queued, `status` and standard error name what is waited
 for, and all other resources go on. The same if this executor is killed in turn. A daemon lives on; with `--leave-orphans` nothing is waited
 for and nothing is ended. A client that stops interrupted resources, probes them and starts them again, with many kills at random moments,
-never finds one up after a stop that succeeded, and never twice.
+never finds one up after a stop that succeeded, and never twice. What is left of an orphan's time is counted by the clock that its executor
+counts timeouts by, which a suspend of the machine does not set ahead.
 Use: orphans.py PROGRAM, with ROUNDS and SEED in the environment"""
 import os
 import random
@@ -63,6 +64,11 @@ stop) rm -f "$OCF_RESKEY_up"/* ;;
 monitor) [ -n "$(ls "$OCF_RESKEY_up")" ] || exit 7 ;;
 esac
 """
+
+
+# how many orphans are opened over at once, which is nearly as many as may run
+MANY = 250
+DAY = 86_400
 
 
 def does(action):
@@ -164,6 +170,35 @@ class Orphans(acting.Acting):
         self.assertEqual([pid for pid in pids if not helper.is_alive(pid)], [], "the orphan lives in all of them")
         with_orphan, without = min(took[self.folder]), min(took[other])
         self.took_less(without + 0.2, with_orphan, f"an opening with an orphan, beside {without:.3f} s of one without")
+
+    def test_ready_many(self):
+        """an opening over two hundred and fifty orphans is ready within 0.2 s of the time that one without takes"""
+        names = [f"m{n}" for n in range(MANY)]
+        registered = [self.register(name, start="exec sleep 602") for name in names]
+        run = self.serves()
+        run.tell(*registered, *[helper.action(name, "start", timeout=600_000) for name in names])
+        self.eventually("all of them run", lambda: sum(one["running"] is not None for one in self.answered(run, {"op": "status"})["status"])
+                        >= MANY)
+        run.killed()
+        other = self.journal("other")
+        run = self.opened("--journal", other)
+        run.tell(*registered)
+        self.assertEqual(run.ends(), 0)
+        took = {self.folder: [], other: []}
+        for number in range(5):
+            for folder, times in took.items():
+                began = time.monotonic()
+                run = self.opened("--journal", folder)
+                found = run.ready()
+                times.append(time.monotonic() - began)
+                # (the first opening reports all of them, and each one holds them)
+                self.assertEqual(found["interrupted"], MANY if folder == self.folder and number == 0 else 0)
+                if folder == self.folder:
+                    self.assertEqual(len(set(self.lines_of(r"^ocfexec: m\d+ waits for pid "))), MANY)
+                run.killed()
+        with_orphans, without = min(took[self.folder]), min(took[other])
+        print(f"orphans: ready in {with_orphans:.3f} s over {MANY} orphans, and in {without:.3f} s over none", flush=True)
+        self.took_less(without + 0.2, with_orphans, f"an opening over {MANY} orphans, beside {without:.3f} s of one without")
 
     def holds_form(self, start, names=("orphan-agent", "orphan")):
         agent, orphan = self.left(start, names=names)
@@ -387,6 +422,12 @@ class Orphans(acting.Acting):
         self.assertEqual((done.returncode, done.stderr), (0, b""))
         return re.sub(" +", " ", done.stdout.decode())
 
+    def held(self, name):
+        """What a resource waits for, by `status --json`."""
+        done = helper.run("status", "--journal", self.folder, "--json")
+        [line] = [value for value in helper.replies(done.stdout) if "state" in value and value["id"] == name]
+        return line["held"]
+
     def test_status(self):
         """status names the process that a resource waits for, and how much longer at most, and nothing when that is over"""
         agent, orphan = self.left()
@@ -395,9 +436,12 @@ class Orphans(acting.Acting):
         for words in ((), ("r1",)):
             table = self.statuses(*words)
             self.assertRegex(table, rf"(?m)^.*\b{agent}\b.*\bstart\b.*\b\d+ (s|ms|min)\b.*$")
+        self.assertRegex(self.held("r1") or "", rf"\b{agent}\b.*\bstart\b.*\b\d+ (s|ms|min)\b")
+        self.assertIsNone(self.held("r2"))
         self.goes_on()
         self.is_released(run)
         self.assertNotRegex(self.statuses(), rf"\b{agent}\b")
+        self.assertIsNone(self.held("r1"))
 
     def test_standard_error(self):
         """standard error names the resource and the process when the wait begins, and the resource when it is over, once each"""
@@ -482,6 +526,57 @@ class Orphans(acting.Acting):
             [stop] = self.ends_of(run, name, "stop")
             self.assertEqual((stop["outcome"], stop["code"]), ("done", 0))
             self.assertEqual(len(self.noted("stops")), count, "no other stop has begun")
+
+    def clocks(self, **ahead):
+        """An environment in which a suspend, or time that passed, sets clocks ahead by these seconds."""
+        for name, seconds in ahead.items():
+            with open(self.place(name + ".new"), "w", encoding="ascii") as file:
+                file.write(str(seconds))
+            os.rename(self.place(name + ".new"), self.place(name))
+        return {**os.environ, "LD_PRELOAD": helper.shim("clock.c", self.here), **{name: self.place(name) for name in ("SLEPT", "PASSED")}}
+
+    def rest(self, text):
+        """How many seconds more are waited at most, as a text says."""
+        return int(re.search(r"at most (\d+) s more", text)[1])
+
+    def rests(self, began, env, timeout, passed):
+        """An opening says how much is left of a timeout after so many seconds had passed, and since then; so does a status."""
+        run = self.serves(env=env)
+        run.ready()
+        for text in (self.says(r" waits for pid "), helper.run("status", "--journal", self.folder, env=env).stdout.decode()):
+            since = passed + time.monotonic() - began
+            self.assertTrue(timeout - since - 2 <= self.rest(text) <= timeout - passed, f"{text}, {since:.1f} s after the begin")
+        return run
+
+    @unittest.skipUnless(shutil.which("cc"), "install a C compiler")
+    def test_suspended(self):
+        """an orphan keeps what was left of its time while the machine is suspended, and loses what passed while it was not"""
+        began = time.monotonic()
+        agent, orphan = self.left(timeout=90_000)
+        run = self.rests(began, self.clocks(SLEPT=DAY), 90, 0)
+        self.clocks(SLEPT=2 * DAY)
+        self.is_held(run, [agent, orphan])
+        run.killed()
+        run = self.rests(began, self.clocks(PASSED=30), 90, 30)
+        self.is_held(run, [agent, orphan])
+        self.clocks(PASSED=90)
+        self.is_released(run)
+        self.stays_down([agent, orphan])
+
+    @unittest.skipUnless(shutil.which("cc"), "install a C compiler")
+    def test_suspended_executor(self):
+        """so does an action of an executor that lives: both count by one clock"""
+        run = self.serves(env=self.clocks(SLEPT=0))
+        run.tell(self.register(start=START, stop="HERE/beside", monitor=acting.MONITOR), self.register("r2", start="exit 0"),
+                 helper.action("r1", "start", timeout=600_000))
+        pids = [self.pid(name) for name in ("orphan-agent", "orphan")]
+        self.clocks(SLEPT=DAY)
+        self.goes_elsewhere(run)
+        self.assertEqual([pid for pid in pids if not helper.is_alive(pid)], [], self.seen())
+        self.clocks(PASSED=600)
+        [end] = self.ends_of(run, "r1", "start")
+        self.assertEqual(end["outcome"], "timed-out")
+        self.stays_down(pids)
 
     @unittest.skipUnless(shutil.which("setpriv"), "install util-linux")
     def test_dies_along(self):

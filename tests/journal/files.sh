@@ -54,12 +54,14 @@ shown() {
     "${as[@]}" "$here/viewer" show --journal "$1" > out 2> err || status=$?
 }
 
-# A journal that is not shown, for this reason, which is reported only for people. Use: hidden NAME CAUSE WORD..
+# A journal that is not shown, for this reason, which `show` reports only for people. Use: hidden NAME CAUSE WORD..
 hidden() {
-    local name=$1 cause=$2
+    local name=$1 cause=$2 line="ocfexec: disk"
     shift 2
+    if [ "$1" != show ]; then line="$line: $cause"; fi
     "$program" "$@" > out 2> err
-    same "$name" "5 ocfexec: disk" "$? $(cat err)"
+    same "$name" "5 $line" "$? $(cat err)"
+    if [ "$1" != show ]; then return; fi
     explained err "$program" "$@" > out
     same "$name, to a person" "5 ocfexec: disk
 $cause" "$? $(cat err)"
@@ -115,7 +117,7 @@ same "two empty files" '{"ok":true,"resources":[]}' "$(cat out)"
 mkdir half && : > half/part-b
 run half '{"op":"list"}'
 same "one empty file" '{"ok":true,"resources":[]}' "$(cat out)"
-same "what is made" "half/agents half/part-a half/part-b" "$(echo half/*)"
+same "what is made" "half/agents half/identity half/part-a half/part-b" "$(echo half/*)"
 checked "what is made, and what is found again"
 
 # Files that cannot be opened
@@ -149,7 +151,7 @@ same "a lost part" "$before" "$(inside lost)"
 run lost_a '{"op":"tidy"}'
 rm lost_a/part-a
 refused lost_a 5 "ocfexec: disk" "lost_a/part-a: gone, while part-b holds a journal"
-same "a lost part A" "lost_a/agents lost_a/part-b" "$(echo lost_a/*)"
+same "a lost part A" "lost_a/agents lost_a/identity lost_a/part-b" "$(echo lost_a/*)"
 checked "a part that is gone beside one that holds a journal"
 
 # Beside a file that holds no journal, a missing one is not reported
@@ -158,10 +160,11 @@ refused garbage 5 "ocfexec: disk" "garbage/part-a: holds no journal"
 hidden "show of garbage" "garbage/part-a: holds no journal" show --journal garbage
 same "garbage" "garbage/part-a" "$(echo garbage/*)"
 
-# A part that was emptied beside one that was tidied is refused like a missing one
+# A part that was emptied beside one that was tidied is refused like a missing one, also without the marks of an identity
 journal emptied
 run emptied '{"op":"tidy"}'
 : > emptied/part-a
+rm emptied/identity
 refused emptied 5 "ocfexec: disk" "emptied/part-a: empty, while part-b holds a journal that was tidied"
 hidden "status of an emptied part" "emptied/part-a: empty, while part-b holds a journal that was tidied" status --journal emptied
 same "an emptied part" "0" "$(stat -c %s emptied/part-a)"

@@ -1,7 +1,6 @@
-"""The checks of tests/system/booted.sh in the container that it boots: the guide with the package, and the installed units, with
+"""The checks of tests/system/booted.sh in the container that it boots: the guide with the package, and the installed unit, with
 systemctl(1) and journalctl(1) themselves. It writes to /etc and /usr of that machine, and must not run on a machine that is kept.
 Use: booted.py PROGRAM"""
-import glob
 import json
 import os
 import shutil
@@ -40,15 +39,6 @@ events { }
 http { access_log off; server { listen 127.0.0.1:8088; root /srv/booted; } }
 """
 NGINX_WANTED = {"provider": "heartbeat", "type": "nginx", "params": {"configfile": "/srv/booted/nginx.conf"}, "interval": 500}
-# Use: sh -c WRITER sh NAME COUNT FIFO
-WRITER = """exec > "$3"
-printf '{"op":"register","id":"%s","provider":"check","type":"Dummy","params":{"state":"/srv/booted/%s"}}\\n' "$1" "$1"
-n=0
-while [ $n -lt "$2" ]; do
-    n=$((n + 1))
-    printf '{"op":"info","id":"%s"}\\n' "$1"
-done
-"""
 
 
 def systemctl(*words, **how):
@@ -111,12 +101,11 @@ class Package(helper.Check):
 class Units(helper.Check):
     @classmethod
     def setUpClass(cls):
-        """Installs as `make install` does, and the units as their comments say."""
+        """Installs as `make install` does, and the unit as its comment says."""
         shutil.copytree(EXAMPLES, "/usr/local/share/doc/ocfexec")
         subprocess.run([f"{helper.TOP}/package/python.sh", "", "/usr/local"], check=True)
         shutil.copy(PROGRAM, "/usr/local/bin/ocfexec")
-        for unit in glob.glob(f"{EXAMPLES}/*.service") + glob.glob(f"{EXAMPLES}/*.socket"):
-            shutil.copy(unit, "/etc/systemd/system")
+        shutil.copy(f"{EXAMPLES}/ocfexec.service", "/etc/systemd/system")
         write(AGENT_PATH, AGENT, 0o755)
         write("/srv/booted/index.html", "hello")
         write("/srv/booted/nginx.conf", NGINX)
@@ -124,9 +113,9 @@ class Units(helper.Check):
         systemctl("daemon-reload", check=True)
 
     def tearDown(self):
-        systemctl("stop", "ocfexec", "ocfexec-fifo.socket", "ocfexec-fifo")
+        systemctl("stop", "ocfexec")
         systemctl("reset-failed")
-        for folder in ("/var/lib/ocfexec", "/var/lib/ocfexec-fifo", "/etc/ocfexec"):
+        for folder in ("/var/lib/ocfexec", "/var/lib/ocfexec-client", "/etc/ocfexec"):
             shutil.rmtree(folder, ignore_errors=True)
 
     def does(self, *words):
@@ -134,7 +123,7 @@ class Units(helper.Check):
         self.assertEqual((done.returncode, done.stderr), (0, ""), self.log())
 
     def log(self):
-        words = ["journalctl", "-u", "ocfexec", "-u", "ocfexec-fifo", "-o", "cat", "-n", "30"]
+        words = ["journalctl", "-u", "ocfexec", "-o", "cat", "-n", "30"]
         return subprocess.run(words, capture_output=True, text=True).stdout
 
     def wants(self, **wanted):
@@ -212,28 +201,50 @@ class Units(helper.Check):
             self.assertEqual((shown("ExecMainStatus"), shown("NRestarts")), (status, "0"), self.log())
             systemctl("reset-failed")
 
-    def test_pair(self):
-        """the FIFO of the pair serves two writers with a thousand lines each, and survives a restart of the executor"""
-        count, fifo, answers = 1000, "/run/ocfexec-fifo/commands", "/run/ocfexec-fifo/answers"
-        self.does("start", "ocfexec-fifo.socket")
-        for name in ("one", "two"):
-            self.addCleanup(subprocess.Popen(["sh", "-c", WRITER, "sh", name, str(count), fifo]).wait)
+    def ctl(self, *words, status=0):
+        done = subprocess.run([f"{EXAMPLES}/ocfctl.py", *words], capture_output=True, text=True, timeout=90)
+        self.assertEqual(done.returncode, status, done.stdout + done.stderr + self.log())
+        return done.stdout
 
-        def found():
-            with open(answers, "rb") as file:
-                return helper.replies(file.read())
-        self.comes("answers", lambda: os.path.exists(answers) and len(found()) >= 2 * (count + 1))
-        self.assertEqual([value for value in found() if "error" in value], [])
-        self.assertEqual(len([value for value in found() if "recurring" in value]), 2 * count)
-        main = shown("MainPID", "ocfexec-fifo")
-        self.does("restart", "ocfexec-fifo")
-        with open(fifo, "w", encoding="ascii") as commands:
-            commands.write('{"op":"list"}\n')
-        self.comes("an answer", lambda: found()[-1].get("resources"))
-        self.assertEqual(sorted(found()[-1]["resources"]), ["one", "two"])
-        self.assertNotEqual(shown("MainPID", "ocfexec-fifo"), main)
-        self.does("stop", "ocfexec-fifo.socket", "ocfexec-fifo")
-        self.assertEqual((found()[-1], shown("Result", "ocfexec-fifo")), ({"end": "left"}, "success"))
+    def test_by_hand(self):
+        """a stop by hand holds over a restart, and the status says so; errors alone have the priority err, and no line is JSON"""
+        before = subprocess.run(["journalctl", "-n", "0", "--show-cursor"], capture_output=True, text=True).stdout
+        self.wants(hand=dummy("hand"), bad={**dummy("bad"), "type": "Missing", "restarts": 1})
+        self.does("start", "ocfexec")
+        self.says("running: hand; given up: bad")
+        self.ctl("stop", "hand")
+        self.does("restart", "ocfexec")
+        self.says("stopped by hand: hand; given up: bad")
+        self.assertIn("stopped by hand since", self.ctl("status", "hand"))
+        self.ctl("start", "hand")
+        words = ["journalctl", "-u", "ocfexec", "-o", "json", "--after-cursor", before.partition("cursor: ")[2].strip()]
+        lines = [json.loads(line) for line in subprocess.run(words, capture_output=True, text=True).stdout.splitlines()]
+        ours = [line for line in lines if line.get("SYSLOG_IDENTIFIER") == "ocfexec"]
+        self.assertEqual([line["MESSAGE"] for line in ours if line["MESSAGE"].startswith("{")], [])
+        failed = [line["MESSAGE"] for line in ours if line["PRIORITY"] == "3"]
+        self.assertTrue(any(text.startswith("client: bad is given up") for text in failed), failed)
+        self.assertEqual([text for text in failed if not text.startswith(("bad: ", "client: bad "))], [])
+        self.assertEqual(os.stat("/var/log/ocfexec").st_mode & 0o777, 0o700)
+
+    def test_scope(self):
+        """by with-scope.sh a service runs in a scope of its own, and goes on when the unit has ended"""
+        with open("/etc/systemd/system/ocfexec.service", encoding="utf-8") as file:
+            text = file.read()
+        self.addCleanup(systemctl, "daemon-reload")
+        self.addCleanup(write, "/etc/systemd/system/ocfexec.service", text)
+        write("/etc/systemd/system/ocfexec.service",
+              text.replace("--meta-variables --events", "--meta-variables --via /usr/local/share/doc/ocfexec/with-scope.sh --events"))
+        self.does("daemon-reload")
+        self.wants(web=dummy("web"))
+        self.does("start", "ocfexec")
+        self.says("running: web")
+        with open("/srv/booted/web", encoding="ascii") as file:
+            pid = int(file.read())
+        with open(f"/proc/{pid}/cgroup", encoding="ascii") as file:
+            self.assertRegex(file.read(), r"/ocf-web-\d+\.scope")
+        self.does("kill", "--kill-who=main", "--signal=SIGUSR1", "ocfexec")
+        self.comes("its end", lambda: shown("ActiveState") == "inactive")
+        self.assertTrue(helper.is_alive(pid), "the service lives")
 
 
 if __name__ == "__main__":

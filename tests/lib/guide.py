@@ -12,9 +12,10 @@ LONGEST = 120  # seconds
 
 # differs from run to run, and is compared as this
 VARYING = (
+    (r"\b\d{4}-\d\d-\d\d \d\d:\d\d:\d\d\b", "MOMENT"),
     (r"\b\d+ (ms|s|min|h|days)\b", "TIME"),
     (r"\bdue (in TIME|TIME ago)", "due"),
-    (r"(idle|monitor since TIME)$", "idle or a monitor"),
+    (r" +monitoring for TIME of at most TIME$", ""),
     (r"\bcall \d+", "call NUMBER"),
     (r" +", " "),
 )

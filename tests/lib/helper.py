@@ -74,9 +74,12 @@ def lines(*commands):
 
 
 def value_of(line):
-    """The value of a line of the program, which conforms to the schema of its lines."""
+    """The value of a line of the program, which conforms to the schema of its lines; without its kind, which the schema fixes by the other
+    keys."""
     value = json.loads(line)
     schema.hold(value)
+    if isinstance(value, dict):
+        value.pop("kind", None)
     return value
 
 
@@ -125,7 +128,7 @@ def is_notice(value, **wanted):
 
 def result_of(notice):
     """A notice of `serve` as a result in its resource's history, which has none of these keys."""
-    return {key: part for key, part in notice.items() if key not in ("id", "key", "expect", "failed", "lives", "signal", "tag")}
+    return {key: part for key, part in notice.items() if key not in ("id", "key", "expect", "failed", "lives", "reason", "signal", "tag")}
 
 
 def run(*words, told=b"", **how):
@@ -248,6 +251,9 @@ class Heard:
     """A running program, whose lines are kept with the moments at which they came, except its ready line: `said` is its opening, which
     is the report and that line. Its standard error goes to a file, by default one that no check reads."""
 
+    # what reads a line; a client's lines are not all of the program
+    value_of = staticmethod(value_of)
+
     def __init__(self, *words, err=None, program=None, **how):
         with open(err, "wb") if err else tempfile.TemporaryFile() as file:
             # (an open file of its own, since reading moves the position at which the program writes)
@@ -296,7 +302,7 @@ class Heard:
     def values(self):
         """The values of all whole lines that have come."""
         with self.came:
-            return [value_of(line) for _, line in self.lines if line.endswith("\n")]
+            return [self.value_of(line) for _, line in self.lines if line.endswith("\n")]
 
     def told(self):
         """The notices that have come."""
@@ -318,7 +324,7 @@ class Heard:
         with self.came:
             while True:
                 while at < len(self.lines):
-                    value = value_of(self.lines[at][1])
+                    value = self.value_of(self.lines[at][1])
                     if holds(value):
                         return self.lines[at][0], value
                     at += 1

@@ -3,6 +3,7 @@
 stop, restart and reload it, and which ends of it are followed by another start. It receives the messages of the unit to NOTIFY_SOCKET.
 Use: systemctl.py UNIT DIRECTORY COMMAND WORD.., with the unit's output and the state in the directory, or as a module"""
 import os
+import re
 import signal
 import socket
 import subprocess
@@ -88,9 +89,15 @@ class Manager:
 
     def run(self, told):
         """One run of the main process. Returns whether another one follows."""
+        out = self.unit.get("Service.StandardOutput", "journal")
+        err = self.unit.get("Service.StandardError", out)
         with open(self.place("log"), "ab") as log:
-            main = subprocess.Popen(self.unit.words("Service.ExecStart", **self.variables), stdin=subprocess.DEVNULL, stdout=log,
-                                    stderr=log, env={**os.environ, "NOTIFY_SOCKET": self.place("notify")})
+            found = os.fstat(log.fileno())
+            variables = {"NOTIFY_SOCKET": self.place("notify"), "JOURNAL_STREAM": f"{found.st_dev}:{found.st_ino}"}
+            main = subprocess.Popen(self.unit.words("Service.ExecStart", **self.variables), stdin=subprocess.DEVNULL,
+                                    env={**os.environ, **variables},
+                                    **{name: log if where == "journal" else subprocess.DEVNULL
+                                       for name, where in (("stdout", out), ("stderr", err))})
         self.write("MainPID", str(main.pid))
         while main.poll() is None:
             try:
@@ -113,7 +120,9 @@ def main():
     unit, folder, command, *words = sys.argv[1:]
     manager, now = Manager(units.Unit(unit), folder), "--now" in words
     if command == "journalctl":
-        print(manager.read("log"))
+        lines = [re.fullmatch(r"(?:<(\d)>)?(.*)", line).groups() for line in manager.read("log").splitlines()]
+        most = 3 if "err" in words else 7
+        print("\n".join(line for priority, line in lines if int(priority or 6) <= most))
     elif command == "show":
         print(manager.read(words[words.index("-P") + 1]))
     elif command == "daemon-reload" or not {"ocfexec", "ocfexec.service"}.intersection(words):

@@ -120,6 +120,20 @@ class Serving(helper.Check):
         run.stdout.close()
         self.assertEqual((answers, run.wait(helper.PATIENCE)), (asked, 0))
 
+    def test_huge_line(self):
+        """a line of 256 MiB is refused as syntax, in bounded memory, and the next one is answered"""
+        run = self.served()
+        run.ready()
+        run.send(b'{"op":"list","tag":"')
+        for _ in range(256):
+            run.send(bytes([0x61]) * 2 ** 20)
+        run.send(b'"}\n')
+        run.tell({"op": "list"})
+        run.awaits(lambda value: "resources" in value)
+        self.assertEqual([value.get("error") for value in run.values()], ["syntax", None])
+        self.assertLess(helper.kib(run.run.pid, "VmHWM"), 65_536, "KiB of memory")
+        self.assertEqual(run.ends(), 0)
+
     def test_withdraw(self):
         """a queued action is withdrawn while another one runs"""
         run = self.served()

@@ -3,8 +3,8 @@
 CONTRIBUTING.md, docs/, mutants/README.md and the crates' READMEs name in backticks exists, and each other word in backticks occurs
 somewhere in the repository outside the documents; in a README, a section or a row of one crate it occurs in that crate. Each label of a
 clause that a table or a list names after a function is that of a clause or of a field of a definition. Each file with a body that is proved
-by hand is named as trusted. ARCHITECTURE's rows are the headings of crates.txt, and no crate depends on one above its row. The manual page
-has the options of `--help`, and no others, and fits 80 columns.
+by hand is named as trusted. ARCHITECTURE's rows are the headings of crates.txt, and no crate depends on one above its row. The manual pages
+of ocfexec and ocfctl have the options of `--help`, and no others, and fit 80 columns.
 Use: documents.py PROGRAM"""
 import collections
 import fnmatch
@@ -21,7 +21,7 @@ import helper  # noqa: E402
 
 DOCUMENTS = ["README.md", "CONTRIBUTING.md", "mutants/README.md",
              *sorted(glob.glob("docs/*.md", root_dir=helper.TOP) + glob.glob("crates/*/README.md", root_dir=helper.TOP))]
-MANUAL = "docs/ocfexec.8"
+MANUAL, PAGE = "docs/ocfexec.8", "docs/ocfctl.8"
 # Generated from the definitions.
 STATEMENT = "docs/STATEMENT.antt.txt"
 SUBCOMMANDS = ["run", "serve", "show", "status", "log", "metrics", "once"]
@@ -91,6 +91,12 @@ def upward(found):
             if order.get(one, -1) > order[name]]
 
 
+def help_of(client, *words):
+    """The help of a program of examples/."""
+    path = os.path.join(helper.TOP, f"examples/{client}.py")
+    return subprocess.run([path, *words, "--help"], capture_output=True, check=True, text=True, timeout=helper.WHOLE).stdout
+
+
 class Names:
     """The names that exist. A place is a line of a document, after its heading."""
 
@@ -98,7 +104,7 @@ class Names:
         self.crates = set(os.listdir(os.path.join(helper.TOP, "crates")))
         self.files, self.of_crate, self.words, self.of_file = set(), collections.defaultdict(set), set(OUTSIDE), {}
         for path in tree():
-            hidden = path in (*DOCUMENTS, MANUAL, STATEMENT, "tests/repository/documents.py") or path.startswith("docs/pictures/")
+            hidden = path in (*DOCUMENTS, MANUAL, PAGE, STATEMENT, "tests/repository/documents.py") or path.startswith("docs/pictures/")
             words = set(re.findall(r"\w+", path if hidden else path + " " + read(path)))
             self.files.add(path)
             self.words |= words
@@ -106,6 +112,9 @@ class Names:
             if path.startswith("crates/"):
                 self.of_crate[path.split("/")[1]] |= words
         self.helps = {name: helper.run(*[name][:len(name)], "--help").stdout.decode() for name in ["", *SUBCOMMANDS]}
+        # of the clients
+        verbs = re.findall(r"^    (\w+)", help_of("ocfctl"), re.MULTILINE)
+        self.ctl, self.client = " ".join(help_of("ocfctl", verb) for verb in verbs), help_of("client")
         self.targets = set(re.findall(r"^(\w+):", read("Makefile"), re.MULTILINE))
 
     def near(self, place):
@@ -168,7 +177,7 @@ class Names:
         if PAIR.fullmatch(name) and name.split(" ")[0] in self.crates:
             return self.is_pair(name)
         if OPTION.match(name):
-            return any(options(name) <= options(text) for text in self.helps.values())
+            return any(options(name) <= options(text) for text in (*self.helps.values(), self.ctl, self.client))
         if ITEM.fullmatch(name):
             return self.is_item(name, place) if not name.startswith("_") else any(word.endswith(name) for word in self.words)
         if FILE.fullmatch(found):
@@ -253,15 +262,21 @@ class Documents(helper.Check):
         manual = options(re.sub(r"\\f[BIP]", "", read(MANUAL)).replace("\\-", "-"))
         self.assertEqual(*[{name for name in found if name.startswith("--")} for found in (manual, wanted)])
 
+    def test_page(self):
+        """the manual page of ocfctl has the options of its verbs' help, and no others but one of another program"""
+        page = options(re.sub(r"\\f[BIPR]", "", read(PAGE)).replace("\\-", "-")) - {"--events"}
+        self.assertEqual(*[{name for name in found if name.startswith("--")} for found in (page, options(self.names.ctl))])
+
     @unittest.skipUnless(shutil.which("man") and shutil.which("groff"), "install man-db and groff-base")
     def test_width(self):
-        """the manual page fits 80 columns"""
-        shown = subprocess.run(["man", "--warnings", "-l", os.path.join(helper.TOP, MANUAL)], capture_output=True, check=True,
-                               env={**os.environ, "MANWIDTH": "80", "LC_ALL": "C.UTF-8", "MAN_KEEP_FORMATTING": ""})
-        # a terminal has no pages
-        self.assertEqual([line for line in shown.stderr.decode().splitlines() if "on one page" not in line], [])
-        self.assertGreater(shown.stdout.count(b"\n"), 300)
-        self.assertEqual([line for line in shown.stdout.decode().split("\n") if len(line) > 80], [])
+        """the manual pages fit 80 columns"""
+        for page, least in ((MANUAL, 300), (PAGE, 100)):
+            shown = subprocess.run(["man", "--warnings", "-l", os.path.join(helper.TOP, page)], capture_output=True, check=True,
+                                   env={**os.environ, "MANWIDTH": "80", "LC_ALL": "C.UTF-8", "MAN_KEEP_FORMATTING": ""})
+            # a terminal has no pages
+            self.assertEqual([line for line in shown.stderr.decode().splitlines() if "on one page" not in line], [])
+            self.assertGreater(shown.stdout.count(b"\n"), least)
+            self.assertEqual([line for line in shown.stdout.decode().split("\n") if len(line) > 80], [])
 
 
 if __name__ == "__main__":

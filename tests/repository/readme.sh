@@ -9,7 +9,7 @@ mkdir "$here/bin" "$here/tmp"
 ln -s "$program" "$here/bin/ocfexec"
 cd "$top" || exit 1
 found=$(TMPDIR=$here/tmp PATH=$here/bin:$PATH python3 tests/lib/guide.py README.md 2>&1)
-same "README.md" "2 blocks, 0 not as it says" "$found"
+same "README.md" "3 blocks, 0 not as it says" "$found"
 same "what its demonstration leaves" "" "$(find "$here/tmp" -name root)"
 rm -f /tmp/ocfexec-r1 # the service of its first run
 finish "what it says is printed"

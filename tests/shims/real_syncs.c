@@ -7,8 +7,9 @@
      `eio` fails it, a write in its middle and a sync before it is made. `short` makes half of a write. `eintr` interrupts the call
      before anything is made.
    - $SHIM, a lie about syncs: see `lie`.
-   The file of the running agents is no part of a journal: a write of it at an offset is neither noted nor counted. The shell that sends
-   signals is no agent: its start is not noted. Children get none of these variables, so they are left alone. */
+   The files of the running agents and of the journal's identity are no parts of a journal: a write of them at an offset and a sync are
+   neither noted nor counted; those of the identity are where $IDENTITY is set. The shell that sends signals is no agent: its start is
+   not noted. Children get none of these variables, so they are left alone. */
 #define _GNU_SOURCE
 #include <dlfcn.h>
 #include <errno.h>
@@ -26,7 +27,7 @@
 /* the log's descriptor is above those of the program; bytes are put into it in hex so many at a time */
 enum { HIGH = 100, PIECE = 512 };
 
-static int log_file = -1;
+static int log_file = -1, counts_identity;
 static const char *shim = "";
 static char fault[8];
 static long fault_at, calls;
@@ -40,6 +41,7 @@ __attribute__((constructor)) static void begin(void) {
         shim = named;
     if (planned != NULL)
         sscanf(planned, "%7s %ld", fault, &fault_at);
+    counts_identity = getenv("IDENTITY") != NULL;
     log_file = fcntl(file, F_DUPFD_CLOEXEC, HIGH);
     close(file);
 }
@@ -96,8 +98,21 @@ static int meets(const char *word) {
     return calls == fault_at && strcmp(fault, word) == 0;
 }
 
+static int ends_with(const char *path, const char *end) {
+    size_t length = strlen(path), last = strlen(end);
+    return length >= last && strcmp(path + length - last, end) == 0;
+}
+
+/* Whether a file is no part of the journal. */
+static int is_beside(int file) {
+    const char *path = path_of(file);
+    return ends_with(path, "/agents") || (!counts_identity && (ends_with(path, "/identity") || ends_with(path, "/identity.new")));
+}
+
 static int device_sync(const char *call, int file) {
     int answer = -1;
+    if (is_beside(file))
+        return syscall(strcmp(call, "fsync") == 0 ? SYS_fsync : SYS_fdatasync, file);
     calls++;
     if (meets("kill"))
         raise(SIGKILL);
@@ -109,13 +124,8 @@ static int device_sync(const char *call, int file) {
     return answer;
 }
 
-static int ends_with(const char *path, const char *end) {
-    size_t length = strlen(path), last = strlen(end);
-    return length >= last && strcmp(path + length - last, end) == 0;
-}
-
 static ssize_t device_write(int file, const void *bytes, size_t size, off_t at) {
-    if (ends_with(path_of(file), "/agents"))
+    if (is_beside(file))
         return syscall(SYS_pwrite64, file, bytes, size, at);
     calls++;
     int is_cut = meets("kill") || meets("eio") || (meets("short") && size > 1);

@@ -1,10 +1,10 @@
 #!/bin/sh
 # check: slow alone
-# The first hour in one go: the Debian package is built and installed, each block of the guide is run and prints what the guide says, and
-# the package is removed. It is installed into a directory of its own; with `/`, on this machine, as the guide says. If no gate has passed
-# on these programs there is no package: then the check uses the program as it was built, and with `/` that is an error. Without a running
-# systemd, and in a directory, tests/lib/systemctl.py plays it by the unit. It runs by itself: one of the guide's commands waits for a
-# process that lives for a moment.
+# The first hour in one go, and once more: the Debian package is built and installed, each block of the guide is run and prints what the
+# guide says, twice, and the package is removed. It is installed into a directory of its own; with `/`, on this machine, as the guide says.
+# If no gate has passed on these programs there is no package: then the check uses the program as it was built, and with `/` that is an
+# error. Without a running systemd, and in a directory, tests/lib/systemctl.py plays it by the unit. It runs by itself: one of the guide's
+# commands waits for a process that lives for a moment.
 # Use: guide.sh PROGRAM [/]
 set -u
 . "$(dirname "$0")/../lib/common.sh" "$@"
@@ -74,10 +74,10 @@ hour=$here/hour
 unit=$root/lib/systemd/system/ocfexec.service
 if [ "$on_machine" = / ]; then
     ! command -v ocfexec > /dev/null || skip "ocfexec is installed here already: $(command -v ocfexec)"
-    for folder in /srv/hour /etc/ocfexec /var/lib/ocfexec; do
-        [ ! -e "$folder" ] || skip "$folder is there already"
+    ours="/srv/hour /etc/ocfexec /var/lib/ocfexec /var/lib/ocfexec-client /var/log/ocfexec"
+    for folder in $ours; do
+        [ ! -e "$folder" ] || { ours="" && skip "$folder is there already"; }
     done
-    ours="/srv/hour /etc/ocfexec /var/lib/ocfexec"
     bin=/usr/bin
     libexec=/usr/libexec/ocfexec
     hour=/srv/hour
@@ -89,6 +89,7 @@ else
     echo "skipped    0.00 s  guide: the package: no gate has passed on these programs, or there is no dpkg-deb"
     mkdir -p "$bin" "$root/usr/libexec"
     ln -s "$program" "$bin/ocfexec"
+    ln -s "$top/examples/ocfctl.py" "$bin/ocfctl"
     ln -s "$top/examples" "$libexec"
     unit=$top/examples/ocfexec.service
 fi
@@ -100,7 +101,7 @@ placed() {
     else
         sed -e "s,/usr/\(local/share/doc\|libexec\)/ocfexec/,$libexec/,g" -e "s,/usr/\(local/\)\?bin/ocfexec,$bin/ocfexec,g" \
             -e "s,/etc/ocfexec,$here/etc/ocfexec,g" \
-            -e "s,/var/lib/ocfexec,$here/var/lib/ocfexec,g" -e "s,/srv/hour,$hour,g" "$1"
+            -e "s,/var/l\(ib\|og\)/ocfexec,$here/var/l\1/ocfexec,g" -e "s,/run/ocfexec,$here/run,g" -e "s,/srv/hour,$hour,g" "$1"
     fi
 }
 
@@ -116,11 +117,16 @@ placed "$unit" > "$here/ocfexec.service"
 if [ "$on_machine" != / ] || [ ! -d /run/systemd/system ]; then
     played systemctl ""
     played journalctl journalctl
-    [ "$on_machine" = / ] || mkdir -p -m 700 "$here/var/lib/ocfexec"
+    run=$here/run machine=$here
+    [ "$on_machine" != / ] || run=/run/ocfexec machine="" ours="$ours /run/ocfexec"
+    mkdir -p -m 700 "$machine/var/lib/ocfexec" "$machine/var/lib/ocfexec-client" "$machine/var/log/ocfexec" "$run"
+    export OCFEXEC_SOCKET="$run/control"
 fi
-cd "$here" || exit 1
-PATH=$here/bin:$bin:$PATH python3 "$top/tests/lib/guide.py" "$here/GUIDE.md" || failed=1
-checked "the guide's commands"
+for time in first second; do
+    cd "$here" || exit 1
+    PATH=$here/bin:$bin:$PATH python3 "$top/tests/lib/guide.py" "$here/GUIDE.md" || failed=1
+    checked "the guide's commands, for the $time time"
+done
 cd "$here" || exit 1
 [ -z "$installed" ] || remove
 [ "$any_failed" -eq 0 ]

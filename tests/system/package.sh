@@ -33,9 +33,23 @@ before=$("$program" --version | cut -d ' ' -f 2)+$before
 version=$(dpkg-deb -f "$deb" Version)
 dpkg --compare-versions "$version" gt "$before" || differs "the version" "above that of the commit before" "$version"
 same "the journal's folder" 700 "$(stat -c %a "$root/var/lib/ocfexec")"
-for file in README.md docs/GUIDE.md docs/CLIENTS.md docs/FORMAT.md docs/CLUSTER.md examples/client.py examples/ocfexec-fifo.socket; do
-    [ -s "$root/usr/share/doc/ocfexec/$file" ] || differs "$file" "there" "not"
+doc=$root/usr/share/doc/ocfexec
+for file in README.md CHANGELOG.md docs/GUIDE.md docs/CLIENTS.md docs/CONTROL.md docs/FORMAT.md docs/CLUSTER.md examples/client.py; do
+    [ -s "$doc/$file" ] || differs "$file" "there" "not"
 done
+# (words with a slash, or with the ending of a file, in backticks)
+for name in $(grep -o '`[^` ]*`' "$doc/README.md" | tr -d '`' | grep -E '^/|/|\.(md|py|sh|service|json)$'); do
+    case $name in
+    /*) [ -e "$root$name" ] || differs "what README.md names" "in the package" "$name is not" ;;
+    *) [ -e "$doc/$name" ] || differs "what README.md names" "in the package" "$name is not" ;;
+    esac
+done
+if command -v readelf > /dev/null; then
+    # shellcheck disable=SC2016
+    unstripped=$(find "$root/usr" -type f -perm /111 -exec sh -c 'readelf -S "$1" 2>&1 | grep -q "\.symtab" && echo "$1"' sh {} \;)
+    same "what is not stripped" "" "$unstripped"
+fi
+"$root/usr/bin/ocfctl" --help > /dev/null || differs "ocfctl" "its help" "status $?"
 printf '{"resources": {}}\n' > "$here/resources.json"
 same "the client" "$here/resources.json: 0 resources" "$("$root/usr/libexec/ocfexec/client.py" --file "$here/resources.json" --check)"
 package -i "$library"
@@ -58,14 +72,19 @@ grep -q "commit $commit" "$root/usr/share/doc/ocfexec/README.gate" ||
     differs "the gate" "commit $commit" "$(cat "$root/usr/share/doc/ocfexec/README.gate")"
 grep -q '/usr/bin/ocfexec serve .* \$OCFEXEC_OPTIONS$' "$root/lib/systemd/system/ocfexec.service" ||
     differs "the unit" "the options of /etc/default" "$(grep ExecStart "$root/lib/systemd/system/ocfexec.service")"
-[ -s "$root/usr/share/man/man8/ocfexec.8.gz" ] || differs "the manual page" "there" "not"
+for page in ocfexec ocfctl; do
+    [ -s "$root/usr/share/man/man8/$page.8.gz" ] || differs "the manual page $page" "there" "not"
+done
 
-for completions in bash-completion/completions/ocfexec zsh/vendor-completions/_ocfexec fish/vendor_completions.d/ocfexec.fish; do
+for completions in bash-completion/completions/ocfexec bash-completion/completions/ocfctl \
+    zsh/vendor-completions/_ocfexec fish/vendor_completions.d/ocfexec.fish; do
     [ -s "$root/usr/share/$completions" ] || differs "$completions" "there" "not"
 done
 
 package -r ocfexec python3-ocfexec
-same "what is left" "$root/etc/default/ocfexec" "$(find "$root" -type f -not -path "$root/var/lib/dpkg/*")"
+same "what is left" "$root/etc/default/ocfexec $root/etc/logrotate.d/ocfexec" \
+    "$(find "$root" -type f -not -path "$root/var/lib/dpkg/*" | sort | xargs)"
+mkdir "$root/var/lib/ocfexec-client" && touch "$root/var/lib/ocfexec-client/by-hand.json"
 touch "$root/var/lib/ocfexec/part-a"
 package -P ocfexec python3-ocfexec
 same "what is left of it" "$root/var/lib/ocfexec/part-a" "$(find "$root" -type f -not -path "$root/var/lib/dpkg/*")"

@@ -2,6 +2,7 @@
 """The unit of examples/ with the client and its file, run as systemd runs it: its start, its reload, a restart that leaves the services
 running, a kill, a stop, and a status that needs an administrator. systemd-analyze, if it is installed, checks all units.
 Use: unit.py PROGRAM"""
+import gzip
 import json
 import os
 import shutil
@@ -32,16 +33,19 @@ class Keeper(helper.Check):
         super().setUp()
         self.agent("Dummy", AGENT.format(here=self.here))
         self.journal()
-        os.mkdir(self.place("systemd"))
+        for name in ("systemd", "state", "logs"):
+            os.mkdir(self.place(name))
         places = (("/usr/local/share/doc/ocfexec/client.py", os.path.join(EXAMPLES, "client.py")),
-                  ("/usr/local/bin/ocfexec", PROGRAM), ("/var/lib/ocfexec", self.place("journal")), ("/etc/ocfexec", self.here),
-                  ("--meta-variables", f"--root {self.here}"))
+                  ("/usr/local/bin/ocfexec", PROGRAM), ("/var/lib/ocfexec-client", self.place("state")),
+                  ("/var/lib/ocfexec", self.place("journal")), ("/var/log/ocfexec", self.place("logs")), ("/etc/ocfexec", self.here),
+                  ("/run/ocfexec", self.here), ("--meta-variables", f"--root {self.here}"))
         self.manager = systemctl.Manager(units.Unit(os.path.join(EXAMPLES, "ocfexec.service"), places), self.place("systemd"))
         self.addCleanup(self.manager.stop)
         self.wants("web")
 
-    def wants(self, *names):
-        resources = {name: {"provider": "test", "type": "Dummy", "params": {"state": self.place(name)}, "interval": 200} for name in names}
+    def wants(self, *names, kind="Dummy", interval=200):
+        resources = {name: {"provider": "test", "type": kind, "params": {"state": self.place(name)}, "interval": interval, "restarts": 1}
+                     for name in names}
         with open(self.place("new"), "w", encoding="ascii") as file:
             json.dump({"resources": resources}, file)
         os.rename(self.place("new"), self.place("resources.json"))
@@ -72,6 +76,70 @@ class Keeper(helper.Check):
         self.assertEqual(self.called(), ["start", "start"])
         self.manager.stop()
         self.assertEqual((self.manager.read("ExecMainStatus"), self.called()), ("0", ["start", "start", "stop", "stop"]))
+
+    def ctl(self, *words, status=0):
+        done = subprocess.run([os.path.join(EXAMPLES, "ocfctl.py"), words[0], "--socket", self.place("control"), *words[1:]],
+                              capture_output=True, text=True, timeout=helper.WHOLE)
+        self.assertEqual(done.returncode, status, done.stdout + done.stderr)
+        return done.stdout
+
+    def test_by_hand(self):
+        """the status names what is stopped by hand and given up; a restart and a reload leave it so; the log has words and priorities"""
+        self.wants("web", "db")
+        self.manager.start()
+        self.ctl("stop", "web")
+        self.says("stopped by hand: web; running: db")
+        self.manager.restart()
+        self.says("stopped by hand: web; running: db")
+        self.manager.reload()
+        self.assertEqual((self.manager.read("StatusText"), os.path.exists(self.place("web"))), ("stopped by hand: web; running: db", False))
+        os.rename(self.place("resource.d/test/Dummy"), self.place("resource.d/test/Gone"))
+        os.remove(self.place("db"))
+        self.says("stopped by hand: web; given up: db")
+        self.ctl("start", "web", status=1)
+        log = self.manager.read("log")
+        self.assertNotIn("{", log, "no line is for programs")
+        failed = [line for line in log.splitlines() if line.startswith("<3>")]
+        self.assertTrue(any(line.startswith("<3>client: db is given up: ") for line in failed), log)
+        self.assertTrue(all("failed" in line or "given up" in line or "not running" in line for line in failed), failed)
+        self.assertEqual([line for line in log.splitlines() if not line.startswith(("<3>", "<4>", "<6>", "ocfexec: "))], [])
+
+    def test_scope(self):
+        """with-scope.sh runs a start, and no other action, in a scope that has the name of its resource"""
+        os.mkdir(self.place("bin"))
+        with open(self.place("bin/systemd-run"), "w", encoding="ascii") as file:
+            file.write(f'#!/bin/sh\necho "$@" >> {self.here}/scopes\nuntil [ "$1" = -- ]; do shift; done\nshift\nexec "$@"\n')
+        os.chmod(self.place("bin/systemd-run"), 0o755)
+        words = ("run", "--memory", "--root", self.here, "--via", os.path.join(EXAMPLES, "with-scope.sh"), "--path",
+                 f"{self.place('bin')}:/usr/bin:/bin")
+        told = helper.lines(helper.register("web", "Dummy", state=self.place("web")), helper.action("web", "start"),
+                            helper.action("web", "monitor"), helper.action("web", "stop"), {"op": "drain"})
+        found = [value["code"] for value in helper.replies(helper.run(*words, told=told).stdout) if helper.is_notice(value)]
+        self.assertEqual((found, self.called()), ([0, 0, 0], ["start", "stop"]))
+        with open(self.place("scopes"), encoding="ascii") as file:
+            self.assertRegex(file.read(), r"\A--quiet --scope --collect --unit=ocf-web-\d+ -- \S+/test/Dummy start\n\Z")
+
+    @unittest.skipUnless(shutil.which("logrotate"), "there is no logrotate")
+    def test_rotated(self):
+        """logrotate renames the logs of agents while these write, and no line is lost"""
+        self.agent("Talks", 'for n in 1 2 3 4 5 6 7 8 9; do echo "line $n of $$"; done\n' + AGENT.format(here=self.here))
+        self.wants("web", kind="Talks", interval=20)
+        self.manager.start()
+        with open(os.path.join(helper.TOP, "package/ocfexec.logrotate"), encoding="ascii") as file:
+            text = file.read().replace("/var/log/ocfexec", self.place("logs"))
+        with open(self.place("logrotate"), "w", encoding="ascii") as file:
+            file.write(text)
+        for _ in range(5):
+            time.sleep(0.3)
+            subprocess.run(["logrotate", "--force", "--state", self.place("rotated"), self.place("logrotate")], check=True, timeout=60)
+        self.manager.stop()
+        lines = 0
+        for name in os.listdir(self.place("logs")):
+            opens = gzip.open if name.endswith(".gz") else open
+            with opens(os.path.join(self.place("logs"), name), "rt", encoding="ascii") as file:
+                lines += sum(line.startswith("line ") for line in file)
+        with open(self.place("calls"), encoding="ascii") as file:
+            self.assertEqual(lines, 9 * sum(word != "meta-data" for word in file.read().split()))
 
     def test_refused(self):
         """a reload fails if the file names an agent that does not exist, and changes nothing"""
@@ -151,7 +219,7 @@ class Keeper(helper.Check):
     def test_verify(self):
         """systemd-analyze finds nothing wrong with any unit"""
         places = (("/usr/local/share/doc/ocfexec/client.py", os.path.join(EXAMPLES, "client.py")), ("/usr/local/bin/ocfexec", PROGRAM))
-        names = [name for name in os.listdir(EXAMPLES) if name.endswith((".service", ".socket"))]
+        names = [name for name in os.listdir(EXAMPLES) if name.endswith(".service")]
         for name in names:
             with open(os.path.join(EXAMPLES, name), encoding="utf-8") as file:
                 text = file.read()
