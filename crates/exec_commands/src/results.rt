@@ -1,22 +1,13 @@
 //! Results, as the replies to `history` and `info` show them.
 ghost use Rattle.std.specs.Prelude.{◌≡◌, map, IfOk, IsTrue, OnErr};
-ghost use Rattle.ocf_codes.specs.ExitCodes.{name_read};
-ghost use Rattle.ocf_types.specs.Outcomes.{outcome_code};
 ghost use Rattle.serde_json.specs.View.{view};
 ghost use Rattle.exec_commands.specs.Replies.{ended_data, failed_data};
 
 use growth::{Grows, push};
-use ocf_codes::{code_of, name, read_code};
-use ocf_types::{Ended, Outcome};
+use ocf_codes::{code_of, name_of};
+use ocf_types::Ended;
 use serde_json::{Value, json};
 use std::alloc::{AllocError, Global};
-
-/// The name of an outcome's exit code.
-pub fn code_name(outcome: Outcome) -> &'static str
-    ensures { result.now ≡ name_read (outcome_code outcome) }
-{
-    name(read_code(code_of(outcome)))
-}
 
 fn ended_value(alloc: Global, ended: Ended) -> Result<Value, AllocError>
     ensures value { IfOk result (λ v. view v ≡ ended_data ended) }
@@ -25,7 +16,7 @@ fn ended_value(alloc: Global, ended: Ended) -> Result<Value, AllocError>
     // TRUSTED: it fails only where the memory that it takes is refused.
     Global::library_growth(json!(in alloc; {
         "action": ended.action.word(), "at": ended.at.get(), "call": ended.call.get(),
-        "code": code_of(ended.outcome), "interval": ended.interval, "name": code_name(ended.outcome),
+        "code": code_of(ended.outcome), "interval": ended.interval, "name": name_of(ended.outcome),
         "outcome": ended.outcome.word(), "run": ended.run, "since": ended.since.get()
     }))
 }

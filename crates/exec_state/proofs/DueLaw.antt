@@ -20,9 +20,9 @@ use Rattle.ocf_types.specs.Lawful.{IsLawfulRecur}
 use Rattle.ocf_types.specs.RegistryLemmas.{same_id, apart, lookup-push_other, lookup-at_id_here, lookup-at_id_other, found}
 use Rattle.recurring.specs.declared.monitor.Monitor.{Monitor}
 use Rattle.recurring.specs.Monitors.{recurs, all_due_at}
-use Rattle.exec_state.specs.Store.{Store, Monitors, monitors_at, due_of, dues, monitors_due_at}
+use Rattle.exec_state.specs.StateValue.{StateValue, Monitors, monitors_at, due_of, dues, monitors_due_at}
 use Rattle.exec_state.specs.MonitorsAfter.{monitors_stepped, monitors_changed, monitors_after}
-use Rattle.exec_state.specs.Lawful.{recurs_by_id, recurring_by_id, IsLawfulStore}
+use Rattle.exec_state.specs.Lawful.{recurs_by_id, recurring_by_id, IsLawfulValue}
 use Rattle.exec_state.proofs.Choices.{none_before}
 use Rattle.exec_state.proofs.Lookups.{found_fact, lookup-push_here}
 use Rattle.exec_state.proofs.Lookups.{lookup-taken_out}
@@ -172,7 +172,7 @@ due_changed s all at change.Boot id call h same a =
     by (Some r) k = k
 
 -- the due moments after an event that applies
-pub due_by_events : (s : Store) (e : Event) (id : List ℕ) (call : ℕ) → IsLawfulStore s → Applies s.state e
+pub due_by_events : (s : StateValue) (e : Event) (id : List ℕ) (call : ℕ) → IsLawfulValue s → Applies s.state e
     → due_of (monitors_after s.state e s.monitors) id call ≡ due_after s.state (due_of s.monitors) e id call
 due_by_events s e id call h a = due_changed s.state s.monitors e.at e.change id call h.lawful h.monitors a.change
 
@@ -189,7 +189,7 @@ due_all at call (x ∷ xs) = by (x.call == call) (due_all at call xs)
     by false k = k
 
 -- the same of the whole map
-pub due_applied : (s : Store) (all : Monitors) (e : Event) → IsLawfulStore s → Applies s.state e → all ≡ monitors_after s.state e s.monitors
+pub due_applied : (s : StateValue) (all : Monitors) (e : Event) → IsLawfulValue s → Applies s.state e → all ≡ monitors_after s.state e s.monitors
     → due_of all ≡ due_after s.state (dues s) e
 due_applied s all e h a is = ap due_of is ∙ (λ i. λ id call. due_by_events s e id call h a i)
 
@@ -210,9 +210,9 @@ pub due_opened : (s : State) (all : Monitors) (at : ℕ) → all ≡ monitors_du
 due_opened s all at is = ap due_of is ∙ (λ i. λ id call. due_by_opening s at id call i)
 
 -- without resources nothing is due
-pub due_empty : (t : Store) → t.monitors ≡ [] → dues t ≡ due_at empty 0
+pub due_empty : (t : StateValue) → t.monitors ≡ [] → dues t ≡ due_at empty 0
 due_empty t is = ap due_of is
 
 -- if the monitors stay the same, so do their due moments
-pub due_same : (s t : Store) → t.monitors ≡ s.monitors → dues t ≡ dues s
+pub due_same : (s t : StateValue) → t.monitors ≡ s.monitors → dues t ≡ dues s
 due_same s t is = ap due_of is

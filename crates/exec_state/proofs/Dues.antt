@@ -16,7 +16,7 @@ use Rattle.recurring.specs.DueIndex.{Dues, pairs_at, pairs_of_all}
 use Rattle.recurring.specs.Monitors.{pairs}
 use Rattle.exec_state.specs.declared.registered.Registered.{Registered}
 use Rattle.exec_state.specs.Seen.{seen, seen_all, monitors_all, map_entries}
-use Rattle.exec_state.specs.Store.{Monitors, all_pairs, dues_by_id, monitors_at}
+use Rattle.exec_state.specs.StateValue.{Monitors, all_pairs, dues_by_id, monitors_at}
 use Rattle.exec_state.proofs.Choices.{none_before}
 use Rattle.exec_state.proofs.Entries.{IsAbsent, at_id-absent, map_entries-remove_entry}
 use Rattle.exec_state.proofs.Lookups.{key_fact}

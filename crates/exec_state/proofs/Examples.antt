@@ -8,7 +8,7 @@ use Rattle.ocf_types.specs.declared.refusal.Refusal.TheVariants.{UnknownResource
 use Rattle.ocf_types.specs.declared.reply.ReplyOf.TheVariants.{Refused}
 use Rattle.ocf_types.specs.Resource.{no_history}
 use Rattle.ocf_types.specs.Answer.{reply_to}
-use Rattle.exec_state.specs.Store.{Store, dues}
+use Rattle.exec_state.specs.StateValue.{StateValue, dues}
 use Rattle.exec_state.specs.Answers.{IsReplyOrMemory}
 
 abbrev r1 : List ℕ
@@ -18,7 +18,7 @@ abbrev monitor : Recur
 monitor = record { call = 1; interval = 10000; timeout = 20000; check = plain }
 
 -- r1 with one recurring monitor, which is due at 40
-abbrev small : Store
+abbrev small : StateValue
 small = record {
   state = record {
     next_call = 2;

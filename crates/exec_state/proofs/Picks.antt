@@ -17,8 +17,8 @@ use Rattle.ocf_types.specs.Due.{due_pairs, IsLeastDue, IsPickOf, IsPick}
 use Rattle.ocf_types.specs.LawfulState.{IsAscending, IsLawfulResource}
 use Rattle.recurring.specs.declared.monitor.Monitor.{Monitor}
 use Rattle.recurring.specs.Monitors.{recurs, pairs}
-use Rattle.exec_state.specs.Store.{Store, Monitors, monitors_at, due_of, IsChoice}
-use Rattle.exec_state.specs.Lawful.{recurs_by_id, recurring_by_id, IsLawfulStore}
+use Rattle.exec_state.specs.StateValue.{StateValue, Monitors, monitors_at, due_of, IsChoice}
+use Rattle.exec_state.specs.Lawful.{recurs_by_id, recurring_by_id, IsLawfulValue}
 use Rattle.exec_state.proofs.Lookups.{found_fact}
 
 -- a lesser number differs
@@ -61,7 +61,7 @@ recurs-at rs all id r same at =
     by (Some ms) h = let there : Some (recurs ms) ≡ Some r.recurring = h in cc
 
 -- the pick of the monitors is that of the due moments
-pub choice : (s : Store) (id : List ℕ) (now : ℕ) (pick : Option ℕ) → IsLawfulStore s
+pub choice : (s : StateValue) (id : List ℕ) (now : ℕ) (pick : Option ℕ) → IsLawfulValue s
     → MatchOption (resource_at s.state id) (pick ≡ None)
     (λ r. IsPickOf r.history.running r.history.queue (pairs (monitors_at s.monitors id)) now pick)
     → IsChoice s id now pick

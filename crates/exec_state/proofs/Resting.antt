@@ -15,9 +15,9 @@ use Rattle.ocf_types.specs.Due.{IsPickOf}
 use Rattle.recurring.specs.Monitors.{pairs, IsFirstMoment}
 use Rattle.exec_state.specs.declared.registered.Registered.{Registered}
 use Rattle.exec_state.specs.Seen.{seen, seen_all, monitors_of, monitors_all}
-use Rattle.exec_state.specs.Store.{Store, Monitors, monitors_at}
+use Rattle.exec_state.specs.StateValue.{StateValue, Monitors, monitors_at}
 use Rattle.exec_state.specs.Resting.{AllRest, RestBefore, Rests}
-use Rattle.exec_state.specs.Lawful.{IsLawfulStore}
+use Rattle.exec_state.specs.Lawful.{IsLawfulValue}
 use Rattle.exec_state.proofs.Choices.{take_more_some}
 use Rattle.exec_state.proofs.Picks.{choice}
 
@@ -80,7 +80,7 @@ rest_seen {H = H} es now h id =
         which false k = k
 
 -- if no resource begins anything, the state is idle
-pub rests_all : (s : Store) (now : ℕ) → IsLawfulStore s → AllRest s.state.resources s.monitors now → Rests s now
+pub rests_all : (s : StateValue) (now : ℕ) → IsLawfulValue s → AllRest s.state.resources s.monitors now → Rests s now
 rests_all s now h rest id = choice s id now None h (by (lookup (bytes_eq id) s.state.resources) (rest id))
   where
     nothing : Option ℕ

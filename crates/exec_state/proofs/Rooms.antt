@@ -14,8 +14,8 @@ use Rattle.ocf_types.specs.LawfulState.{IsLawfulEnded, IsLawfulResource, IsLawfu
 use Rattle.ocf_types.specs.declared.layout.Layout.TheVariants.{First}
 use Rattle.recurring.specs.Monitors.{recurs, all_due_at}
 use Rattle.exec_state.specs.Seen.{FitsRoom}
-use Rattle.exec_state.specs.Store.{Store}
-use Rattle.exec_state.specs.Lawful.{AreMonitorsOf, IsLawfulStore}
+use Rattle.exec_state.specs.StateValue.{StateValue}
+use Rattle.exec_state.specs.Lawful.{AreMonitorsOf, IsLawfulValue}
 
 -- a lawful resource fits the capacity of a registered one
 fit_each : (next_call next_run clock : ℕ) (rs : Registry) → AllByRecursion (λ e. IsLawfulResource next_call next_run clock e.1) rs
@@ -91,15 +91,15 @@ in_first_lawful s h = record {
 }
 
 -- the same state with its own monitors is lawful
-pub lawful_same : (s : State) (t : Store) → IsLawfulState s → t.state ≡ s → AreMonitorsOf t.state t.monitors → IsLawfulStore t
+pub lawful_same : (s : State) (t : StateValue) → IsLawfulState s → t.state ≡ s → AreMonitorsOf t.state t.monitors → IsLawfulValue t
 lawful_same s t h same are = record { lawful = subst IsLawfulState (sym same) h; monitors = are }
 
 -- the same for a state reduced to what the first layout keeps
-pub lawful_first : (s : State) (t : Store) → IsLawfulState s → t.state ≡ in_first s → AreMonitorsOf t.state t.monitors → IsLawfulStore t
+pub lawful_first : (s : State) (t : StateValue) → IsLawfulState s → t.state ≡ in_first s → AreMonitorsOf t.state t.monitors → IsLawfulValue t
 lawful_first s t h same are = lawful_same (in_first s) t (in_first_lawful s h) same are
 
 -- the state without resources is lawful
-pub lawful_new : (t : Store) → IsLawfulState empty → t.state ≡ empty → t.monitors ≡ [] → IsLawfulStore t
+pub lawful_new : (t : StateValue) → IsLawfulState empty → t.state ≡ empty → t.monitors ≡ [] → IsLawfulValue t
 lawful_new t h same none = lawful_same empty t h same (rw (same, none) refl)
 
 -- monitors made due are the same monitors

@@ -4,7 +4,7 @@ use Rattle.ocf_types.specs.State.{State, Registry}
 use Rattle.ocf_types.specs.LawfulState.{IsLawfulState}
 use Rattle.ocf_types.specs.declared.operation.Recur.{Recur}
 use Rattle.recurring.specs.Monitors.{recurs}
-use Rattle.exec_state.specs.Store.{Store, Monitors}
+use Rattle.exec_state.specs.StateValue.{StateValue, Monitors}
 
 -- the recurring monitors by id, without their due moments
 abbrev pub recurs_by_id : Monitors → List (List ℕ × List Recur)
@@ -19,6 +19,6 @@ abbrev pub AreMonitorsOf : State → Monitors → Type 0
 AreMonitorsOf s all = recurs_by_id all ≡ recurring_by_id s.resources
 
 -- the state is lawful, and the due moments are of its monitors
-pub record IsLawfulStore (s : Store) : Type 0 where
+pub record IsLawfulValue (s : StateValue) : Type 0 where
   pub lawful : IsLawfulState s.state
   pub monitors : AreMonitorsOf s.state s.monitors

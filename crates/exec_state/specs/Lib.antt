@@ -1,5 +1,5 @@
 pub mod Seen
-pub mod Store
+pub mod StateValue
 pub mod Resting
 pub mod RegistryView
 pub mod MonitorsAfter

@@ -8,7 +8,7 @@ use Rattle.ocf_types.specs.declared.event.Step.TheVariants as step
 use Rattle.ocf_types.specs.declared.event.Change.TheVariants as change
 use Rattle.recurring.specs.declared.monitor.Monitor.{Monitor}
 use Rattle.recurring.specs.Monitors.{cancelled, settled, monitor_due_at}
-use Rattle.exec_state.specs.Store.{Monitors}
+use Rattle.exec_state.specs.StateValue.{Monitors}
 
 -- the monitors of a resource after the running action ended at a moment: if a recurring one ran, it is due its interval later
 abbrev pub monitors_run_ended : ℕ → Option Running → List Monitor → List Monitor

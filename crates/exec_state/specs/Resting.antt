@@ -5,10 +5,10 @@ use Rattle.std.specs.Str.{bytes_eq}
 use Rattle.ocf_types.specs.Due.{IsPickOf}
 use Rattle.ocf_types.specs.State.{Registry}
 use Rattle.recurring.specs.Monitors.{pairs}
-use Rattle.exec_state.specs.Store.{Store, Monitors, IsChoice, monitors_at}
+use Rattle.exec_state.specs.StateValue.{StateValue, Monitors, IsChoice, monitors_at}
 
 -- no resource begins anything at a moment
-abbrev pub Rests : Store → ℕ → Type 0
+abbrev pub Rests : StateValue → ℕ → Type 0
 Rests s now = (id : List ℕ) → IsChoice s id now None
 
 -- the same for resources, and their monitors with due moments

@@ -3,7 +3,7 @@ ghost use Rattle.std.specs.Prelude.{◌≡◌};
 ghost use Rattle.ocf_types.specs.Due.{due_at};
 ghost use Rattle.ocf_types.specs.Boot.{any_busy, boot_event};
 ghost use Rattle.ocf_types.specs.Answer.{moment};
-ghost use Rattle.exec_state.specs.Store.{dues, monitors_due_at};
+ghost use Rattle.exec_state.specs.StateValue.{dues, monitors_due_at};
 
 use crate::state::State;
 use growth::Grows;

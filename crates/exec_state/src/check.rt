@@ -131,7 +131,7 @@ impl<A: Grows> State<A> {
             return Err(Refusal::UnknownResource);
         };
         if resource.has_interval(interval) {
-            return Err(Refusal::Exists);
+            return Err(Refusal::Recurs);
         }
         if resource.is_full() {
             return Err(Refusal::RecurringFull);

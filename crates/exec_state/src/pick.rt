@@ -4,7 +4,7 @@ ghost use Rattle.ocf_types.specs.Due.{IsPickOf};
 ghost use Rattle.ocf_types.specs.Indexes.{entry_at};
 ghost use Rattle.recurring.specs.Monitors.{pairs, IsFirstMoment};
 ghost use Rattle.exec_state.specs.Seen.{seen};
-ghost use Rattle.exec_state.specs.Store.{Chooses, IsChoice, all_pairs, dues, run_of_pick};
+ghost use Rattle.exec_state.specs.StateValue.{Chooses, IsChoice, all_pairs, dues, run_of_pick};
 ghost use Rattle.exec_state.specs.Resting.{Rests};
 
 use crate::registered::Registered;

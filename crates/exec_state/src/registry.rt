@@ -2,7 +2,7 @@
 ghost use Rattle.std.specs.Prelude.{ℕ, List, ◌≡◌, ◌<◌, ◌≤◌, ◌++◌, ◌∷◌, [], None, map, not, filter, length, nat_le, is_some, option_map, option_and_then};
 ghost use Rattle.std.specs.Prelude.{slice_index_or, IsTrue, IsSomeAnd, IsOk, IfOk, OnErr, OnOk};
 ghost use Rattle.std.specs.Map.{keys_of, lookup};
-ghost use Rattle.std.specs.List.{flat_map, list_any, AllByRecursion, IsDistinct};
+ghost use Rattle.std.specs.List.{flat_map, list_any, position, AllByRecursion, IsDistinct};
 ghost use Rattle.std.specs.Str.{bytes_eq};
 ghost use Rattle.indexmap.specs.IndexMap.{values, spare};
 ghost use Rattle.ocf_types.specs.Resource.{booted, history_in, is_busy};
@@ -15,7 +15,7 @@ ghost use Rattle.exec_state.specs.Seen.{seen, seen_all, monitors_of, monitors_al
 ghost use Rattle.exec_state.specs.MonitorsAfter.{monitors_stepped};
 ghost use Rattle.exec_state.specs.Lawful.{recurs_by_id, recurring_by_id};
 ghost use Rattle.exec_state.specs.Resting.{AllRest, RestBefore};
-ghost use Rattle.exec_state.specs.Store.{all_pairs, dues_by_id, monitors_at};
+ghost use Rattle.exec_state.specs.StateValue.{all_pairs, dues_by_id, monitors_at};
 
 use crate::registered::Registered;
 use growth::{Grows, push};
@@ -50,7 +50,7 @@ impl<A: Allocator + Copy> Model for Registry<A> {
     ghost use Rattle.exec_state.specs.Seen.{seen_all, monitors_all};
     ghost use Rattle.exec_state.specs.RegistryView.{RegistryView};
     ghost use Rattle.exec_state.specs.Resting.{RestBefore};
-    ghost use Rattle.exec_state.specs.Store.{dues_by_id};
+    ghost use Rattle.exec_state.specs.StateValue.{dues_by_id};
 
     ghost Value = { RegistryView };
 
@@ -147,6 +147,13 @@ impl<A: Grows> Registry<A> {
         ensures { result ≡ is_some (lookup (bytes_eq id.now) self.now.resources) }
     {
         self.get(id).is_some()
+    }
+
+    /// The index of the resource of that id.
+    pub(crate) fn index_of(&self, id: &RscId) -> Option<usize>
+        ensures { result ≡ position (bytes_eq id.now) (keys_of self.now.resources) }
+    {
+        self.resources.get_index_of(id)
     }
 
     /// The resource at an index, and its id.

@@ -19,9 +19,8 @@ fn refusal_text(why: Refusal) -> &'static str
         Refusal::BadName => "a name has other letters, or is longer, than one may be",
         Refusal::BadValue => "a value is outside its range",
         Refusal::UnknownResource => "no resource of this id is registered",
-        Refusal::Exists => {
-            "to register: a resource of this id is registered. To recur: this resource has a recurring monitor of this interval."
-        }
+        Refusal::Exists => "a resource of this id is registered already",
+        Refusal::Recurs => "this resource has a recurring monitor of this interval already",
         Refusal::Busy => "an action of this resource is queued or running",
         Refusal::QueueFull => "32 actions of this resource are queued, which is the limit",
         Refusal::RecurringFull => { "this resource has 8 recurring monitors, which is the limit" }

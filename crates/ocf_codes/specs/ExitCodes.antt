@@ -1,6 +1,6 @@
 -- The table of exit codes.
-use Rattle.std.specs.Prelude.{ℕ, ◌==◌, List, [], ◌∷◌, Option, Some, None, codes}
-use Rattle.std.specs.List.{find}
+use Rattle.std.specs.Prelude.{ℕ, ◌==◌, ◌≡◌, ◌<◌, ◌&&◌, nat_le, true, List, [], ◌∷◌, length, Option, Some, None, codes}
+use Rattle.std.specs.List.{find, list_all}
 use Rattle.ocf_codes.specs.declared.exit_code.Code.{Code}
 use Rattle.ocf_codes.specs.declared.exit_code.Code.TheVariants.{Success, Generic, Args, Unimplemented, Perm, Installed, Configured}
 use Rattle.ocf_codes.specs.declared.exit_code.Code.TheVariants.{NotRunning, RunningPromoted, FailedPromoted, Degraded, DegradedPromoted}
@@ -41,3 +41,7 @@ name_in None = codes "other"
 -- the name of an exit code
 abbrev pub name_read : ℕ → List ℕ
 name_read n = name_in (row_at n)
+
+-- a text of printable ASCII characters, at least one: it fits into a line
+abbrev pub IsPlainText : List ℕ → Type 0
+IsPlainText text = (0 < length text) × (list_all (λ b. nat_le 32 b && nat_le b 126) text ≡ true)

@@ -6,6 +6,6 @@ mod expectation;
 pub mod laws;
 mod outcome_code;
 
-pub use exit_code::{Code, name, read_code};
+pub use exit_code::{Code, name, read_code, words};
 pub use expectation::{expected, failed, is_failure};
-pub use outcome_code::code_of;
+pub use outcome_code::{code_of, name_of};

@@ -12,7 +12,7 @@ use Rattle.ocf_types.specs.declared.outcome.Outcome.TheVariants.{Interrupted, Dr
 use Rattle.ocf_types.specs.declared.event.Step.TheVariants as step
 use Rattle.ocf_types.specs.declared.event.Change.TheVariants as change
 use Rattle.ocf_types.specs.declared.command.CommandOf.TheVariants as command
-use Rattle.ocf_types.specs.declared.refusal.Refusal.TheVariants.{Exists, Busy, QueueFull, RecurringFull, CallsSpent, NoSuchRecurring}
+use Rattle.ocf_types.specs.declared.refusal.Refusal.TheVariants.{Exists, Recurs, Busy, QueueFull, RecurringFull, CallsSpent, NoSuchRecurring}
 use Rattle.ocf_types.specs.Kinds.{Change, Event, Registration}
 use Rattle.ocf_types.specs.Resource.{Resource, no_history}
 use Rattle.ocf_types.specs.State.{State, empty, resource_at, after, after_all}
@@ -110,7 +110,7 @@ recurring_full : event_of (with_resource 9 [] eight) 0 (command.Recur r1 9 20000
 unfolding two_bytes four_bytes eight_bytes encoded_event_in
 recurring_full = refl
 
-same_interval : event_of (with_resource 9 [] eight) 0 (command.Recur r1 8 20000 plain) ≡ Err Exists
+same_interval : event_of (with_resource 9 [] eight) 0 (command.Recur r1 8 20000 plain) ≡ Err Recurs
 unfolding two_bytes four_bytes eight_bytes encoded_event_in
 same_interval = refl
 

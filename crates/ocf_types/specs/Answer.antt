@@ -13,7 +13,7 @@ use Rattle.ocf_types.specs.declared.command.Question.TheVariants as question
 use Rattle.ocf_types.specs.declared.event.Step.TheVariants as step
 use Rattle.ocf_types.specs.declared.event.Change.TheVariants as change
 use Rattle.ocf_types.specs.declared.refusal.Refusal.{Refusal}
-use Rattle.ocf_types.specs.declared.refusal.Refusal.TheVariants.{UnknownResource, Exists, Busy, QueueFull, RecurringFull, NoSuchRecurring}
+use Rattle.ocf_types.specs.declared.refusal.Refusal.TheVariants.{UnknownResource, Exists, Recurs, Busy, QueueFull, RecurringFull, NoSuchRecurring}
 use Rattle.ocf_types.specs.declared.refusal.Refusal.TheVariants.{NotQueued, TooManyResources, TooLarge, CallsSpent}
 use Rattle.ocf_types.specs.declared.reply.ReplyOf.TheVariants as reply
 
@@ -57,7 +57,7 @@ tests s (command.Exec id t timeout) size =
     (UnknownResource, is_none (resource_at s id)) ∷ (QueueFull, holds_at s id (λ r. nat_le queue_limit (length r.history.queue)))
     ∷ (CallsSpent, s.next_call == num_max) ∷ []
 tests s (command.Recur id interval timeout check) size =
-    (UnknownResource, is_none (resource_at s id)) ∷ (Exists, holds_at s id (λ r. is_some (of_interval interval r.recurring)))
+    (UnknownResource, is_none (resource_at s id)) ∷ (Recurs, holds_at s id (λ r. is_some (of_interval interval r.recurring)))
     ∷ (RecurringFull, holds_at s id (λ r. nat_le recurring_limit (length r.recurring))) ∷ (CallsSpent, s.next_call == num_max) ∷ []
 tests s (command.Cancel id interval) size =
     (UnknownResource, is_none (resource_at s id)) ∷ (NoSuchRecurring, holds_at s id (λ r. is_none (of_interval interval r.recurring))) ∷ []

@@ -1,11 +1,11 @@
 -- Refusals, with their numbers and words.
 use Rattle.std.specs.Prelude.{ℕ, List, codes}
 use Rattle.ocf_types.specs.declared.refusal.Refusal.{Refusal}
-use Rattle.ocf_types.specs.declared.refusal.Refusal.TheVariants.{Syntax, UnknownOp, BadName, BadValue, UnknownResource, Exists, Busy}
+use Rattle.ocf_types.specs.declared.refusal.Refusal.TheVariants.{Syntax, UnknownOp, BadName, BadValue, UnknownResource, Exists, Recurs, Busy}
 use Rattle.ocf_types.specs.declared.refusal.Refusal.TheVariants.{QueueFull, RecurringFull, NoSuchRecurring, TooManyResources, TooLarge}
 use Rattle.ocf_types.specs.declared.refusal.Refusal.TheVariants.{CallsSpent, JournalFull, Memory, Disk, Closed, NotQueued}
 
--- the number and the word of a refusal
+-- the number and the word of a refusal; a second registration and a second monitor of an interval have the same
 abbrev pub refusal_row : Refusal → ℕ × List ℕ
 refusal_row Syntax = (1, codes "syntax")
 refusal_row UnknownOp = (2, codes "unknown-op")
@@ -13,6 +13,7 @@ refusal_row BadName = (3, codes "bad-name")
 refusal_row BadValue = (4, codes "bad-value")
 refusal_row UnknownResource = (5, codes "unknown-resource")
 refusal_row Exists = (6, codes "exists")
+refusal_row Recurs = (6, codes "exists")
 refusal_row Busy = (7, codes "busy")
 refusal_row QueueFull = (8, codes "queue-full")
 refusal_row RecurringFull = (9, codes "recurring-full")

@@ -15,8 +15,10 @@ pub enum Refusal {
     BadValue,
     /// No resource of this id is registered.
     UnknownResource,
-    /// The resource, or a recurring monitor of this interval, exists already.
+    /// A resource of this id is registered already.
     Exists,
+    /// The resource has a recurring monitor of this interval already; the word and the number are those of [`Refusal::Exists`].
+    Recurs,
     /// An action of the resource is queued or running.
     Busy,
     /// [`QUEUE_LIMIT`](crate::QUEUE_LIMIT) actions of the resource are queued already.
@@ -55,7 +57,7 @@ impl Refusal {
             Refusal::BadName => (3, "bad-name"),
             Refusal::BadValue => (4, "bad-value"),
             Refusal::UnknownResource => (5, "unknown-resource"),
-            Refusal::Exists => (6, "exists"),
+            Refusal::Exists | Refusal::Recurs => (6, "exists"),
             Refusal::Busy => (7, "busy"),
             Refusal::QueueFull => (8, "queue-full"),
             Refusal::RecurringFull => (9, "recurring-full"),

@@ -1,9 +1,10 @@
 -- The runs that ended over a list of events, and whether each has failed. A run ends by its result, or by a boot, which interrupts it.
-use Rattle.std.specs.Prelude.{ℕ, Bool, List, [], ◌∷◌, ◌++◌, filter, not, if◌then◌else◌}
+use Rattle.std.specs.Prelude.{◌≡◌, ◌<◌, ◌≤◌, ◌⊎◌, ℕ, Bool, false, List, [], ◌∷◌, ◌++◌, filter, length, not, if◌then◌else◌}
 use Rattle.std.specs.Prelude.{Option, Some, None, option_and_then, option_map, option_to_list}
 use Rattle.std.specs.List.{flat_map}
 use Rattle.std.specs.Str.{bytes_eq}
 use Rattle.ocf_types.specs.Expected.{has_failed}
+use Rattle.ocf_types.specs.Indexes.{id_at}
 use Rattle.ocf_types.specs.Kinds.{Change, Event}
 use Rattle.ocf_types.specs.Resource.{Resource}
 use Rattle.ocf_types.specs.State.{State, after}
@@ -27,6 +28,14 @@ abbrev pub end_of : Change → List ℕ → Option Outcome
 end_of (change.Step of (step.Result run end)) id = if bytes_eq of id then Some (Run end) else None
 end_of change.Boot id = Some Interrupted
 end_of _ id = None
+
+-- no other resource than those from one index on and below another has this id
+abbrev pub IsAlone : State → List ℕ → ℕ → ℕ → Type 0
+IsAlone s id from to = (k : ℕ) → k < length s.resources → (k < from) ⊎ (to ≤ k) → bytes_eq id (id_at s k) ≡ false
+
+-- the change ends the running action of no resource but those from one index on and below another
+abbrev pub EndsWithin : State → Change → ℕ → ℕ → Type 0
+EndsWithin s c from to = (k : ℕ) → k < length s.resources → (k < from) ⊎ (to ≤ k) → end_of c (id_at s k) ≡ None
 
 -- the running action as a run that ended with this outcome: it has failed or not by the expectation of its task
 abbrev pub ran : List ℕ → Outcome → Running → Ran

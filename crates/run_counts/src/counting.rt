@@ -1,16 +1,17 @@
 //! The counts of all resources.
-ghost use Rattle.std.specs.Prelude.{◌≡◌, ◌<◌, ◌++◌, ◌∷◌, [], List, ℕ, length, IsTrue, OnErr, OnOk};
+ghost use Rattle.std.specs.Prelude.{◌≡◌, ◌<◌, ◌++◌, ◌∷◌, [], List, length, IsTrue, OnErr, OnOk};
 ghost use Rattle.std.specs.List.{flat_map};
 ghost use Rattle.ocf_types.specs.Indexes.{entry_at};
 ghost use Rattle.run_counts.specs.Counts.{Tallies, count_at};
-ghost use Rattle.run_counts.specs.Runs.{Ran, end_of, ended_by, left_by, ran_after, ran_as, without};
+ghost use Rattle.run_counts.specs.Runs.{Ran, ended_by, left_by, ran_after, ran_as, without};
 
 use crate::count::RunCount;
+use crate::ends::{end_of, ending};
 use exec_state::State;
 use growth::Grows;
 use indexmap::IndexMap;
 use ocf_codes::failed;
-use ocf_types::{Change, Event, Outcome, Params, RscId, StateView, Step};
+use ocf_types::{Change, Event, Params, RscId, StateView};
 use std::alloc::{AllocError, Global};
 
 /// The counts by id of the resources that have had a run end.
@@ -58,23 +59,6 @@ fn forget_by(counts: &mut RunCounts, change: &Change<Params>)
     }
 }
 
-/// The outcome by which a change ends the running action of a resource; `None` if it does not end it.
-pub fn end_of(change: &Change<Params>, id: &RscId) -> Option<Outcome>
-    ensures { result ≡ end_of change.now id.now }
-{
-    match change {
-        Change::Step(of, Step::Result { run: _, end }) => {
-            if of == id {
-                Some(Outcome::Run(*end))
-            } else {
-                None
-            }
-        }
-        Change::Boot => Some(Outcome::Interrupted),
-        _ => None,
-    }
-}
-
 // Counts the run of the resource at an index, if the change ends one.
 fn count_index(
     counts: &mut RunCounts,
@@ -114,7 +98,8 @@ fn count_ended(
         (runs ++ flat_map (ended_by change.now) state.now.state.resources)) }
     ensures memory { OnErr result (IsTrue ⟦<Global as Grows>⟧.refuses) }
 {
-    for index in 0..state.len() {
+    let (from, to) = ending(state, change);
+    for index in from..to {
         count_index(counts, state, change, index)?;
     }
     Ok(())

@@ -3,6 +3,8 @@
 
 mod count;
 mod counting;
+mod ends;
 
 pub use count::RunCount;
-pub use counting::{RunCounts, count_event, count_of, end_of};
+pub use counting::{RunCounts, count_event, count_of};
+pub use ends::{end_of, ending};

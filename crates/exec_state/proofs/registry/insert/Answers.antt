@@ -9,7 +9,7 @@ use Rattle.ocf_types.specs.State.{at_id}
 use Rattle.recurring.specs.DueIndex.{Dues}
 use Rattle.recurring.specs.Monitors.{pairs}
 use Rattle.exec_state.proofs.Choices.{none_before}
-use Rattle.exec_state.specs.Store.{dues_by_id}
+use Rattle.exec_state.specs.StateValue.{dues_by_id}
 use Rattle.exec_state.proofs.Dues.{at_id-last, dues_absent, dues_more}
 use Rattle.exec_state.proofs.registry.insert.Goals as goal
 

@@ -1,14 +1,16 @@
-use Rattle.std.proofs.Common.{rules, ℕ, ◌<◌, ◌≤◌, List, ◌++◌, length, take, sym, subst, append-nil}
+use Rattle.std.proofs.Common.{rules, ◌≡◌, ◌<◌, List, ◌++◌, length, take, sym, ap, subst, ◌∙◌, append-nil}
 use Rattle.std.specs.List.{flat_map}
-use Rattle.std.proofs.lemmas.List.{take_all}
-use Rattle.ocf_types.specs.Resource.{Resource}
 use Rattle.run_counts.specs.Counts.{Tallies}
 use Rattle.run_counts.specs.Runs.{Ran, ended_by}
-use Rattle.run_counts.proofs.Since.{index_more}
+use Rattle.run_counts.proofs.Since.{ended_none, index_more, none_after, none_before}
 use Rattle.run_counts.proofs.counting.count_ended.Goals as goal
 
 pub loop-index-init : goal.loop-index-init
-loop-index-init c = λ runs were. subst (λ (l : List Ran). Tallies c.args.counts.now.entries l) (sym (append-nil runs)) were
+loop-index-init c = λ runs were.
+    let s = c.args.state.now.state in
+    let change = c.args.change.now in
+    let none = none_before (ended_by change) s change _ _ c.ending-from.ensures.range.0 c.ending-from.ensures.range.1 c.ending-from.ensures.others (ended_none change) in
+    subst (λ (l : List Ran). Tallies c.args.counts.now.entries l) (sym (ap (λ (l : List Ran). runs ++ l) none ∙ append-nil runs)) were
 
 pub loop-index-preserved : goal.loop-index-preserved
 loop-index-preserved c = λ runs were.
@@ -22,7 +24,10 @@ loop-index-preserved c = λ runs were.
 pub returns-clause-counted : goal.returns-clause-counted
 returns-clause-counted c = λ runs were.
     let s = c.args.state.now.state in
-    let f = ended_by c.args.change.now in
-    let all : length s.resources ≤ c.loop-index.index = search rules in
-    subst (λ (l : List (List ℕ × Resource)). Tallies c.loop-index.counts.entries (runs ++ flat_map f l)) (take_all c.loop-index.index s.resources all)
+    let change = c.args.change.now in
+    let f = ended_by change in
+    let to = c.ending-from.result.1 in
+    let all = none_after f s change _ to c.ending-from.ensures.range.0 c.ending-from.ensures.range.1 c.ending-from.ensures.others (ended_none change) in
+    let last : c.loop-index.index ≡ to = search rules in
+    subst (λ (l : List Ran). Tallies c.loop-index.counts.entries (runs ++ l)) (ap (λ n. flat_map f (take n s.resources)) last ∙ all)
     (c.loop-index.invariant runs were)

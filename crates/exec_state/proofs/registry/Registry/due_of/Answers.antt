@@ -2,7 +2,7 @@ use Rattle.std.proofs.Common.{◌≡◌, ap, ◌∙◌}
 use Rattle.recurring.specs.DueIndex.{Dues, pairs_at}
 use Rattle.recurring.specs.Monitors.{pairs}
 use Rattle.exec_state.specs.Seen.{monitors_all}
-use Rattle.exec_state.specs.Store.{monitors_at}
+use Rattle.exec_state.specs.StateValue.{monitors_at}
 use Rattle.exec_state.proofs.Dues.{dues_at}
 use Rattle.exec_state.proofs.registry.Registry.due_of.Goals as goal
 

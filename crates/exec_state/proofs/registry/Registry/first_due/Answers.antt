@@ -1,7 +1,7 @@
 use Rattle.std.proofs.Common.{◌≡◌, ap, ◌∙◌}
 use Rattle.recurring.specs.DueIndex.{pairs_of_all}
 use Rattle.exec_state.specs.Seen.{monitors_all}
-use Rattle.exec_state.specs.Store.{all_pairs}
+use Rattle.exec_state.specs.StateValue.{all_pairs}
 use Rattle.exec_state.proofs.Dues.{dues_all}
 use Rattle.exec_state.proofs.registry.Registry.first_due.Goals as goal
 

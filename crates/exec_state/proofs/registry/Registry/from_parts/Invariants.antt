@@ -1,7 +1,7 @@
 use Rattle.std.proofs.Common.{◌≡◌, ◌++◌, length}
 use Rattle.std.specs.Vec.Iter.{into_iter_items, into_iter_len}
 use Rattle.exec_state.specs.Seen.{seen_all, monitors_all}
-use Rattle.exec_state.specs.Store.{dues_by_id}
+use Rattle.exec_state.specs.StateValue.{dues_by_id}
 use Rattle.exec_state.proofs.Restored.{due_by_id}
 use Rattle.exec_state.proofs.registry.Registry.from_parts.Given as goal
 

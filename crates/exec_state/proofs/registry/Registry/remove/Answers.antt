@@ -2,7 +2,7 @@ use Rattle.std.proofs.Common.{ap, filter, not, sym, ◌∙◌}
 use Rattle.std.specs.Str.{bytes_eq}
 use Rattle.recurring.specs.DueIndex.{Dues}
 use Rattle.exec_state.specs.Seen.{seen, seen_all, monitors_of, monitors_all}
-use Rattle.exec_state.specs.Store.{dues_by_id}
+use Rattle.exec_state.specs.StateValue.{dues_by_id}
 use Rattle.exec_state.proofs.Dues.{dues_without}
 use Rattle.exec_state.proofs.Entries.{map_entries-remove_entry}
 use Rattle.exec_state.proofs.Resting.{rest_before_0}

@@ -9,7 +9,7 @@ use Rattle.recurring.specs.DueIndex.{Dues}
 use Rattle.recurring.specs.Monitors.{pairs}
 use Rattle.exec_state.specs.MonitorsAfter.{monitors_stepped}
 use Rattle.exec_state.specs.Seen.{seen, seen_all, monitors_of, monitors_all}
-use Rattle.exec_state.specs.Store.{dues_by_id}
+use Rattle.exec_state.specs.StateValue.{dues_by_id}
 use Rattle.exec_state.proofs.Dues.{dues_set_at, length-dues}
 use Rattle.exec_state.proofs.Entries.{map_entries-set_value, map_entries-same_at, set_value-found}
 use Rattle.exec_state.proofs.Resting.{rest_before_0}

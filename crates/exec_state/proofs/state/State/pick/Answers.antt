@@ -2,15 +2,15 @@ use Rattle.std.proofs.Common.{◌≡◌, ℕ, List, Option, Some}
 use Rattle.ocf_types.specs.Due.{IsPick}
 use Rattle.ocf_types.specs.Resource.{Resource}
 use Rattle.ocf_types.specs.State.{resource_at}
-use Rattle.exec_state.specs.RegistryView.{store_of}
+use Rattle.exec_state.specs.RegistryView.{value_of}
 use Rattle.exec_state.specs.Seen.{seen}
-use Rattle.exec_state.specs.Store.{Store, dues}
+use Rattle.exec_state.specs.StateValue.{StateValue, dues}
 use Rattle.exec_state.proofs.Picks.{choice}
 use Rattle.exec_state.proofs.state.State.pick.Goals as goal
 
 pub returns : goal.returns
 returns g c =
-    let s : Store = store_of g.A.Grows.refuses c.self.inside.next_call c.self.inside.next_run c.self.inside.clock c.self.inside.registry in
+    let s : StateValue = value_of g.A.Grows.refuses c.self.inside.next_call c.self.inside.next_run c.self.inside.clock c.self.inside.registry in
     let id : List ℕ = c.entry.result.0.now in
     let r : Resource = seen c.entry.result.1.now in
     let call : Option ℕ = c.pick.ensures.0 in

@@ -20,19 +20,19 @@ Monitors = List (List ℕ × List Monitor)
 
 -- what contracts see of a `State`: the state that the journal keeps, the monitors with their due moments (which it does
 -- not keep), whether a resource can be registered without an allocation, and whether the allocator refuses growths
-pub record Store : Type 0 where
+pub record StateValue : Type 0 where
   pub state : State
   pub monitors : Monitors
   pub ready : Bool
   pub refuses : Bool
 
 -- the memory that a change needs is reserved: only a registration needs any
-abbrev pub IsReadyFor : Store → Change → Type 0
+abbrev pub IsReadyFor : StateValue → Change → Type 0
 IsReadyFor s (change.Register r) = IsTrue s.ready
 IsReadyFor s _ = ⊤
 
 -- the event can be applied without an allocation
-abbrev pub IsPrepared : Store → Event → Type 0
+abbrev pub IsPrepared : StateValue → Event → Type 0
 IsPrepared s e = IsReadyFor s e.change
 
 -- the monitors of the resource of an id
@@ -52,7 +52,7 @@ abbrev pub due_of : Monitors → Due
 due_of all id call = option_map (λ m. m.due) (find (λ m. m.recur.call == call) (monitors_at all id))
 
 -- the due moments of the recurring monitors, as a map from resource id and call
-abbrev pub dues : Store → Due
+abbrev pub dues : StateValue → Due
 dues s = due_of s.monitors
 
 -- the monitors of a state, all due at a moment
@@ -68,5 +68,5 @@ abbrev pub Chooses : Due → ℕ → ℕ → List ℕ × Resource → Option Run
 Chooses due at run e chosen = (call : Option ℕ) × IsPick e.1 (due e.0) at call × (chosen ≡ run_of_pick at run e.1 call)
 
 -- the pick of the resource of an id at a moment; nothing if there is no resource
-abbrev pub IsChoice : Store → List ℕ → ℕ → Option ℕ → Type 0
+abbrev pub IsChoice : StateValue → List ℕ → ℕ → Option ℕ → Type 0
 IsChoice s id now pick = MatchOption (resource_at s.state id) (pick ≡ None) (λ r. IsPick r (dues s id) now pick)
