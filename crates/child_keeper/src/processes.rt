@@ -21,9 +21,7 @@ use crate::waits::Waits;
 use crate::{Answer, Children, Entry, KillFault, Poll};
 use agent_logs::{Log, LoggedEnd, Uncopied};
 use agents_file::AgentEntry;
-use disk_model::Disk;
 use exec_commands::Left;
-use exec_journal::Journal;
 use growth::{GROWTH_LIMIT, Grows};
 use ocf_env::Launch;
 use ocf_types::{Action, RscId, RunId, StartFault};
@@ -34,6 +32,7 @@ use std::io::{self, Eprint, ErrorKind};
 use std::process::{self, Child, OpenProcess};
 use std::rt::Clock;
 use std::time::Duration;
+use store_model::Store;
 
 /// Agents as processes of the system. Each runs in the root directory with exactly the variables of its launch, reads nothing and
 /// writes where the log says. It has no descriptor but 0, 1 and 2, blocks no signal, is ended by SIGPIPE, and has the umask of
@@ -293,9 +292,9 @@ impl<
 
     ghost view = { processes_of };
 
-    fn start<D: Disk + Drop, B: Allocator + Copy, L: Allocator>(
+    fn start<S: Store, L: Allocator>(
         &mut self,
-        journal: &Journal<D, B>,
+        store: &S,
         launch: &Launch<L>,
     ) -> Result<(), StartFault> {
         let run = launch.run;
@@ -308,7 +307,7 @@ impl<
         };
         self.book.note(Entry {
             run,
-            at: journal.clock(),
+            at: store.clock(),
             answer: Answer::Start(answer),
         });
         self.last_run = run.get();

@@ -1,7 +1,6 @@
 //! Simulated agent processes that answer by a script.
 ghost use Rattle.std.specs.Prelude.{◌≡◌, ◌-◌, ◌<◌, ◌==◌, ◌≤◌, [], Contains, IfOk, IsTrue, None, OnErr, drop, length};
 ghost use Rattle.std.specs.VecDeque.{deque_items};
-ghost use Rattle.exec_journal.specs.Journal.{journal_disk};
 ghost use Rattle.child_model.specs.Children.{AllEnded, Ended, after_ends, after_kill, after_poll, after_start, all_ended, live_limit};
 ghost use Rattle.child_model.specs.MayStart.{MayStart};
 ghost use Rattle.child_keeper.specs.Scripts.{head_or, killed_on, next_kill, next_poll, next_start, polled_on, started_on};
@@ -9,13 +8,12 @@ ghost use Rattle.child_keeper.specs.Scripts.{head_or, killed_on, next_kill, next
 use crate::book::Book;
 use crate::live::LiveRuns;
 use crate::{Answer, Children, Entry, KillFault, Poll, Script};
-use disk_model::Disk;
-use exec_journal::Journal;
 use growth::{GROWTH_LIMIT, Grows};
 use ocf_env::Launch;
 use ocf_types::{RscId, RunId, StartFault};
 use std::alloc::{AllocError, Allocator, Global};
 use std::collections::VecDeque;
+use store_model::Store;
 
 /// Agent processes that answer what a script says; nothing is spawned. After `new` they allocate nothing.
 #[derive(Drop)]
@@ -80,20 +78,19 @@ impl<A: Allocator + Copy> Children for Scripted<A> {
 
     ghost view = { children_of };
 
-    fn start<D: Disk + Drop, B: Allocator + Copy, L: Allocator>(
+    fn start<S: Store, L: Allocator>(
         &mut self,
-        journal: &Journal<D, B>,
+        store: &S,
         launch: &Launch<L>,
     ) -> Result<(), StartFault>
         requires room { 0 < (children_of self.old).room }
         requires few { length (children_of self.old).live < live_limit }
         requires rising { (children_of self.old).last_run < launch.now.run }
         requires ended { (children_of self.old).given_up ≡ [] }
-        requires may_start { MayStart (children_of self.old).site journal.now
-            (D.view (journal_disk journal.now)) launch.now }
+        requires may_start { MayStart (children_of self.old).site (S.view store.now) launch.now }
         ensures started { children_of self.new
             ≡ after_start (children_of self.old) launch.now.run
-            (D.view (journal_disk journal.now)).clock result }
+            (S.view store.now).clock result }
         ensures scripted { result ≡ next_start (script_of self.old) }
         ensures goes_on { script_of self.new ≡ started_on (script_of self.old) }
     {
@@ -107,7 +104,7 @@ impl<A: Allocator + Copy> Children for Scripted<A> {
         let run = launch.run;
         self.book.note(Entry {
             run,
-            at: journal.clock(),
+            at: store.clock(),
             answer: Answer::Start(answer),
         });
         if answer.is_ok() {

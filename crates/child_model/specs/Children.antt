@@ -73,7 +73,7 @@ abbrev pub given_up_polled : Poll → ℕ → List ℕ → List ℕ
 given_up_polled poll.Fault run given_up = given_up ++ run ∷ []
 given_up_polled _ run given_up = given_up
 
--- the view after a start of a run, called when the journal's disk had had this many device calls
+-- the view after a start of a run, called when the store had made this many device calls
 abbrev pub after_start : ChildrenView → ℕ → ℕ → Result Unit StartFault → ChildrenView
 after_start v run at answer = record (with_entry v run at (start_answer answer)) { last_run = run; live = live_started answer run v.live }
 
@@ -119,7 +119,7 @@ abbrev pub IsOfStart : Answer → Type 0
 IsOfStart (asked.Start answer) = ⊤
 IsOfStart _ = ⊥
 
--- the book has the entry of a start of this run, requested when the journal's disk had had this many device calls
+-- the book has the entry of a start of this run, requested when the store had made this many device calls
 abbrev pub Asked : List Entry → ℕ → ℕ → Type 0
 Asked book run at = (answer : Answer) × IsOfStart answer × Contains book (record { run = run; at = at; answer = answer })
 

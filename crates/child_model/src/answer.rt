@@ -36,7 +36,7 @@ pub enum Answer {
 pub struct Entry {
     /// The run that was started, polled or killed.
     pub run: RunId,
-    /// For a start, how many device calls the journal's disk had had by then; else 0.
+    /// For a start, how many device calls the store had made by then; else 0.
     pub at: u64,
     pub answer: Answer,
 }

@@ -1,15 +1,13 @@
 //! Agent processes as the executor sees them.
 ghost use Rattle.std.specs.Prelude.{◌≡◌, ◌↔◌, ◌<◌, [], Contains, IsTrue, length};
-ghost use Rattle.exec_journal.specs.Journal.{journal_disk};
 ghost use Rattle.child_model.specs.Children.{AllEnded, ChildrenView, Ended, after_kill, after_poll, after_start, emptied, is_held, live_limit};
 ghost use Rattle.child_model.specs.MayStart.{MayStart};
 
 use crate::{Entry, KillFault, Poll};
-use disk_model::Disk;
-use exec_journal::Journal;
 use ocf_env::Launch;
 use ocf_types::{RscId, RunId, StartFault};
 use std::alloc::Allocator;
+use store_model::Store;
 
 /// The children: agent processes, each under its run number, and the book of their answers. They may name the only site at which
 /// they start agents; those of `child_keeper` name none.
@@ -23,22 +21,21 @@ use std::alloc::Allocator;
 pub trait Children {
     ghost view: { Self → ChildrenView };
 
-    /// Spawns an agent. Its begin must be durable in the journal. Its run then lives, unless the start is refused, by the system
+    /// Spawns an agent. Its begin must be durable in the store. Its run then lives, unless the start is refused, by the system
     /// or by these children. Nothing is left given up.
-    fn start<D: Disk + Drop, A: Allocator + Copy, L: Allocator>(
+    fn start<S: Store, L: Allocator>(
         &mut self,
-        journal: &Journal<D, A>,
+        store: &S,
         launch: &Launch<L>,
     ) -> Result<(), StartFault>
         requires room { 0 < (view self.old).room }
         requires few { length (view self.old).live < live_limit }
         requires rising { (view self.old).last_run < launch.now.run }
         requires ended { (view self.old).given_up ≡ [] }
-        requires may_start { MayStart (view self.old).site journal.now
-            (D.view (journal_disk journal.now)) launch.now }
+        requires may_start { MayStart (view self.old).site (S.view store.now) launch.now }
         ensures started { view self.new
             ≡ after_start (view self.old) launch.now.run
-            (D.view (journal_disk journal.now)).clock result };
+            (S.view store.now).clock result };
 
     /// Polls the agent process of a run. If it has ended, or the system fails to answer, the run no longer lives; in the second case
     /// its process is given up.

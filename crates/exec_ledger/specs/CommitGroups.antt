@@ -2,7 +2,7 @@
 use Rattle.std.specs.Prelude.{◌≡◌, ℕ, List, [], ◌∷◌}
 use Rattle.std.specs.List.{flat_map}
 use Rattle.ocf_types.specs.Kinds.{Command, Reply}
-use Rattle.disk_model.specs.Disk.{DiskView}
+use Rattle.store_model.specs.StoreView.{StoreView}
 use Rattle.exec_ledger.specs.Commands.{TakesCommand}
 use Rattle.exec_ledger.specs.LedgerView.{LedgerView}
 use Rattle.exec_ledger.specs.Together.{TakesBatch}
@@ -22,18 +22,19 @@ replies_of (Single c r) = r ∷ []
 replies_of (Batch cs rs) = rs
 
 -- what a ledger does with one at this moment
-abbrev pub TakesGroup : {D : Type 0} → (D → DiskView) → ℕ → CommitGroup → LedgerView D → LedgerView D → Type 0
+abbrev pub TakesGroup : {S : Type 0} → (S → StoreView) → ℕ → CommitGroup → LedgerView S → LedgerView S → Type 0
 TakesGroup view now (Single c r) old new = TakesCommand view now c old new r
 TakesGroup view now (Batch cs rs) old new = TakesBatch view now cs old new rs
 
 -- one after the other
-abbrev pub TakesGroups : {D : Type 0} → (D → DiskView) → ℕ → List CommitGroup → LedgerView D → LedgerView D → Type 0
+abbrev pub TakesGroups : {S : Type 0} → (S → StoreView) → ℕ → List CommitGroup → LedgerView S → LedgerView S → Type 0
 TakesGroups view now [] old new = new ≡ old
-TakesGroups {D} view now (s ∷ ss) old new = (mid : LedgerView D) × TakesGroup view now s old mid × TakesGroups view now ss mid new
+TakesGroups {S} view now (s ∷ ss) old new = (mid : LedgerView S) × TakesGroup view now s old mid × TakesGroups view now ss mid new
 
 -- A ledger takes commands one after the other at this moment, none left out, each with one reply: those of a batch have one
 -- record.
-pub record TakesCommands {D : Type 0} (view : D → DiskView) (now : ℕ) (commands : List Command) (old new : LedgerView D) (given : List Reply) : Type 0 where
+pub record TakesCommands {S : Type 0} (view : S → StoreView) (now : ℕ) (commands : List Command) (old new : LedgerView S)
+    (given : List Reply) : Type 0 where
   pub groups : List CommitGroup
   pub takes : TakesGroups view now groups old new
   pub asked : flat_map commands_of groups ≡ commands

@@ -2,13 +2,10 @@
 use Rattle.std.specs.Prelude.{◌≡◌, Bool, true, false}
 use Rattle.ocf_types.specs.Due.{Due}
 use Rattle.ocf_types.specs.State.{State}
-use Rattle.disk_model.specs.Disk.{DiskView}
-use Rattle.exec_journal.specs.Journal.{journal_disk, journal_position}
-use Rattle.exec_journal.specs.Position.{Position}
-use Rattle.exec_journal.specs.Reserve.{HasReserve}
-use Rattle.exec_journal.specs.InSync.{IsInSync}
-use Rattle.exec_journal.specs.declared.journal.Journal.{Journal}
-use Rattle.exec_state.specs.Store.{Monitors, Store, due_of}
+use Rattle.store_model.specs.Batches.{HasReserve}
+use Rattle.store_model.specs.Calls.{IsSettled}
+use Rattle.store_model.specs.StoreView.{StoreView}
+use Rattle.exec_state.specs.StateValue.{Monitors, StateValue, due_of}
 use Rattle.exec_ledger.specs.declared.recorder.Recorder.{Recorder}
 
 -- one statement while something is open, and another once it is closed
@@ -16,43 +13,41 @@ abbrev pub While : Bool → Type 0 → Type 0 → Type 0
 While true R S = R
 While false R S = S
 
--- the view: whether it records, its state, its recurring monitors with their due moments, its disk, the position of the
--- journal's next record, and whether its allocator refuses growths
-pub record LedgerView (D : Type 0) : Type 0 where
+-- the view: whether it records, its state, its recurring monitors with their due moments, its store, and whether its allocator
+-- refuses growths
+pub record LedgerView (S : Type 0) : Type 0 where
   pub is_open : Bool
   pub state : State
   pub monitors : Monitors
-  pub disk : D
-  pub position : Position
+  pub store : S
   pub refuses : Bool
 
--- the view of a journal and a state, open or closed, and that of a recorder
-abbrev pub ledger_view : {D M : Type 0} → Bool → Journal D M → Store → LedgerView D
-ledger_view is_open journal state = record {
+-- the view of a store and a state, open or closed, and that of a recorder
+abbrev pub ledger_view : {S : Type 0} → Bool → S → StateValue → LedgerView S
+ledger_view is_open store state = record {
   is_open = is_open;
   state = state.state;
   monitors = state.monitors;
-  disk = journal_disk journal;
-  position = journal_position journal;
+  store = store;
   refuses = state.refuses;
 }
 
-abbrev pub ledger_view_of : {D M : Type 0} → Recorder D M → LedgerView D
-ledger_view_of b = ledger_view b.open b.journal b.state
+abbrev pub ledger_view_of : {S M : Type 0} → Recorder S M → LedgerView S
+ledger_view_of b = ledger_view b.open b.store b.state
 
 -- the due moments of its recurring monitors
-abbrev pub due_in : {D : Type 0} → LedgerView D → Due
+abbrev pub due_in : {S : Type 0} → LedgerView S → Due
 due_in h = due_of h.monitors
 
--- its journal is settled at its state, if its disk is honest
-abbrev pub IsOnJournal : {D : Type 0} → (D → DiskView) → LedgerView D → Type 0
-IsOnJournal view h = (view h.disk).honest → IsInSync h.position h.state (view h.disk)
+-- its store holds its state
+abbrev pub IsOnStore : {S : Type 0} → (S → StoreView) → LedgerView S → Type 0
+IsOnStore view h = IsSettled (view h.store) h.state
 
--- Its journal is settled at its state, and its reserve has space for the results of what runs and for a boot.
-pub record LedgerKeeps {D : Type 0} (view : D → DiskView) (h : LedgerView D) : Type 0 where
-  pub journal : IsOnJournal view h
-  pub reserve : HasReserve h.position.tail h.state
+-- Its store holds its state, and has space for the results of what runs and for a boot.
+pub record LedgerKeeps {S : Type 0} (view : S → StoreView) (h : LedgerView S) : Type 0 where
+  pub settled : IsOnStore view h
+  pub reserve : HasReserve (view h.store).tail h.state
 
 -- the invariant: the same while it is open
-abbrev pub LedgerInvariant : {D : Type 0} → (D → DiskView) → LedgerView D → Type 0
+abbrev pub LedgerInvariant : {S : Type 0} → (S → StoreView) → LedgerView S → Type 0
 LedgerInvariant view h = h.is_open ≡ true → LedgerKeeps view h

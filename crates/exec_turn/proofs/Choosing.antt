@@ -17,7 +17,7 @@ use Rattle.ocf_types.specs.Indexes.{at_index, id_at, no_entry}
 use Rattle.ocf_types.specs.declared.operation.Op.{Op}
 use Rattle.ocf_types.specs.declared.operation.Recur.{Recur}
 use Rattle.ocf_types.specs.declared.operation.Running.{Running}
-use Rattle.exec_state.specs.Store.{Chooses, run_of_pick}
+use Rattle.exec_state.specs.StateValue.{Chooses, run_of_pick}
 use Rattle.child_model.specs.Children.{is_held}
 use Rattle.exec_ledger.specs.Actives.{Active, active_of}
 use Rattle.exec_ledger.specs.LedgerView.{While}

@@ -7,11 +7,10 @@ use Rattle.ocf_types.specs.State.{State, after_all}
 use Rattle.ocf_types.specs.declared.reply.Notice.{Notice}
 use Rattle.ocf_types.specs.declared.reply.TurnEnd.{TurnEnd}
 use Rattle.ocf_types.specs.declared.reply.TurnEnd.TheVariants as turn_end
-use Rattle.disk_model.specs.Disk.{Lawful, DiskView}
-use Rattle.disk_model.specs.declared.disk.DiskFault.{DiskFault}
+use Rattle.store_model.specs.StoreView.{StoreView}
+use Rattle.exec_ledger.specs.declared.fault.StoreFault.{StoreFault}
 use Rattle.child_model.specs.Children.{ChildrenView}
 use Rattle.child_model.specs.declared.answer.Entry.{Entry}
-use Rattle.exec_journal.specs.Position.{Position}
 use Rattle.exec_ledger.specs.Actives.{Active}
 use Rattle.exec_ledger.specs.Lemmas.{due_after_all-append, joined}
 use Rattle.exec_turn.specs.Lemmas.{then_started}
@@ -24,7 +23,7 @@ use Rattle.exec_ledger.specs.BatchStarts.{BatchStart, following, due_after_all, 
 use Rattle.exec_turn.specs.Turns.{BeginsBatch, Finishes, PollsBatch, StartsBatch, Turns, TurnsAs, end_of}
 
 -- a turn that did nothing
-pub book_full : {D : Type 0} (kind : TurnKind) (view : D → DiskView) (k : D) (x : BatchStart) (from : ChildrenView)
+pub book_full : {S : Type 0} (kind : TurnKind) (view : S → StoreView) (k : S) (x : BatchStart) (from : ChildrenView)
     → kind from.held turn_end.BookFull x no_effects [] → CrashCondition view k k x.state x.state no_effects
     → TurnsAs kind view k k x x.state x.due from from [] turn_end.BookFull
 book_full kind view k x from does leaves = record {
@@ -43,10 +42,10 @@ book_full kind view k x from does leaves = record {
 both_entries : (was first second : List Entry) {mid now : List Entry} → mid ≡ was ++ first → now ≡ mid ++ second → now ≡ was ++ (first ++ second)
 both_entries was first second one two = two ∙ ap (λ (l : List Entry). l ++ second) one ∙ append_assoc was first second
 
-module _ {D : Type 0} {view : D → DiskView} {at : ℕ} {k0 k1 : D} {s0 s1 : State} {d0 d1 : Due} {p0 p1 : Position} {a0 a1 : Bool} {from c1 : ChildrenView}
+module _ {S : Type 0} {view : S → StoreView} {at : ℕ} {k0 k1 : S} {s0 s1 : State} {d0 d1 : Due} {p0 p1 : ℕ} {a0 a1 : Bool} {from c1 : ChildrenView}
     {n1 : List Notice} where
   -- the batch of results failed
-  results_failed : (kind : TurnKind) {f : DiskFault} (p : PollsBatch view k0 k1 (batch_start s0 d0 p0 at a0) (batch_start s1 d1 p1 at a1) from c1 n1 (Err f))
+  results_failed : (kind : TurnKind) {f : StoreFault} (p : PollsBatch view k0 k1 (batch_start s0 d0 p0 at a0) (batch_start s1 d1 p1 at a1) from c1 n1 (Err f))
       → kind c1.held turn_end.Disk (batch_start s0 d0 p0 at a0) (record { entries = polls at p.answers; events = []; pending = results at p.answers }) n1
       → TurnsAs kind view k0 k1 (batch_start s0 d0 p0 at a0) s1 d1 from c1 n1 turn_end.Disk
   results_failed kind p does = record {
@@ -61,11 +60,11 @@ module _ {D : Type 0} {view : D → DiskView} {at : ℕ} {k0 k1 : D} {s0 s1 : St
     cause = λ _. p.cause;
   }
 
-  pub no_results : {f : DiskFault} → PollsBatch view k0 k1 (batch_start s0 d0 p0 at a0) (batch_start s1 d1 p1 at a1) from c1 n1 (Err f)
+  pub no_results : {f : StoreFault} → PollsBatch view k0 k1 (batch_start s0 d0 p0 at a0) (batch_start s1 d1 p1 at a1) from c1 n1 (Err f)
       → Turns view k0 k1 (batch_start s0 d0 p0 at a0) s1 d1 from c1 n1 turn_end.Disk
   no_results p = results_failed IsTurn p (inl (p.answers, p.each, refl, p.reported_is))
 
-  pub finish_failed : {f : DiskFault} → PollsBatch view k0 k1 (batch_start s0 d0 p0 at a0) (batch_start s1 d1 p1 at a1) from c1 n1 (Err f)
+  pub finish_failed : {f : StoreFault} → PollsBatch view k0 k1 (batch_start s0 d0 p0 at a0) (batch_start s1 d1 p1 at a1) from c1 n1 (Err f)
       → Finishes view k0 k1 (batch_start s0 d0 p0 at a0) s1 d1 from c1 n1 turn_end.Disk
   finish_failed p = results_failed IsFinish p (p.answers, p.each, refl, p.reported_is)
 
@@ -93,7 +92,7 @@ module _ {D : Type 0} {view : D → DiskView} {at : ℕ} {k0 k1 : D} {s0 s1 : St
     picks begun end picked = subst (λ (x : BatchStart). PickedAt c1.held end x begun) p.moves picked
 
     -- the batch of begins failed
-    pub no_begins : {k2 : D} {s2 : State} {d2 : Due} {p2 : Position} {a2 : Bool} {begun : List Active} {f : DiskFault}
+    pub no_begins : {k2 : S} {s2 : State} {d2 : Due} {p2 : ℕ} {a2 : Bool} {begun : List Active} {f : StoreFault}
         → BeginsBatch view c1.held k1 k2 (batch_start s1 d1 p1 at a1) (batch_start s2 d2 p2 at a2) begun (Err f)
         → Turns view k0 k2 (batch_start s0 d0 p0 at a0) s2 d2 from c1 n1 turn_end.Disk
     no_begins {k2 = k2} {s2 = s2} {begun = begun} b =
@@ -114,12 +113,11 @@ module _ {D : Type 0} {view : D → DiskView} {at : ℕ} {k0 k1 : D} {s0 s1 : St
               }) both;
           due_is = batch.moves.1 ∙ due1;
           whole = λ not. absurd (not refl);
-          cause = λ _. let increased = batch.cause in let older = p.crash.reserved.passed.failures in omega (arith, increased, older);
+          cause = λ _. let increased = batch.cause in let older = p.crash.crash.passed.failures in omega (arith, increased, older);
         }
 
-    module _ {k2 : D} {s2 : State} {d2 : Due} {p2 : Position} {a2 : Bool} {begun : List Active} {end : TurnEnd}
-        (b : BeginsBatch view c1.held k1 k2 (batch_start s1 d1 p1 at a1) (batch_start s2 d2 p2 at a2) begun (Ok end))
-        (lawful : (view k2).honest → Lawful (view k2)) where
+    module _ {k2 : S} {s2 : State} {d2 : Due} {p2 : ℕ} {a2 : Bool} {begun : List Active} {end : TurnEnd}
+        (b : BeginsBatch view c1.held k1 k2 (batch_start s1 d1 p1 at a1) (batch_start s2 d2 p2 at a2) begun (Ok end)) where
       abbrev before : List Event
       before = results at p.answers ++ begins at begun
 
@@ -147,9 +145,9 @@ module _ {D : Type 0} {view : D → DiskView} {at : ℕ} {k0 k1 : D} {s0 s1 : St
         begun_leaves =
             joined view k0 k1 k2 s0 s1 s2 (record { entries = polls at p.answers; events = results at p.answers; pending = [] })
             (record { entries = starts (view k2).clock answers; events = begins at begun; pending = [] }) refl p.crash
-            (then_started view k1 k2 s1 s2 at (view k2).clock begun answers lawful refl each b.recorded.crash)
+            (then_started view k1 k2 s1 s2 at (view k2).clock begun answers refl each b.recorded.crash)
 
-        ended : (k3 : D) (s3 : State) (es pending : List Event) → CrashCondition view k2 k3 s2 s3 (record { entries = []; events = es; pending = pending })
+        ended : (k3 : S) (s3 : State) (es pending : List Event) → CrashCondition view k2 k3 s2 s3 (record { entries = []; events = es; pending = pending })
             → CrashCondition view k0 k3 s0 s3 (record { entries = entries; events = before ++ es; pending = pending })
         ended k3 s3 es pending last =
             subst (λ (l : List Entry). CrashCondition view k0 k3 s0 s3 (record { entries = l; events = before ++ es; pending = pending }))
@@ -169,7 +167,7 @@ module _ {D : Type 0} {view : D → DiskView} {at : ℕ} {k0 k1 : D} {s0 s1 : St
         }
 
       -- the batch of refused starts failed
-      pub no_refusals : {k3 : D} {s3 : State} {d3 : Due} {p3 : Position} {a3 : Bool} {c2 : ChildrenView} {n3 : List Notice} {f : DiskFault}
+      pub no_refusals : {k3 : S} {s3 : State} {d3 : Due} {p3 : ℕ} {a3 : Bool} {c2 : ChildrenView} {n3 : List Notice} {f : StoreFault}
           → StartsBatch view k2 k3 (batch_start s2 d2 p2 at a2) (batch_start s3 d3 p3 at a3) begun c1 c2 n1 n3 (Err f)
           → Turns view k0 k3 (batch_start s0 d0 p0 at a0) s3 d3 from c2 n3 turn_end.Disk
       no_refusals {k3 = k3} {s3 = s3} {n3 = n3} x = let batch = x.recorded in record {
@@ -188,8 +186,8 @@ module _ {D : Type 0} {view : D → DiskView} {at : ℕ} {k0 k1 : D} {s0 s1 : St
         whole = λ not. absurd (not refl);
         cause = λ _.
             let increased = batch.cause in
-            let old = b.recorded.crash.reserved.passed.failures in
-            let older = p.crash.reserved.passed.failures in
+            let old = b.recorded.crash.crash.passed.failures in
+            let older = p.crash.crash.passed.failures in
             omega (arith, increased, old, older);
       }
 
@@ -213,7 +211,7 @@ module _ {D : Type 0} {view : D → DiskView} {at : ℕ} {k0 k1 : D} {s0 s1 : St
       not_disk turn_end.Disk h is = absurd h.0.0
 
       -- all batches were recorded
-      pub whole_turn : {k3 : D} {s3 : State} {d3 : Due} {p3 : Position} {a3 : Bool} {c2 : ChildrenView} {n3 : List Notice} {z : Unit}
+      pub whole_turn : {k3 : S} {s3 : State} {d3 : Due} {p3 : ℕ} {a3 : Bool} {c2 : ChildrenView} {n3 : List Notice} {z : Unit}
           → StartsBatch view k2 k3 (batch_start s2 d2 p2 at a2) (batch_start s3 d3 p3 at a3) begun c1 c2 n1 n3 (Ok z)
           → Turns view k0 k3 (batch_start s0 d0 p0 at a0) s3 d3 from c2 n3 end
       whole_turn {k3 = k3} {s3 = s3} {d3 = d3} {n3 = n3} x =
@@ -243,19 +241,19 @@ module _ {D : Type 0} {view : D → DiskView} {at : ℕ} {k0 k1 : D} {s0 s1 : St
           }
 
 -- the same with other notices
-pub polled_reported : {D : Type 0} {view : D → DiskView} {k l : D} {x y : BatchStart} {from to : ChildrenView} {n m : List Notice} {r : Result Unit DiskFault}
+pub polled_reported : {S : Type 0} {view : S → StoreView} {k l : S} {x y : BatchStart} {from to : ChildrenView} {n m : List Notice} {r : Result Unit StoreFault}
     → m ≡ n → PollsBatch view k l x y from to n r → PollsBatch view k l x y from to m r
 polled_reported {view = view} {k = k} {l = l} {x = x} {y = y} {from = from} {to = to} {r = r} same polled =
     subst (λ (reported : List Notice). PollsBatch view k l x y from to reported r) (sym same) polled
 
--- a disk fault ends a turn as such
-pub failed_end : {D : Type 0} {view : D → DiskView} {old new : D} {x : BatchStart} {t : State} {due : Due} {from to : ChildrenView} {reported : List Notice}
-    (r : Result TurnEnd DiskFault) → IsErr r → Turns view old new x t due from to reported turn_end.Disk → Turns view old new x t due from to reported (end_of r)
+-- a fault of a device ends a turn as such
+pub failed_end : {S : Type 0} {view : S → StoreView} {old new : S} {x : BatchStart} {t : State} {due : Due} {from to : ChildrenView} {reported : List Notice}
+    (r : Result TurnEnd StoreFault) → IsErr r → Turns view old new x t due from to reported turn_end.Disk → Turns view old new x t due from to reported (end_of r)
 failed_end (Ok end) bad turns = let none : ⊥ = cc in absurd none
 failed_end (Err f) bad turns = turns
 
--- picks end neither with a full book nor with a disk fault
-pub picks_ended : {D : Type 0} {view : D → DiskView} {k l : D} {x y : BatchStart} {begun : List Active} {end : TurnEnd} {held : List (List ℕ)}
+-- picks end neither with a full book nor with a fault of a device
+pub picks_ended : {S : Type 0} {view : S → StoreView} {k l : S} {x y : BatchStart} {begun : List Active} {end : TurnEnd} {held : List (List ℕ)}
     → BeginsBatch view held k l x y begun (Ok end) → (end ≡ turn_end.BookFull → ⊥) × (end ≡ turn_end.Disk → ⊥)
 picks_ended {x = x} {begun = begun} {end = end} {held = held} b = (λ is. (so is).0.0, λ is. (so is).0.0)
   where

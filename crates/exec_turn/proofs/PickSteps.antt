@@ -14,14 +14,13 @@ use Rattle.ocf_types.specs.State.{State}
 use Rattle.ocf_types.specs.declared.operation.Running.{Running}
 use Rattle.ocf_types.specs.declared.reply.TurnEnd.TheVariants as turn_end
 use Rattle.ocf_env.specs.Locations.{Call, SiteView}
-use Rattle.exec_journal.specs.PartPrefix.{encoded_batch}
-use Rattle.exec_journal.specs.Batches.{IsTooLong, kept_free}
+use Rattle.store_model.specs.Batches.{encoded_batch, IsTooLong, kept_free}
 use Rattle.child_model.specs.Children.{is_held}
 use Rattle.exec_ledger.specs.Actives.{Active}
 use Rattle.ocf_env.specs.Instances.{registration_of}
 use Rattle.ocf_env.specs.Invocations.{IsInvocation}
 use Rattle.exec_turn.specs.Launches.{HasOwnLaunch, IsStart, actions_of_starts, action_of_start}
-use Rattle.exec_state.specs.Store.{Chooses}
+use Rattle.exec_state.specs.StateValue.{Chooses}
 use Rattle.exec_turn.specs.Picks.{ArePicks, Cut, MayBegin, Picked, begin_of, begins}
 use Rattle.exec_turn.specs.declared.picks.StartOf.{StartOf}
 use Rattle.exec_turn.proofs.Choosing.{Begins, begins_free, begins_held, picks_cut, picks_more}
@@ -121,7 +120,7 @@ module _ {held : List (List ℕ)} {s : State} {due : Due} {tail at index next : 
       → SoFar held s due tail at (index + 1) next bs
   nothing_here free now = none_here (begins_free held due at next (entry_at s index) None free now)
 
-  -- it chooses an action, for which there is no run number, no space in the journal or no memory, or which begins
+  -- it chooses an action, for which there is no run number, no space in the store or no memory, or which begins
   module _ {x : Running} (free : is_held held (id_at s index) ≡ false) (chooses : Chooses due at next (entry_at s index) (Some x)) where
     now : Begins held due at next (entry_at s index) (Some x)
     now = begins_free held due at next (entry_at s index) (Some x) free chooses

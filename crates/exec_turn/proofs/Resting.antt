@@ -9,7 +9,7 @@ use Rattle.ocf_types.specs.Resource.{Resource}
 use Rattle.ocf_types.specs.State.{Registry}
 use Rattle.ocf_types.specs.declared.reply.TurnEnd.TheVariants as turn_end
 use Rattle.exec_state.specs.Resting.{Rests}
-use Rattle.exec_state.specs.Store.{Store, dues}
+use Rattle.exec_state.specs.StateValue.{StateValue, dues}
 use Rattle.child_model.specs.Children.{is_held}
 use Rattle.exec_ledger.specs.LedgerView.{While}
 use Rattle.exec_turn.specs.Picks.{ArePicks, IsNext, Picked}
@@ -30,7 +30,7 @@ none_next held due at e pick = by (is_held held e.0)
     by false = pick
 
 -- nothing of these entries, each found by its id
-none_of : (held : List (List ℕ)) (s : Store) (at run : ℕ) → Rests s at → (xs : Registry)
+none_of : (held : List (List ℕ)) (s : StateValue) (at run : ℕ) → Rests s at → (xs : Registry)
     → AllByRecursion (λ e. lookup (bytes_eq e.0) s.state.resources ≡ Some e.1) xs
     → ArePicks held (dues s) at run xs []
 none_of held s at run rest [] h = refl
@@ -44,7 +44,7 @@ none_of held s at run rest (e ∷ es) h =
     nothing = None
 
 -- nothing of a state
-rest_picked : (held : List (List ℕ)) (s : Store) (tail at : ℕ) → IsLawfulState s.state → Rests s at
+rest_picked : (held : List (List ℕ)) (s : StateValue) (tail at : ℕ) → IsLawfulState s.state → Rests s at
     → Picked held turn_end.Done s.state (dues s) tail at []
 rest_picked held s tail at lawful rest = (
   none_of held s at s.state.next_run rest s.state.resources (own_found s.state.resources lawful.ids),
@@ -52,7 +52,7 @@ rest_picked held s tail at lawful rest = (
 )
 
 -- and there are no starts
-pub rests_picked : (held : List (List ℕ)) (s : Store) (tail at : ℕ) (xs : List (StartOf Call)) → IsLawfulState s.state → Rests s at → xs ≡ []
+pub rests_picked : (held : List (List ℕ)) (s : StateValue) (tail at : ℕ) (xs : List (StartOf Call)) → IsLawfulState s.state → Rests s at → xs ≡ []
     → Picked held turn_end.Done s.state (dues s) tail at (actions_of_starts xs)
 rests_picked held s tail at xs lawful rest none =
     subst (λ (l : List (StartOf Call)). Picked held turn_end.Done s.state (dues s) tail at (actions_of_starts l)) (sym none)

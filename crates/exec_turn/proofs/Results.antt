@@ -26,8 +26,7 @@ use Rattle.ocf_types.specs.Kinds.{Event, Step}
 use Rattle.ocf_types.specs.Limits.{longest_result, resources_limit}
 use Rattle.ocf_types.specs.Encoding.{encoded_event}
 use Rattle.ocf_types.specs.declared.event.Change.TheVariants as change
-use Rattle.exec_journal.specs.PartPrefix.{AllApply, encoded_batch}
-use Rattle.exec_journal.specs.Batches.{are_results}
+use Rattle.store_model.specs.Batches.{AllApply, encoded_batch, are_results}
 use Rattle.exec_turn.specs.AgentsLive.{AgentsLive}
 use Rattle.exec_ledger.specs.Batches.{MayRecord}
 use Rattle.std.proofs.lemmas.Cmp.{nat_eq_equiv}

@@ -7,13 +7,11 @@ use Rattle.std.proofs.lemmas.List.{append-nil}
 use Rattle.ocf_types.specs.Kinds.{Event}
 use Rattle.ocf_types.specs.Lemmas.{same_number}
 use Rattle.ocf_types.specs.State.{State, after_all}
-use Rattle.disk_model.specs.Image.{Image}
-use Rattle.disk_model.specs.Lemmas.{started}
-use Rattle.disk_model.specs.Runs.{CrashesTo}
-use Rattle.disk_model.specs.Disk.{Lawful, DiskView}
+use Rattle.store_model.specs.Lemmas.{started}
+use Rattle.store_model.specs.Crashes.{CrashesTo}
+use Rattle.store_model.specs.StoreView.{StoreView}
 use Rattle.child_model.specs.Children.{Asked}
 use Rattle.child_model.specs.declared.answer.Entry.{Entry}
-use Rattle.exec_journal.specs.Found.{FoundAs}
 use Rattle.exec_ledger.specs.Actives.{Active}
 use Rattle.exec_turn.specs.Picks.{begins}
 use Rattle.exec_ledger.specs.Pieces.{HasBegin, CrashCondition, Prefix, is_begin}
@@ -37,16 +35,16 @@ asked_starts at clock (x ∷ xs) run u asked = ⊎_elim
     (asked_in (starts clock (x ∷ [])) (starts clock xs) run u asked)
 
 -- Starts may follow the batch that recorded their begins: what a crash leaves from then on has all begins.
-pub then_started : {D : Type 0} (view : D → DiskView) (old new : D) (s t : State) (at clock : ℕ) (bs : List Active) (xs : List Started)
-    → ((view new).honest → Lawful (view new)) → clock ≡ (view new).clock → map (λ x. x.what) xs ≡ bs
+pub then_started : {S : Type 0} (view : S → StoreView) (old new : S) (s t : State) (at clock : ℕ) (bs : List Active) (xs : List Started)
+    → clock ≡ (view new).clock → map (λ x. x.what) xs ≡ bs
     → CrashCondition view old new s t (record { entries = []; events = begins at bs; pending = [] })
     → CrashCondition view old new s t (record { entries = starts clock xs; events = begins at bs; pending = [] })
-then_started view old new s t at clock bs xs lawful same each leaves = record {
+then_started view old new s t at clock bs xs same each leaves = record {
   state = leaves.state;
   crash = leaves.crash;
   now = leaves.now;
   starts = λ run u asked. let found = asked_starts at clock xs run u asked in record {
-    disk = new;
+    store = new;
     first = begins at bs;
     rest = [];
     split = refl;
@@ -54,11 +52,9 @@ then_started view old new s t at clock bs xs lawful same each leaves = record {
     counted = found.0 ∙ same;
     before = subst (λ (l : List Event). CrashesTo (view old) (view new) (Prefix s l)) (append-nil (begins at bs)) leaves.crash;
     holds = holds;
-    following = started (view new) (Prefix (after_all s (begins at bs)) []) (λ h c now. ([], [], refl, holds h c now)) lawful;
+    following = started (view new) (Prefix (after_all s (begins at bs)) []) (λ h c now. ([], [], refl, holds h c now));
   };
-  reserved = leaves.reserved;
 }
   where
-    holds : (view new).honest → (c : Image) → (view new).now c → FoundAs (after_all s (begins at bs)) c
-    holds h c now = subst (λ (x : State). FoundAs x c) leaves.state
-        (settles view old new s t (record { entries = []; events = begins at bs; pending = [] }) refl leaves h c now)
+    holds : (view new).honest → (x : State) → (view new).leaves (view new).clock x → x ≡ after_all s (begins at bs)
+    holds h x now = settles view old new s t (record { entries = []; events = begins at bs; pending = [] }) refl leaves h x now ∙ leaves.state

@@ -9,7 +9,7 @@ use Rattle.ocf_types.specs.declared.event.Change.TheVariants as change
 use Rattle.ocf_types.specs.declared.event.Step.TheVariants as step
 use Rattle.ocf_types.specs.declared.reply.TurnEnd.{TurnEnd}
 use Rattle.ocf_types.specs.declared.reply.TurnEnd.TheVariants as turn_end
-use Rattle.exec_journal.specs.Batches.{IsTooLong}
+use Rattle.store_model.specs.Batches.{IsTooLong}
 use Rattle.child_model.specs.Children.{is_held}
 use Rattle.exec_ledger.specs.Actives.{Active, active_in}
 use Rattle.exec_ledger.specs.LedgerView.{While}
@@ -39,7 +39,7 @@ abbrev pub begins : ℕ → List Active → List Event
 begins at begun = map (begin_of at) begun
 
 -- In this state there is a run number for each of these actions; and their begins, if there are any, leave the reserve free when
--- they are appended at the gate at offset `tail`.
+-- they are appended at offset `tail`.
 pub record MayBegin (s : State) (tail at : ℕ) (begun : List Active) : Type 0 where
   pub runs : s.next_run + length begun ≤ num_max
   pub reserve : 0 < length begun → IsTooLong tail (begins at begun) → ⊥

@@ -23,7 +23,7 @@ abbrev pub refused_end : Result Unit StartFault → List RunEnd
 refused_end (Ok x) = []
 refused_end (Err fault) = NotStarted fault ∷ []
 
--- the entries of these starts, requested when the journal's disk had had `clock` device calls, and the children after them
+-- the entries of these starts, requested when the store had made `clock` device calls, and the children after them
 abbrev pub starts : ℕ → List Started → List Entry
 starts clock xs = map (λ x. record { run = x.what.running.run; at = clock; answer = start_answer x.answer }) xs
 

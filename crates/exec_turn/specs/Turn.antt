@@ -24,10 +24,10 @@ pub record EachPolled (x : BatchStart) (ps : List Polled) : Type 0 where
 -- the actions begun, from the view before their batch, while some resources are held, by what ended the picks; lack of memory ends
 -- them only where the allocator refuses growths
 abbrev pub PickedAt : List (List ℕ) → TurnEnd → BatchStart → List Active → Type 0
-PickedAt held end x bs = Picked held end x.state x.due x.position.tail x.at bs × (end ≡ turn_end.Memory → IsTrue x.refuses)
+PickedAt held end x bs = Picked held end x.state x.due x.tail x.at bs × (end ≡ turn_end.Memory → IsTrue x.refuses)
 
 -- The answers in a turn: to a poll of each running action, and to a start of each action begun after their results, in order of
--- registration; the starts were requested when the journal's disk had had `clock` device calls.
+-- registration; the starts were requested when the store had made `clock` device calls.
 pub record TurnAnswers (held : List (List ℕ)) (end : TurnEnd) (x : BatchStart) : Type 0 where
   pub polled : List Polled
   pub begun : List Active

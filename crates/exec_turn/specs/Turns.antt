@@ -6,8 +6,8 @@ use Rattle.ocf_types.specs.State.{State}
 use Rattle.ocf_types.specs.declared.reply.Notice.{Notice}
 use Rattle.ocf_types.specs.declared.reply.TurnEnd.{TurnEnd}
 use Rattle.ocf_types.specs.declared.reply.TurnEnd.TheVariants as turn_end
-use Rattle.disk_model.specs.Disk.{Increased, DiskView}
-use Rattle.disk_model.specs.declared.disk.DiskFault.{DiskFault}
+use Rattle.store_model.specs.StoreView.{Increased, StoreView}
+use Rattle.exec_ledger.specs.declared.fault.StoreFault.{StoreFault}
 use Rattle.ocf_env.specs.Locations.{Call}
 use Rattle.child_model.specs.Children.{ChildrenView}
 use Rattle.exec_ledger.specs.Actives.{Active}
@@ -29,12 +29,12 @@ pub record ChildrenMatch (s : State) (v : ChildrenView) : Type 0 where
   pub ended : v.given_up ≡ []
   pub rising : v.last_run < s.next_run
 
--- In the three batches `k` and `l` are the disk before and after, `x` and `y` the views (`BatchStart`) before and after, and
+-- In the three batches `k` and `l` are the store before and after, `x` and `y` the views (`BatchStart`) before and after, and
 -- `from` and `to` the children before and after.
 
 -- The first batch: polls, and their results.
-pub record PollsBatch {D : Type 0} (view : D → DiskView) (k l : D) (x y : BatchStart) (from to : ChildrenView) (reported : List Notice)
-    (result : Result Unit DiskFault) : Type 0 where
+pub record PollsBatch {S : Type 0} (view : S → StoreView) (k l : S) (x y : BatchStart) (from to : ChildrenView) (reported : List Notice)
+    (result : Result Unit StoreFault) : Type 0 where
   pub answers : List Polled
   pub each : EachPolled x answers
   pub book : to.book ≡ from.book ++ polls x.at answers
@@ -47,7 +47,7 @@ pub record PollsBatch {D : Type 0} (view : D → DiskView) (k l : D) (x y : Batc
   pub reported_is : reported ≡ (if is_ok result then result_notices x.at answers else [])
 
 -- The second batch: the actions begun while these resources are held, by what ended the picks, and their begins.
-pub record BeginsBatch {D : Type 0} (view : D → DiskView) (held : List (List ℕ)) (k l : D) (x y : BatchStart) (begun : List Active) (result : Result TurnEnd DiskFault) : Type 0 where
+pub record BeginsBatch {S : Type 0} (view : S → StoreView) (held : List (List ℕ)) (k l : S) (x y : BatchStart) (begun : List Active) (result : Result TurnEnd StoreFault) : Type 0 where
   pub end : TurnEnd
   pub ended : IfOk result (λ reported. reported ≡ end)
   pub picked : PickedAt held end x begun
@@ -65,8 +65,8 @@ pub record Startable (s : State) (v : ChildrenView) (begun : List (StartOf Call)
   pub ended : v.given_up ≡ []
 
 -- The third batch: starts, and the results of those that were refused.
-pub record StartsBatch {D : Type 0} (view : D → DiskView) (k l : D) (x y : BatchStart) (begun : List Active) (from to : ChildrenView)
-    (was reported : List Notice) (result : Result Unit DiskFault) : Type 0 where
+pub record StartsBatch {S : Type 0} (view : S → StoreView) (k l : S) (x y : BatchStart) (begun : List Active) (from to : ChildrenView)
+    (was reported : List Notice) (result : Result Unit StoreFault) : Type 0 where
   pub answers : List Started
   pub each : map (λ a. a.what) answers ≡ begun
   pub book : to.book ≡ from.book ++ starts (view k).clock answers
@@ -76,14 +76,14 @@ pub record StartsBatch {D : Type 0} (view : D → DiskView) (k l : D) (x y : Bat
   pub recorded : RecordsBatch view k l x y (refusals x.at answers) result
   pub reported_is : reported ≡ (if is_ok result then was ++ refusal_notices x.at answers else was)
 
--- the end of a turn whose batches were recorded, or one of which met a disk fault
-abbrev pub end_of : Result TurnEnd DiskFault → TurnEnd
+-- the end of a turn whose batches were recorded, or one of which met a fault of a device
+abbrev pub end_of : Result TurnEnd StoreFault → TurnEnd
 end_of (Ok end) = end
 end_of (Err fault) = turn_end.Disk
 
 -- A turn of a kind, of an open executor: from the view before its first batch to a state, due moments and children, with its
 -- notices. Its actions are picked while those resources are held that the children hold after it.
-pub record TurnsAs {D : Type 0} (kind : TurnKind) (view : D → DiskView) (old new : D) (x : BatchStart) (t : State) (due : Due) (from to : ChildrenView)
+pub record TurnsAs {S : Type 0} (kind : TurnKind) (view : S → StoreView) (old new : S) (x : BatchStart) (t : State) (due : Due) (from to : ChildrenView)
     (reported : List Notice) (end : TurnEnd) : Type 0 where
   pub effects : Effects
   pub book : to.book ≡ from.book ++ effects.entries
@@ -95,15 +95,15 @@ pub record TurnsAs {D : Type 0} (kind : TurnKind) (view : D → DiskView) (old n
   -- the events that it recorded, what a crash at any moment of it leaves, and that no agent was spawned without its synced begin
   pub crash : CrashCondition view old new x.state t effects
   pub due_is : due ≡ due_after_all x.state x.due effects.events
-  -- nothing is pending but after a disk fault, which has a cause
+  -- nothing is pending but after a fault of a device, which has a cause
   pub whole : end ≢ turn_end.Disk → effects.pending ≡ []
   pub cause : end ≡ turn_end.Disk → Increased (view old).failures (view new).failures
 
 -- a turn that begins what has to begin, and one that begins nothing
-abbrev pub Turns : {D : Type 0} → (D → DiskView) → D → D → BatchStart → State → Due → ChildrenView → ChildrenView → List Notice → TurnEnd → Type 0
+abbrev pub Turns : {S : Type 0} → (S → StoreView) → S → S → BatchStart → State → Due → ChildrenView → ChildrenView → List Notice → TurnEnd → Type 0
 Turns view old new x t due from to reported end = TurnsAs IsTurn view old new x t due from to reported end
 
-abbrev pub Finishes : {D : Type 0} → (D → DiskView) → D → D → BatchStart → State → Due → ChildrenView → ChildrenView → List Notice → TurnEnd → Type 0
+abbrev pub Finishes : {S : Type 0} → (S → StoreView) → S → S → BatchStart → State → Due → ChildrenView → ChildrenView → List Notice → TurnEnd → Type 0
 Finishes view old new x t due from to reported end = TurnsAs IsFinish view old new x t due from to reported end
 
 -- the notices of the last turn

@@ -9,12 +9,11 @@ ghost use Rattle.exec_turn.specs.Turns.{ChildrenMatch, Finishes, turn_notices};
 use crate::buffers::TurnBuffers;
 use crate::turn::record_polls;
 use child_model::Children;
-use disk_model::{Disk, DiskFault};
-use exec_journal::laws::lemma_journal_holds;
-use exec_ledger::Ledger;
+use exec_ledger::{Ledger, StoreFault};
 use exec_state::State;
 use growth::Grows;
 use ocf_types::{StateView, TurnEnd};
+use store_model::Store;
 
 /// Whether an action of any resource runs.
 pub fn runs_any<A: Grows>(state: &State<A>) -> bool
@@ -33,18 +32,18 @@ pub fn runs_any<A: Grows>(state: &State<A>) -> bool
 ///
 /// All agents that were given up are ended, each with its processes, before a result is recorded, and a result is recorded before it
 /// is reported. The turn ends with `BookFull`, having done nothing, where the children's book
-/// has no capacity for two entries per resource; with `Disk` if the journal's device failed, which closes the ledger; else with
+/// has no capacity for two entries per resource; with `Disk` if a device of the store failed, which closes the ledger; else with
 /// `Done`. It allocates nothing itself; the children may, in `end_killed`.
-pub fn finish_turn<D: Disk + Drop, C: Children, A: Grows>(
-    ledger: &mut Ledger<D, A>,
+pub fn finish_turn<T: Store + Drop, C: Children, A: Grows>(
+    ledger: &mut Ledger<T, A>,
     children: &mut C,
     buffers: &mut TurnBuffers<A>,
     now: u64,
 ) -> TurnEnd
     requires open { ledger.old.is_open ≡ true }
     requires matched { ChildrenMatch ledger.old.state (C.view children.old) }
-    ensures finishes { Finishes D.view ledger.old.disk ledger.new.disk
-        (batch_start_of ledger.old (moment ledger.old.state now)) ledger.new.state
+    ensures finishes { Finishes T.view ledger.old.store ledger.new.store
+        (batch_start_of T.view ledger.old (moment ledger.old.state now)) ledger.new.state
         (due_in ledger.new)
         (C.view children.old) (C.view children.new) (turn_notices buffers.new) result }
     ensures full { result ≡ TurnEnd.BookFull
@@ -54,7 +53,7 @@ pub fn finish_turn<D: Disk + Drop, C: Children, A: Grows>(
     ensures closes { ledger.new.is_open ≡ false ↔ (result ≡ TurnEnd.Disk) }
     ensures matched { result ≢ TurnEnd.Disk → ChildrenMatch ledger.new.state (C.view children.new) }
 {
-    lemma_journal_holds();
+    T::lemma_lawful();
     ledger.lemma_known();
     let state = ledger.state();
     if children.room() / 2 < state.len() {
@@ -64,6 +63,6 @@ pub fn finish_turn<D: Disk + Drop, C: Children, A: Grows>(
     let at = state.moment(now);
     match record_polls(ledger, children, buffers, at) {
         Ok(()) => TurnEnd::Done,
-        Err(DiskFault) => TurnEnd::Disk,
+        Err(StoreFault) => TurnEnd::Disk,
     }
 }

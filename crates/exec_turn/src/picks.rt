@@ -2,8 +2,7 @@
 ghost use Rattle.std.specs.Prelude.{◌≡◌, ◌<◌, ◌≤◌, IfOk, IsTrue, OnErr, length, vec_len};
 ghost use Rattle.std.specs.List.{AllByRecursion};
 ghost use Rattle.std.specs.Vec.{vec_capacity};
-ghost use Rattle.exec_journal.specs.Journal.{journal_position};
-ghost use Rattle.exec_state.specs.Store.{dues};
+ghost use Rattle.exec_state.specs.StateValue.{dues};
 ghost use Rattle.ocf_types.specs.Limits.{longest_begin};
 ghost use Rattle.ocf_types.specs.Indexes.{id_at};
 ghost use Rattle.ocf_types.specs.Encoding.{encoded_event};
@@ -11,14 +10,13 @@ ghost use Rattle.exec_turn.specs.Launches.{IsStart, actions_of_starts, action_of
 ghost use Rattle.exec_turn.specs.Picks.{Picked, begin_of, begins};
 
 use child_model::Children;
-use disk_model::Disk;
-use exec_journal::Journal;
 use exec_state::State;
 use growth::Grows;
 use ocf_env::{Instance, Invocation, LaunchOf, Site, launch};
 use ocf_types::laws::lemma_lengths;
 use ocf_types::{Change, Event, EventOf, Moment, RunId, Running, StateView, Step, TurnEnd};
 use std::alloc::{AllocError, Allocator, Global};
+use store_model::Store;
 
 /// An action to be spawned once its begin is recorded, and its launch. `I` is the type of the invocation.
 #[derive(Drop)]
@@ -77,14 +75,14 @@ fn start_of<A: Grows, S: Allocator>(
 }
 
 /// Picks the action that each resource begins at `at`, in order of registration, none for a resource that the children hold; puts
-/// its begin into `batch` and its start into `starts`. Ends before the first action for which run numbers, journal space or memory
+/// its begin into `batch` and its start into `starts`. Ends before the first action for which run numbers, the store's space or memory
 /// have run out, and returns which; else `Done`. Where [`State::rests`] says that nothing begins, no resource is looked at.
-pub(crate) fn pick_all<D: Disk + Drop, C: Children, A: Grows, S: Allocator>(
+pub(crate) fn pick_all<T: Store + Drop, C: Children, A: Grows, S: Allocator>(
     alloc: A,
     site: &Site<S>,
     children: &C,
     state: &State<A>,
-    journal: &Journal<D, A>,
+    store: &T,
     at: Moment,
     batch: &mut Vec<Event<A>, A>,
     starts: &mut Vec<Start<A>, A>,
@@ -92,7 +90,7 @@ pub(crate) fn pick_all<D: Disk + Drop, C: Children, A: Grows, S: Allocator>(
     requires batch_room { length state.now.state.resources ≤ vec_capacity batch.old }
     requires start_room { length state.now.state.resources ≤ vec_capacity starts.old }
     ensures picked { Picked (C.view children.now).held result state.now.state (dues state.now)
-        (journal_position journal.now).tail at (actions_of_starts starts.new.items) }
+        (T.view store.now).tail at (actions_of_starts starts.new.items) }
     ensures batch { batch.new.items ≡ begins at (actions_of_starts starts.new.items) }
     ensures are_starts { AllByRecursion (IsStart site.now state.now.state) starts.new.items }
     ensures few { vec_len starts.new ≤ length state.now.state.resources }
@@ -120,7 +118,7 @@ pub(crate) fn pick_all<D: Disk + Drop, C: Children, A: Grows, S: Allocator>(
         };
         let begin = begin_at(state, index, &running, at);
         len += begin.encoded_len();
-        if !journal.fits(len) {
+        if !store.fits(len) {
             return TurnEnd::Full;
         }
         let Ok(start) = start_of(alloc, site, state, index, running) else {

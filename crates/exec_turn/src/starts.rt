@@ -6,7 +6,7 @@ ghost use Rattle.ocf_types.specs.declared.outcome.StartFault.{StartFault};
 ghost use Rattle.ocf_types.specs.declared.reply.Notice.{Notice};
 ghost use Rattle.child_model.specs.Children.{after_start, live_limit};
 ghost use Rattle.child_model.specs.MayStart.{IsLaunch};
-ghost use Rattle.exec_journal.specs.Journal.{InSync, journal_disk};
+ghost use Rattle.store_model.specs.Calls.{IsSettled};
 ghost use Rattle.exec_turn.specs.Buffers.{GrowsInRoom};
 ghost use Rattle.exec_turn.specs.Actives.{notice_of, result_of};
 ghost use Rattle.exec_turn.specs.Launches.{AllLaunch, HasOwnLaunch, actions_of_starts, action_of_start};
@@ -14,24 +14,23 @@ ghost use Rattle.exec_turn.specs.Starts.{Rising, Starts, refused_end};
 
 use crate::picks::Start;
 use child_model::Children;
-use disk_model::Disk;
-use exec_journal::Journal;
 use exec_state::State;
 use growth::Grows;
 use ocf_types::{Change, Event, EventOf, Moment, Notice, Outcome, RunEnd, Step};
 use op_history::run_notice;
+use store_model::Store;
 
 // Spawns the agent of one start: if that is refused, its result is appended to the batch, and its notice to the notices.
-fn start_one<D: Disk + Drop, C: Children, A: Grows>(
+fn start_one<T: Store + Drop, C: Children, A: Grows>(
     state: &State<A>,
-    journal: &Journal<D, A>,
+    store: &T,
     children: &mut C,
     start: &Start<A>,
     at: Moment,
     batch: &mut Vec<Event<A>, A>,
     notices: &mut Vec<Notice, A>,
 )
-    requires settled { InSync journal.now (D.view (journal_disk journal.now)) state.now.state }
+    requires settled { IsSettled (T.view store.now) state.now.state }
     requires launches { IsLaunch (C.view children.old).site state.now.state start.now.launch }
     requires of_one { HasOwnLaunch start.now }
     requires rising { (C.view children.old).last_run < start.now.running.run }
@@ -43,7 +42,7 @@ fn start_one<D: Disk + Drop, C: Children, A: Grows>(
     ensures started { (answer : Result Unit StartFault)
         × (C.view children.new
         ≡ after_start (C.view children.old) start.now.running.run
-        (D.view (journal_disk journal.now)).clock answer)
+        (T.view store.now).clock answer)
         × (batch.new.items ≡ batch.old.items ++ map (result_of at (action_of_start start.now))
         (refused_end answer))
         × (notices.new.items ≡ notices.old.items ++ map (notice_of at (action_of_start start.now))
@@ -51,7 +50,7 @@ fn start_one<D: Disk + Drop, C: Children, A: Grows>(
     ensures batch { GrowsInRoom 1 batch.old batch.new }
     ensures notices { GrowsInRoom 1 notices.old notices.new }
 {
-    let Err(fault) = children.start(journal, &start.launch) else {
+    let Err(fault) = children.start(store, &start.launch) else {
         return;
     };
     let (run, end) = (start.running.run, RunEnd::NotStarted(fault));
@@ -62,18 +61,18 @@ fn start_one<D: Disk + Drop, C: Children, A: Grows>(
     notices.push_reserved(notice);
 }
 
-/// Spawns the agent of each start, in order. The journal must be settled at a state in which all these actions run, and all that
+/// Spawns the agent of each start, in order. The store must hold a state in which all these actions run, and all that
 /// were given up must have been ended. `batch` becomes the results of the refused ones, and their notices are appended to `notices`.
-pub(crate) fn start_all<D: Disk + Drop, C: Children, A: Grows>(
+pub(crate) fn start_all<T: Store + Drop, C: Children, A: Grows>(
     state: &State<A>,
-    journal: &Journal<D, A>,
+    store: &T,
     children: &mut C,
     starts: &[Start<A>],
     at: Moment,
     batch: &mut Vec<Event<A>, A>,
     notices: &mut Vec<Notice, A>,
 )
-    requires settled { InSync journal.now (D.view (journal_disk journal.now)) state.now.state }
+    requires settled { IsSettled (T.view store.now) state.now.state }
     requires launches { AllLaunch (C.view children.old).site state.now.state starts.now }
     requires of_one { AllByRecursion HasOwnLaunch starts.now }
     requires rising { Rising (C.view children.old).last_run (actions_of_starts starts.now) }
@@ -83,7 +82,7 @@ pub(crate) fn start_all<D: Disk + Drop, C: Children, A: Grows>(
     requires batch_room { length starts.now ≤ vec_capacity batch.old }
     requires notice_room { vec_len notices.old + length starts.now ≤ vec_capacity notices.old }
     ensures started { (reported : List Notice)
-        × Starts at (D.view (journal_disk journal.now)).clock (actions_of_starts starts.now)
+        × Starts at (T.view store.now).clock (actions_of_starts starts.now)
         (C.view children.old)
         (C.view children.new) batch.new.items reported
         × (notices.new.items ≡ notices.old.items ++ reported) }
@@ -92,6 +91,6 @@ pub(crate) fn start_all<D: Disk + Drop, C: Children, A: Grows>(
 {
     batch.clear();
     for start in starts {
-        start_one(state, journal, children, start, at, batch, notices);
+        start_one(state, store, children, start, at, batch, notices);
     }
 }

@@ -3,4 +3,5 @@ pub mod Calls
 pub mod Prefixes
 pub mod Uptimes
 pub mod Whole
+pub mod Files
 pub mod Lawful

@@ -31,7 +31,7 @@ kept_matched s t v keeps matched =
     }
 
 -- so the executor's part of the invariant is kept with the ledger's
-pub kept_tends : {D : Type 0} (h k : LedgerView D) (v : ChildrenView) (w : SiteView) (n m : List Notice) (r : ReportView)
+pub kept_tends : {S : Type 0} (h k : LedgerView S) (v : ChildrenView) (w : SiteView) (n m : List Notice) (r : ReportView)
     → KeepsRuns h.state k.state → ChildrenKeep (executor_view h v w n r) → ChildrenKeep (executor_view k v w m r)
 kept_tends h k v w n m r keeps tends = record { matched = kept_matched h.state k.state v keeps tends.matched; admits = tends.admits }
 

@@ -11,7 +11,6 @@ use Rattle.ocf_types.specs.declared.refusal.Refusal.TheVariants.{Disk, Memory, U
 use Rattle.ocf_types.specs.declared.reply.ReplyOf.TheVariants.{Refused}
 use Rattle.ocf_types.specs.declared.reply.TidyEnd.{TidyEnd}
 use Rattle.ocf_types.specs.declared.reply.TidyEnd.TheVariants.{Closed}
-use Rattle.disk_model.specs.Disk.{DiskView}
 use Rattle.exec_state.specs.Answers.{IsReplyOrMemory}
 use Rattle.exec_ledger.specs.Commands.{TakesCommand}
 use Rattle.exec_ledger.specs.LedgerView.{LedgerView, While}
@@ -24,23 +23,24 @@ use Rattle.executor.specs.BatchLemmas.{still_beside, with_ledger}
 use Rattle.executor.specs.ExecutorView.{ChildrenInvariant, ExecutorView, ledger_of}
 use Rattle.executor.specs.TidyCalls.{TidiesWhile}
 use Rattle.executor.proofs.Keeping.{kept_tends}
+use Rattle.store_model.specs.StoreView.{StoreView}
 
-module _ {D : Type 0} (view : D → DiskView) (now : ℕ) where
+module _ {S : Type 0} (view : S → StoreView) (now : ℕ) where
   -- a ledger that ended open began open
-  pub command_open : (b : Bool) (c : Command) (r : Reply) (h k : LedgerView D) → TakesCommand view now c h k r → k.is_open ≡ true → h.is_open ≡ b
+  pub command_open : (b : Bool) (c : Command) (r : Reply) (h k : LedgerView S) → TakesCommand view now c h k r → k.is_open ≡ true → h.is_open ≡ b
       → h.is_open ≡ true
   command_open true c r h k takes is was = was
-  command_open false c r h k takes is was = sym (ap (λ (x : LedgerView D). x.is_open) (of_closed _ _ was takes).1) ∙ is
+  command_open false c r h k takes is was = sym (ap (λ (x : LedgerView S). x.is_open) (of_closed _ _ was takes).1) ∙ is
 
-  group_open : (s : CommitGroup) (h k : LedgerView D) → TakesGroup view now s h k → k.is_open ≡ true → h.is_open ≡ true
+  group_open : (s : CommitGroup) (h k : LedgerView S) → TakesGroup view now s h k → k.is_open ≡ true → h.is_open ≡ true
   group_open (Single c r) h k takes is = command_open h.is_open c r h k takes is refl
   group_open (GroupedBatch cs rs) h k takes is = takes.was_open
 
-  groups_open : (ss : List CommitGroup) (h k : LedgerView D) → TakesGroups view now ss h k → k.is_open ≡ true → h.is_open ≡ true
-  groups_open [] h k same is = sym (ap (λ (x : LedgerView D). x.is_open) same) ∙ is
+  groups_open : (ss : List CommitGroup) (h k : LedgerView S) → TakesGroups view now ss h k → k.is_open ≡ true → h.is_open ≡ true
+  groups_open [] h k same is = sym (ap (λ (x : LedgerView S). x.is_open) same) ∙ is
   groups_open (s ∷ ss) h k (mid, one, rest) is = group_open s h mid one (groups_open ss mid k rest is)
 
-  pub commands_open : (cs : List Command) (rs : List Reply) (h k : LedgerView D) → LedgerTakesCommands view now cs h k rs → k.is_open ≡ true
+  pub commands_open : (cs : List Command) (rs : List Reply) (h k : LedgerView S) → LedgerTakesCommands view now cs h k rs → k.is_open ≡ true
       → h.is_open ≡ true
   commands_open cs rs h k takes is = groups_open takes.groups h k takes.takes is
 
@@ -64,12 +64,12 @@ question_kept s q r answers = given_kept (reply_to s q) r (by q) answers
     by (question.History id) is = sent_kept (resource_at s id) _ (λ x bad. cc) is
 
 -- a tidy of a ledger is one of its executor, and leaves what is beside it
-pub tidy_taken : {D : Type 0} (view : D → DiskView) (b : Bool) (x : ExecutorView D) (h : LedgerView D) (end : TidyEnd)
+pub tidy_taken : {S : Type 0} (view : S → StoreView) (b : Bool) (x : ExecutorView S) (h : LedgerView S) (end : TidyEnd)
     → While b (LedgerTidies view (ledger_of x) h end) ((end ≡ Closed) × (h ≡ ledger_of x)) → TidiesWhile b view x (with_ledger x h) end
 tidy_taken view true x h end tidies = (tidies, still_beside x h)
 tidy_taken view false x h end tidies = (tidies.0, same_view x (with_ledger x h) tidies.1 (still_beside x h))
 
-pub tidied_tends : {D : Type 0} (view : D → DiskView) (b : Bool) (x : ExecutorView D) (h : LedgerView D) (end : TidyEnd) → x.is_open ≡ b
+pub tidied_tends : {S : Type 0} (view : S → StoreView) (b : Bool) (x : ExecutorView S) (h : LedgerView S) (end : TidyEnd) → x.is_open ≡ b
     → While b (LedgerTidies view (ledger_of x) h end) ((end ≡ Closed) × (h ≡ ledger_of x)) → ChildrenInvariant x → ChildrenInvariant (with_ledger x h)
 tidied_tends view true x h end was tidies tended is =
     kept_tends (ledger_of x) h x.children x.site x.reported x.reported x.opening_report (same_runs x.state h.state (ap (λ (y : LedgerView _). y.state) tidies.same)) (tended was)

@@ -4,7 +4,6 @@ use Rattle.std.specs.List.{AllByRecursion, flat_map}
 use Rattle.std.proofs.Common.{true≢false, refl, sym, ap, subst, ◌∙◌}
 use Rattle.ocf_types.specs.Kinds.{Command, Reply}
 use Rattle.ocf_types.specs.declared.command.RequestOf.TheVariants as asked
-use Rattle.disk_model.specs.Disk.{DiskView}
 use Rattle.exec_ledger.specs.Commands.{TakesCommand}
 use Rattle.exec_ledger.specs.LedgerView.{LedgerView}
 use Rattle.exec_ledger.specs.Lemmas.{of_closed, of_open, while_closed, while_open}
@@ -18,12 +17,13 @@ use Rattle.executor.specs.CommandBatches.{CallsCommands, IsAt, TakesCommands, co
 use Rattle.executor.specs.Sessions.{TakesWhile}
 use Rattle.executor.specs.ExecutorView.{OnlyLedgerChanges, ExecutorView, ledger_of, executor_view}
 use Rattle.executor.specs.declared.session.InputOf.TheVariants as input
+use Rattle.store_model.specs.StoreView.{StoreView}
 
 -- an executor with another ledger, all beside it as it was
-abbrev pub with_ledger : {D : Type 0} → ExecutorView D → LedgerView D → ExecutorView D
+abbrev pub with_ledger : {S : Type 0} → ExecutorView S → LedgerView S → ExecutorView S
 with_ledger x h = executor_view h x.children x.site x.reported x.opening_report
 
-pub still_beside : {D : Type 0} (x : ExecutorView D) (h : LedgerView D) → OnlyLedgerChanges x (with_ledger x h)
+pub still_beside : {S : Type 0} (x : ExecutorView S) (h : LedgerView S) → OnlyLedgerChanges x (with_ledger x h)
 still_beside x h = record { children = refl; site = refl; reported = refl; opening_report = refl }
 
 -- a single command or a batch as a call
@@ -46,15 +46,15 @@ at_once now [] = tt
 at_once now (Single c r ∷ ss) = (refl, at_once now ss)
 at_once now (GroupedBatch cs rs ∷ ss) = (refl, at_once now ss)
 
-module _ {D : Type 0} (view : D → DiskView) (now : ℕ) where
-  pub command_served : (b : Bool) (c : Command) (r : Reply) (x : ExecutorView D) (h : LedgerView D) → x.is_open ≡ b
+module _ {S : Type 0} (view : S → StoreView) (now : ℕ) where
+  pub command_served : (b : Bool) (c : Command) (r : Reply) (x : ExecutorView S) (h : LedgerView S) → x.is_open ≡ b
       → TakesCommand view now c (ledger_of x) h r → Serves view now (asked.Command c) x (with_ledger x h) r
   command_served true c r x h was does = while_open _ was ((of_open _ _ was does).0, still_beside x h)
   command_served false c r x h was does =
       let rests = of_closed _ _ was does in
       while_closed _ was (rests.0, same_view x (with_ledger x h) rests.1 (still_beside x h))
 
-  command_taken : (b : Bool) (c : Command) (r : Reply) (x : ExecutorView D) (h : LedgerView D) → x.is_open ≡ b
+  command_taken : (b : Bool) (c : Command) (r : Reply) (x : ExecutorView S) (h : LedgerView S) → x.is_open ≡ b
       → TakesCommand view now c (ledger_of x) h r
       → (d : Effects) × TakesWhile b view (input.Request now (asked.Command c)) x (with_ledger x h) r d
   command_taken true c r x h was does =
@@ -65,13 +65,13 @@ module _ {D : Type 0} (view : D → DiskView) (now : ℕ) where
       request_taken false view now (asked.Command c) x (with_ledger x h) r
       (takes.0, same_view x (with_ledger x h) takes.1 (still_beside x h)) (λ bad. absurd (true≢false (sym bad)))
 
-  group_taken : (s : CommitGroup) (x : ExecutorView D) (h : LedgerView D) → TakesGroup view now s (ledger_of x) h
+  group_taken : (s : CommitGroup) (x : ExecutorView S) (h : LedgerView S) → TakesGroup view now s (ledger_of x) h
       → (d : Effects) × Does view (exchange_of now s) x (with_ledger x h) d
   group_taken (Single c r) x h takes = command_taken x.is_open c r x h refl takes
   group_taken (GroupedBatch cs rs) x h takes =
       (batch_effects h.is_open takes.events, record { takes = takes; beside = still_beside x h; does = refl })
 
-  groups_taken : (ss : List CommitGroup) (x : ExecutorView D) (h : LedgerView D) → TakesGroups view now ss (ledger_of x) h
+  groups_taken : (ss : List CommitGroup) (x : ExecutorView S) (h : LedgerView S) → TakesGroups view now ss (ledger_of x) h
       → (d : Effects) × Calls view x (map (exchange_of now) ss) (with_ledger x h) d
   groups_taken [] x h same = (no_effects, (λ i. with_ledger x (same i), refl))
   groups_taken (s ∷ ss) x h (mid, one, rest) =
@@ -80,14 +80,14 @@ module _ {D : Type 0} (view : D → DiskView) (now : ℕ) where
       (followed_by first.0 later.0, (with_ledger x mid, first.0, later.0, first.1, later.1, refl))
 
   -- commands that were taken are calls
-  pub commands_called : (cs : List Command) (rs : List Reply) (x y : ExecutorView D) → TakesCommands view now cs x y rs
+  pub commands_called : (cs : List Command) (rs : List Reply) (x y : ExecutorView S) → TakesCommands view now cs x y rs
       → CallsCommands view now cs x y rs
   commands_called cs rs x y (takes, beside) =
       let h = ledger_of y in
       let all = groups_taken takes.groups x h takes.takes in
       let same : y ≡ with_ledger x h = same_view (with_ledger x h) y refl
       (record { children = beside.children; site = beside.site; reported = beside.reported; opening_report = beside.opening_report }) in
-      subst (λ (z : ExecutorView D). CallsCommands view now cs x z rs) (sym same) (record {
+      subst (λ (z : ExecutorView S). CallsCommands view now cs x z rs) (sym same) (record {
         exchanges = map (exchange_of now) takes.groups;
         effects = all.0;
         calls = all.1;

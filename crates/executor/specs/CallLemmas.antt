@@ -6,7 +6,6 @@ use Rattle.ocf_types.specs.Kinds.{Event, Reply, Request}
 use Rattle.ocf_types.specs.declared.refusal.Refusal.TheVariants.{Disk}
 use Rattle.ocf_types.specs.declared.reply.ReplyOf.TheVariants.{Refused, Turn}
 use Rattle.ocf_types.specs.declared.reply.TurnEnd.{TurnEnd}
-use Rattle.disk_model.specs.Disk.{DiskView}
 use Rattle.child_model.specs.declared.answer.Entry.{Entry}
 use Rattle.executor.specs.Commands.{ServesWhile}
 use Rattle.executor.specs.Incarnations.{Calls, Exchange}
@@ -15,14 +14,15 @@ use Rattle.executor.specs.Sessions.{TakesWhile, request_effects}
 use Rattle.executor.specs.ExecutorView.{OnlyLedgerChanges, ExecutorView, ledger_of, executor_view}
 use Rattle.executor.specs.TurnCalls.{TurnsWhile}
 use Rattle.executor.specs.declared.session.InputOf.TheVariants as input
+use Rattle.store_model.specs.StoreView.{StoreView}
 
 -- executors are the same whose ledgers are, and all that is beside them
-pub same_view : {D : Type 0} (x y : ExecutorView D) → ledger_of y ≡ ledger_of x → OnlyLedgerChanges x y → y ≡ x
+pub same_view : {S : Type 0} (x y : ExecutorView S) → ledger_of y ≡ ledger_of x → OnlyLedgerChanges x y → y ≡ x
 same_view x y same beside =
     λ i. executor_view (same i) (beside.children i) (beside.site i) (beside.reported i) (beside.opening_report i)
 
 -- a request that was served was taken
-pub request_taken : {D : Type 0} (b : Bool) (view : D → DiskView) (now : ℕ) (request : Request) (x y : ExecutorView D) (reply : Reply)
+pub request_taken : {S : Type 0} (b : Bool) (view : S → StoreView) (now : ℕ) (request : Request) (x y : ExecutorView S) (reply : Reply)
     → ServesWhile b view now request x y reply → (b ≡ true → ((y.is_open ≡ false) ↔ (reply ≡ Refused Disk)))
     → (d : Effects) × TakesWhile b view (input.Request now request) x y reply d
 request_taken true view now request x y reply serves closes =
@@ -30,7 +30,7 @@ request_taken true view now request x y reply serves closes =
 request_taken false view now request x y reply serves closes = (no_effects, (serves.0, serves.1, refl))
 
 -- a turn that was made was taken
-pub turn_taken : {D : Type 0} (b : Bool) (view : D → DiskView) (now : ℕ) (x y : ExecutorView D) (end : TurnEnd)
+pub turn_taken : {S : Type 0} (b : Bool) (view : S → StoreView) (now : ℕ) (x y : ExecutorView S) (end : TurnEnd)
     → TurnsWhile b view now x y end → (d : Effects) × TakesWhile b view (input.Turn now) x y (Turn end) d
 turn_taken true view now x y end turns = (turns.turns.effects, record { end = end; takes = turns; replies = refl; does = refl })
 turn_taken false view now x y end turns = (no_effects, (ap (λ (e : TurnEnd). Turn e) turns.0, turns.1, refl))
@@ -52,13 +52,13 @@ followed_by_none a =
     ∙ ap (λ (es : List Event). record { entries = a.entries; events = es; pending = a.pending ++ [] }) (append-nil a.events)
     ∙ ap (λ (es : List Event). record { entries = a.entries; events = a.events; pending = es }) (append-nil a.pending)
 
-module _ {D : Type 0} (view : D → DiskView) where
+module _ {S : Type 0} (view : S → StoreView) where
   -- calls after others
-  pub calls_after : (x y z : ExecutorView D) (es fs : List Exchange) (a b : Effects) → Calls view x es y a → Calls view y fs z b
+  pub calls_after : (x y z : ExecutorView S) (es fs : List Exchange) (a b : Effects) → Calls view x es y a → Calls view y fs z b
       → Calls view x (es ++ fs) z (followed_by a b)
   calls_after x y z [] fs a b (same, none) later =
       subst (λ (d : Effects). Calls view x fs z d) (sym (ap (λ (d : Effects). followed_by d b) none))
-      (subst (λ (w : ExecutorView D). Calls view w fs z b) same later)
+      (subst (λ (w : ExecutorView S). Calls view w fs z b) same later)
   calls_after x y z (e ∷ es) fs a b (mid, first, rest, does, calls, is) later = (
     mid,
     first,

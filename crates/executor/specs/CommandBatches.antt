@@ -3,16 +3,16 @@ use Rattle.std.specs.Prelude.{◌≡◌, ℕ, List, [], ◌∷◌}
 use Rattle.std.specs.List.{AllByRecursion, flat_map}
 use Rattle.ocf_types.specs.Kinds.{Command, Reply}
 use Rattle.ocf_types.specs.declared.command.RequestOf.TheVariants as asked
-use Rattle.disk_model.specs.Disk.{DiskView}
 use Rattle.executor.specs.Incarnations.{Calls, Exchange, Batch, Took}
 use Rattle.exec_ledger.specs.Pieces.{Effects}
 use Rattle.exec_ledger.specs.CommitGroups.{TakesCommands as LedgerTakesCommands}
 use Rattle.executor.specs.ExecutorView.{OnlyLedgerChanges, ExecutorView, ledger_of}
 use Rattle.executor.specs.declared.session.InputOf.TheVariants as input
+use Rattle.store_model.specs.StoreView.{StoreView}
 
 -- An executor takes commands one after the other at this moment, none left out, each with one reply: those of a batch have one
 -- record.
-abbrev pub TakesCommands : {D : Type 0} → (D → DiskView) → ℕ → List Command → ExecutorView D → ExecutorView D → List Reply → Type 0
+abbrev pub TakesCommands : {S : Type 0} → (S → StoreView) → ℕ → List Command → ExecutorView S → ExecutorView S → List Reply → Type 0
 TakesCommands view now commands old new given = LedgerTakesCommands view now commands (ledger_of old) (ledger_of new) given × OnlyLedgerChanges old new
 
 -- the commands of a call, and the replies to them
@@ -33,7 +33,7 @@ IsAt now (Batch at commands replies) = at ≡ now
 IsAt now _ = ⊥
 
 -- The same as calls, one after the other: each a command by itself, or a batch.
-pub record CallsCommands {D : Type 0} (view : D → DiskView) (now : ℕ) (commands : List Command) (old new : ExecutorView D) (given : List Reply) : Type 0 where
+pub record CallsCommands {S : Type 0} (view : S → StoreView) (now : ℕ) (commands : List Command) (old new : ExecutorView S) (given : List Reply) : Type 0 where
   pub exchanges : List Exchange
   pub effects : Effects
   pub calls : Calls view old exchanges new effects

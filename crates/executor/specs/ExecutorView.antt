@@ -3,26 +3,23 @@ use Rattle.std.specs.Prelude.{◌≡◌, Bool, List, true}
 use Rattle.ocf_types.specs.Due.{Due}
 use Rattle.ocf_types.specs.State.{State}
 use Rattle.ocf_types.specs.declared.reply.Notice.{Notice}
-use Rattle.disk_model.specs.Disk.{DiskView}
 use Rattle.ocf_env.specs.Locations.{SiteView}
 use Rattle.child_model.specs.Children.{Admits, ChildrenView}
-use Rattle.exec_journal.specs.Position.{Position}
-use Rattle.exec_journal.specs.Reserve.{HasReserve}
-use Rattle.exec_journal.specs.InSync.{IsInSync}
-use Rattle.exec_state.specs.Store.{Monitors, due_of}
+use Rattle.exec_state.specs.StateValue.{Monitors, due_of}
 use Rattle.exec_turn.specs.Turns.{ChildrenMatch}
 use Rattle.exec_ledger.specs.LedgerView.{LedgerView}
 use Rattle.executor.specs.Reports.{ReportView}
+use Rattle.store_model.specs.Calls.{IsSettled}
+use Rattle.store_model.specs.Batches.{HasReserve}
+use Rattle.store_model.specs.StoreView.{StoreView}
 
--- the view: whether it takes requests, its state, its recurring monitors with their due moments, its disk, the position of the
--- journal's next record, its children, the site at which it spawns agents, the notices of the last turn, the report of its opening,
--- and whether its allocator refuses memory
-pub record ExecutorView (D : Type 0) : Type 0 where
+-- the view: whether it takes requests, its state, its recurring monitors with their due moments, its store, its children, the site
+-- at which it spawns agents, the notices of the last turn, the report of its opening, and whether its allocator refuses memory
+pub record ExecutorView (S : Type 0) : Type 0 where
   pub is_open : Bool
   pub state : State
   pub monitors : Monitors
-  pub disk : D
-  pub position : Position
+  pub store : S
   pub children : ChildrenView
   pub site : SiteView
   pub reported : List Notice
@@ -30,13 +27,12 @@ pub record ExecutorView (D : Type 0) : Type 0 where
   pub refuses : Bool
 
 -- the view of a ledger and of what is beside it
-abbrev pub executor_view : {D : Type 0} → LedgerView D → ChildrenView → SiteView → List Notice → ReportView → ExecutorView D
+abbrev pub executor_view : {S : Type 0} → LedgerView S → ChildrenView → SiteView → List Notice → ReportView → ExecutorView S
 executor_view h children site reported opening_report = record {
   is_open = h.is_open;
   state = h.state;
   monitors = h.monitors;
-  disk = h.disk;
-  position = h.position;
+  store = h.store;
   children = children;
   site = site;
   reported = reported;
@@ -45,44 +41,43 @@ executor_view h children site reported opening_report = record {
 }
 
 -- the view of its ledger
-abbrev pub ledger_of : {D : Type 0} → ExecutorView D → LedgerView D
+abbrev pub ledger_of : {S : Type 0} → ExecutorView S → LedgerView S
 ledger_of x = record {
   is_open = x.is_open;
   state = x.state;
   monitors = x.monitors;
-  disk = x.disk;
-  position = x.position;
+  store = x.store;
   refuses = x.refuses;
 }
 
 -- only the ledger changes: all that is beside it is as it was
-pub record OnlyLedgerChanges {D : Type 0} (old new : ExecutorView D) : Type 0 where
+pub record OnlyLedgerChanges {S : Type 0} (old new : ExecutorView S) : Type 0 where
   pub children : new.children ≡ old.children
   pub site : new.site ≡ old.site
   pub reported : new.reported ≡ old.reported
   pub opening_report : new.opening_report ≡ old.opening_report
 
 -- the due moments of its recurring monitors
-abbrev pub due_in : {D : Type 0} → ExecutorView D → Due
+abbrev pub due_in : {S : Type 0} → ExecutorView S → Due
 due_in x = due_of x.monitors
 
--- Its journal is settled at its state, its reserve has space for the results of what runs and for a boot, the agent processes
--- of all running actions live, and its children admit its site.
-pub record ExecutorKeeps {D : Type 0} (view : D → DiskView) (x : ExecutorView D) : Type 0 where
-  pub journal : (view x.disk).honest → IsInSync x.position x.state (view x.disk)
-  pub reserve : HasReserve x.position.tail x.state
+-- Its store holds its state, with space for the results of what runs and for a boot, the agent processes of all running actions
+-- live, and its children admit its site.
+pub record ExecutorKeeps {S : Type 0} (view : S → StoreView) (x : ExecutorView S) : Type 0 where
+  pub settled : IsSettled (view x.store) x.state
+  pub reserve : HasReserve (view x.store).tail x.state
   pub matched : ChildrenMatch x.state x.children
   pub admits : Admits x.children.site x.site
 
 -- the invariant: the same while it is open
-abbrev pub ExecutorInvariant : {D : Type 0} → (D → DiskView) → ExecutorView D → Type 0
+abbrev pub ExecutorInvariant : {S : Type 0} → (S → StoreView) → ExecutorView S → Type 0
 ExecutorInvariant view x = x.is_open ≡ true → ExecutorKeeps view x
 
 -- The part of the invariant that is not the ledger's.
-pub record ChildrenKeep {D : Type 0} (x : ExecutorView D) : Type 0 where
+pub record ChildrenKeep {S : Type 0} (x : ExecutorView S) : Type 0 where
   pub matched : ChildrenMatch x.state x.children
   pub admits : Admits x.children.site x.site
 
 -- the same while it is open
-abbrev pub ChildrenInvariant : {D : Type 0} → ExecutorView D → Type 0
+abbrev pub ChildrenInvariant : {S : Type 0} → ExecutorView S → Type 0
 ChildrenInvariant x = x.is_open ≡ true → ChildrenKeep x

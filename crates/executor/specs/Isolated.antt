@@ -18,7 +18,7 @@ use Rattle.ocf_types.specs.declared.event.Step.TheVariants as step
 use Rattle.ocf_types.specs.declared.operation.Running.{Running}
 use Rattle.ocf_types.specs.declared.outcome.StartFault.{StartFault}
 use Rattle.ocf_types.specs.declared.refusal.Refusal.{Refusal}
-use Rattle.ocf_types.specs.declared.refusal.Refusal.TheVariants.{Busy, Exists, NoSuchRecurring, NotQueued, QueueFull, RecurringFull, TooLarge, UnknownResource}
+use Rattle.ocf_types.specs.declared.refusal.Refusal.TheVariants.{Busy, Exists, Recurs, NoSuchRecurring, NotQueued, QueueFull, RecurringFull, TooLarge, UnknownResource}
 use Rattle.ocf_types.specs.declared.reply.ReplyOf.TheVariants as reply
 use Rattle.ocf_types.specs.declared.reply.TurnEnd.TheVariants.{Done}
 use Rattle.child_model.specs.Children.{start_answer}
@@ -41,7 +41,7 @@ pub record Isolated : Type 0 where
   pub next_run : ℕ
 
 -- this machine, as an executor has the resource
-abbrev pub isolated_of : {D : Type 0} → ExecutorView D → List ℕ → Isolated
+abbrev pub isolated_of : {S : Type 0} → ExecutorView S → List ℕ → Isolated
 isolated_of x id = record { resource = resource_at x.state id; due = due_in x id; next_call = x.state.next_call; next_run = x.state.next_run }
 
 -- the resource after a change that names it
@@ -100,7 +100,7 @@ isolated_tests resource (command.SetParams id ps) size = (UnknownResource, is_no
 isolated_tests resource (command.Exec id task timeout) size =
     (UnknownResource, is_none resource) ∷ (QueueFull, holds resource (λ r. nat_le queue_limit (length r.history.queue))) ∷ []
 isolated_tests resource (command.Recur id interval timeout level) size =
-    (UnknownResource, is_none resource) ∷ (Exists, holds resource (λ r. is_some (of_interval interval r.recurring)))
+    (UnknownResource, is_none resource) ∷ (Recurs, holds resource (λ r. is_some (of_interval interval r.recurring)))
     ∷ (RecurringFull, holds resource (λ r. nat_le recurring_limit (length r.recurring))) ∷ []
 isolated_tests resource (command.Cancel id interval) size =
     (UnknownResource, is_none resource) ∷ (NoSuchRecurring, holds resource (λ r. is_none (of_interval interval r.recurring))) ∷ []

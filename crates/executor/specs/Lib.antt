@@ -2,6 +2,7 @@ pub mod ExecutorView
 pub mod Reports
 pub mod Interruptions
 pub mod Commands
+pub mod OnStores
 pub mod Openings
 pub mod TurnCalls
 pub mod TidyCalls
@@ -18,5 +19,6 @@ pub mod Histories
 pub mod Joins
 pub mod Machine
 pub mod Behaves
+pub mod OnFiles
 pub mod SeenIncarnations
 pub mod Promise

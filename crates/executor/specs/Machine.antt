@@ -1,5 +1,5 @@
 -- The machine of an executor, a labelled transition system: each call is a step, whose label has the call with its answer, the answers
--- of agent processes in it, and the notices of a turn. It knows no disk and no journal. `Behaves` adds crashes and openings.
+-- of agent processes in it, and the notices of a turn. It knows no store. `Behaves` adds crashes and openings.
 use Rattle.std.specs.Prelude.{◌≡◌, ◌≢◌, ◌⊎◌, ◌↔◌, ◌*◌, ◌<◌, ℕ, Bool, true, false, List, [], ◌∷◌, length, Ok, Contains, IsTrue, ⊤}
 use Rattle.ocf_types.specs.Answer.{event_of, moment, reply_to}
 use Rattle.ocf_types.specs.Due.{Due}
@@ -13,12 +13,8 @@ use Rattle.ocf_types.specs.declared.reply.TidyEnd.{TidyEnd}
 use Rattle.ocf_types.specs.declared.reply.TidyEnd.TheVariants as tidy
 use Rattle.ocf_types.specs.declared.reply.TurnEnd.{TurnEnd}
 use Rattle.ocf_types.specs.declared.reply.TurnEnd.TheVariants as turn_end
-use Rattle.disk_model.specs.Disk.{Increased}
 use Rattle.child_model.specs.declared.answer.Entry.{Entry}
 use Rattle.exec_state.specs.Answers.{IsReplyOrMemory}
-use Rattle.two_parts.specs.Head.{last_epoch}
-use Rattle.exec_journal.specs.Position.{Position}
-use Rattle.exec_journal.specs.Batches.{IsTooLong}
 use Rattle.exec_ledger.specs.LedgerView.{While}
 use Rattle.exec_ledger.specs.Pieces.{Effects, followed_by, no_effects, batch_effects}
 use Rattle.exec_ledger.specs.BatchStarts.{due_after_all, batch_start}
@@ -27,6 +23,8 @@ use Rattle.exec_turn.specs.Turn.{IsFinish, IsTurn, TurnKind}
 use Rattle.executor.specs.Incarnations.{Abandoned, Cleared, Exchange, Finished, Batch, Tidied, Took}
 use Rattle.executor.specs.Sessions.{closed_reply}
 use Rattle.executor.specs.declared.session.InputOf.TheVariants as input
+use Rattle.store_model.specs.Batches.{IsTooLong}
+use Rattle.store_model.specs.StoreView.{Increased}
 
 -- whether it takes requests, its state, when each recurring monitor is due, and whether its allocator refuses growths
 pub record Machine : Type 0 where
@@ -37,15 +35,16 @@ pub record Machine : Type 0 where
 
 -- The label of a step: the call with its answer; the starts, polls and kills of agent processes in it, each with its answer; the
 -- notices of a turn; and what the machine does not keep itself: the ids of the resources that are held after the step, as they were
--- when a turn picked its actions; how many more answers the book of agent processes had room for before the step, the position of
--- the journal's next record then, and how many calls the device had failed before the step and after it.
+-- when a turn picked its actions; how many more answers the book of agent processes had room for before the step, the offset of
+-- the store's next record then and its epoch, and how many calls the device had failed before the step and after it.
 pub record Label : Type 0 where
   pub exchange : Exchange
   pub answers : List Entry
   pub notices : List Notice
   pub held : List (List ℕ)
   pub room : ℕ
-  pub position : Position
+  pub tail : ℕ
+  pub epoch : ℕ
   pub faults : ℕ × ℕ
 
 -- The choices that the machine leaves open, each with the condition under which a call may make it.
@@ -65,7 +64,7 @@ LacksOnlyIf e m = LacksMemory e → IsTrue m.refuses
 
 -- The journal's capacity. A command by itself may be refused for it only where its event does not fit.
 abbrev pub LacksSpace : Label → Event → Type 0
-LacksSpace l e = IsTooLong l.position.tail (e ∷ [])
+LacksSpace l e = IsTooLong l.tail (e ∷ [])
 
 -- The book's capacity. A turn does nothing exactly where the book has room for fewer answers than this many for each resource.
 abbrev pub LacksBook : Label → ℕ → Machine → Type 0
@@ -102,7 +101,7 @@ TakesOne l now c r m n did = TakesAll l now (c ∷ []) (r ∷ []) m n did
 -- A turn of a kind at a moment, for which the book needs room for this many answers for each resource.
 pub record MovesTurn (kind : TurnKind) (each : ℕ) (end : TurnEnd) (at : ℕ) (l : Label) (m n : Machine) (did : Effects) : Type 0 where
   -- the answers of agent processes make its events and its notices
-  pub turns : kind l.held end (batch_start m.state m.due l.position at m.refuses) did l.notices
+  pub turns : kind l.held end (batch_start m.state m.due l.tail at m.refuses) did l.notices
   pub answers : l.answers ≡ did.entries
   pub goes_on : n ≡ record (after_events m did.events) { is_open = n.is_open }
   -- nothing is done exactly when the book lacks capacity, and a disk fault alone closes the machine
@@ -110,10 +109,14 @@ pub record MovesTurn (kind : TurnKind) (each : ℕ) (end : TurnEnd) (at : ℕ) (
   pub closes : (n.is_open ≡ false) ↔ (end ≡ turn_end.Disk)
   pub cause : end ≡ turn_end.Disk → HasFailed l
 
+-- the greatest epoch
+abbrev pub last_epoch : ℕ
+last_epoch = 18446744073709551615
+
 -- a tidy, by its end: it records nothing
 abbrev pub TidyEnds : TidyEnd → Label → Machine → Machine → Effects → Type 0
 TidyEnds tidy.Done l m n did = GoesOn [] m n did
-TidyEnds tidy.EpochSpent l m n did = (l.position.epoch ≡ last_epoch) × GoesOn [] m n did
+TidyEnds tidy.EpochSpent l m n did = (l.epoch ≡ last_epoch) × GoesOn [] m n did
 TidyEnds tidy.Disk l m n did = Fails l [] n did
 TidyEnds tidy.Closed l m n did = ⊥
 

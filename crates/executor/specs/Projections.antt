@@ -14,7 +14,6 @@ use Rattle.ocf_types.specs.declared.event.Step.TheVariants as step
 use Rattle.ocf_types.specs.declared.refusal.Refusal.TheVariants.{CallsSpent, Closed, Disk, JournalFull, Memory, TooManyResources}
 use Rattle.ocf_types.specs.declared.reply.ReplyOf.TheVariants as reply
 use Rattle.ocf_types.specs.declared.reply.TurnEnd.TheVariants.{Done}
-use Rattle.disk_model.specs.Disk.{DiskView}
 use Rattle.child_model.specs.Children.{is_held}
 use Rattle.child_model.specs.declared.answer.Entry.{Entry}
 use Rattle.exec_ledger.specs.Actives.{active, runs_of}
@@ -24,6 +23,7 @@ use Rattle.executor.specs.ExecutorView.{ExecutorView}
 use Rattle.executor.specs.Isolated.{cut}
 use Rattle.executor.specs.Sessions.{Input, Session}
 use Rattle.executor.specs.declared.session.InputOf.TheVariants as input
+use Rattle.store_model.specs.StoreView.{StoreView}
 
 -- the id that a command is about
 abbrev pub commanded : Command → List ℕ
@@ -117,19 +117,19 @@ IsAnswered _ = ⊤
 
 -- this resource was not held in a call, given the executor after it: only a turn picks actions, and the resources that are held after
 -- it are those that were held when it picked them
-abbrev pub WasFree : {D : Type 0} → List ℕ → Exchange → ExecutorView D → Type 0
+abbrev pub WasFree : {S : Type 0} → List ℕ → Exchange → ExecutorView S → Type 0
 WasFree id (Took (input.Turn now) reply) new = is_held new.children.held id ≡ false
 WasFree id _ new = ⊤
 
 -- it was not held in any of these calls, one after the other
-abbrev pub IsFree : {D : Type 0} → (view : D → DiskView) → List ℕ → (old : ExecutorView D) → (es : List Exchange) → (new : ExecutorView D)
+abbrev pub IsFree : {S : Type 0} → (view : S → StoreView) → List ℕ → (old : ExecutorView S) → (es : List Exchange) → (new : ExecutorView S)
     → (effects : Effects) → Calls view old es new effects → Type 0
 IsFree view id old [] new effects calls = ⊤
 IsFree view id old (e ∷ es) new effects (mid, first, later, does, rest, is) = WasFree id e mid × IsFree view id mid es new later rest
 
 -- the same of the inputs of a session
-abbrev pub IsFreeSession : {D : Type 0} → (view : D → DiskView) → List ℕ → (old : ExecutorView D) → (inputs : List Input) → (replies : List Reply)
-    → (new : ExecutorView D) → (effects : Effects) → Session view old inputs replies new effects → Type 0
+abbrev pub IsFreeSession : {S : Type 0} → (view : S → StoreView) → List ℕ → (old : ExecutorView S) → (inputs : List Input) → (replies : List Reply)
+    → (new : ExecutorView S) → (effects : Effects) → Session view old inputs replies new effects → Type 0
 IsFreeSession view id old (i ∷ is) (r ∷ rs) new effects (mid, first, later, takes, rest, same) =
     WasFree id (Took i r) mid × IsFreeSession view id mid is rs new later rest
 IsFreeSession view id old _ _ new effects session = ⊤

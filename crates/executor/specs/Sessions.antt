@@ -10,7 +10,6 @@ use Rattle.ocf_types.specs.declared.refusal.Refusal.TheVariants.{Closed, Disk}
 use Rattle.ocf_types.specs.declared.reply.ReplyOf.TheVariants.{Refused, Turn}
 use Rattle.ocf_types.specs.declared.reply.TurnEnd.{TurnEnd}
 use Rattle.ocf_types.specs.declared.reply.TurnEnd.TheVariants as turn_end
-use Rattle.disk_model.specs.Disk.{DiskView}
 use Rattle.exec_ledger.specs.LedgerView.{While}
 use Rattle.exec_ledger.specs.Pieces.{CrashCondition}
 pub use Rattle.exec_ledger.specs.Pieces.{Effects, followed_by, no_effects}
@@ -21,6 +20,7 @@ use Rattle.executor.specs.ExecutorView.{ExecutorView, due_in}
 use Rattle.executor.specs.TurnCalls.{TakesTurn}
 use Rattle.executor.specs.declared.session.InputOf.{InputOf}
 use Rattle.executor.specs.declared.session.InputOf.TheVariants as input
+use Rattle.store_model.specs.StoreView.{StoreView}
 
 -- an input
 abbrev pub Input : Type 0
@@ -36,21 +36,21 @@ request_effects s now (asked.Question question) reply = no_effects
 request_effects s now (asked.Command command) reply = command_effects (event_of s now command) reply
 
 -- an open executor takes a request: from one view of it to another, with these effects
-pub record TakesRequest {D : Type 0} (view : D → DiskView) (now : ℕ) (request : Request) (old new : ExecutorView D) (reply : Reply)
+pub record TakesRequest {S : Type 0} (view : S → StoreView) (now : ℕ) (request : Request) (old new : ExecutorView S) (reply : Reply)
     (effects : Effects) : Type 0 where
   pub serves : ServesOpen view now request old new reply
   pub closes : (new.is_open ≡ false) ↔ (reply ≡ Refused Disk)
   pub does : effects ≡ request_effects old.state now request reply
 
 -- an open executor makes a turn, and replies how it ended
-pub record TakesATurn {D : Type 0} (view : D → DiskView) (now : ℕ) (old new : ExecutorView D) (reply : Reply) (effects : Effects) : Type 0 where
+pub record TakesATurn {S : Type 0} (view : S → StoreView) (now : ℕ) (old new : ExecutorView S) (reply : Reply) (effects : Effects) : Type 0 where
   pub end : TurnEnd
   pub takes : TakesTurn view now old new end
   pub replies : reply ≡ Turn end
   pub does : effects ≡ takes.turns.effects
 
 -- an open executor takes an input
-abbrev pub TakesOpen : {D : Type 0} → (D → DiskView) → Input → ExecutorView D → ExecutorView D → Reply → Effects → Type 0
+abbrev pub TakesOpen : {S : Type 0} → (S → StoreView) → Input → ExecutorView S → ExecutorView S → Reply → Effects → Type 0
 TakesOpen view (input.Request now request) old new reply effects = TakesRequest view now request old new reply effects
 TakesOpen view (input.Turn now) old new reply effects = TakesATurn view now old new reply effects
 
@@ -60,23 +60,23 @@ closed_reply (input.Request now request) = Refused Closed
 closed_reply (input.Turn now) = Turn turn_end.Closed
 
 -- an executor takes an input, while it is open or closed: a closed one does nothing
-abbrev pub TakesWhile : Bool → {D : Type 0} → (D → DiskView) → Input → ExecutorView D → ExecutorView D → Reply → Effects → Type 0
+abbrev pub TakesWhile : Bool → {S : Type 0} → (S → StoreView) → Input → ExecutorView S → ExecutorView S → Reply → Effects → Type 0
 TakesWhile is_open view i old new reply effects =
     While is_open (TakesOpen view i old new reply effects) ((reply ≡ closed_reply i) × (new ≡ old) × (effects ≡ no_effects))
 
 -- one input after the other, none left out, each with one reply: from one view of the executor to another
-abbrev pub Session : {D : Type 0} → (D → DiskView) → ExecutorView D → List Input → List Reply → ExecutorView D → Effects → Type 0
+abbrev pub Session : {S : Type 0} → (S → StoreView) → ExecutorView S → List Input → List Reply → ExecutorView S → Effects → Type 0
 Session view old [] [] new effects = (new ≡ old) × (effects ≡ no_effects)
-Session {D} view old (i ∷ is) (r ∷ rs) new effects =
-    (mid : ExecutorView D) × (first : Effects) × (later : Effects) × TakesWhile old.is_open view i old mid r first × Session view mid is rs new later
+Session {S} view old (i ∷ is) (r ∷ rs) new effects =
+    (mid : ExecutorView S) × (first : Effects) × (later : Effects) × TakesWhile old.is_open view i old mid r first × Session view mid is rs new later
     × (effects ≡ followed_by first later)
 Session view old [] (r ∷ rs) new effects = ⊥
 Session view old (i ∷ is) [] new effects = ⊥
 
 -- Calls of an open executor with these effects: from one view of it to another.
-pub record Leads {D : Type 0} (view : D → DiskView) (old new : ExecutorView D) (effects : Effects) : Type 0 where
+pub record Leads {S : Type 0} (view : S → StoreView) (old new : ExecutorView S) (effects : Effects) : Type 0 where
   -- the state, the crash condition, and that no agent was spawned without its synced begin
-  pub crash : CrashCondition view old.disk new.disk old.state new.state effects
+  pub crash : CrashCondition view old.store new.store old.state new.state effects
   pub book : new.children.book ≡ old.children.book ++ effects.entries
   -- the log, which has all answers and is never emptied, grew by the same entries
   pub log : new.children.log ≡ old.children.log ++ effects.entries
@@ -88,7 +88,7 @@ pub record Leads {D : Type 0} (view : D → DiskView) (old new : ExecutorView D)
   pub whole : new.is_open ≡ true → effects.pending ≡ []
 
 -- Each input was taken, with these replies; and where the executor was open, the effects of all of them.
-pub record TakesInputs {D : Type 0} (view : D → DiskView) (inputs : List Input) (old new : ExecutorView D) (replies : List Reply) : Type 0 where
+pub record TakesInputs {S : Type 0} (view : S → StoreView) (inputs : List Input) (old new : ExecutorView S) (replies : List Reply) : Type 0 where
   pub effects : Effects
   pub each : Session view old inputs replies new effects
   pub leads : old.is_open ≡ true → Leads view old new effects

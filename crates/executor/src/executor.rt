@@ -1,22 +1,23 @@
-//! `Executor`: its parts, its view and its invariant.
+//! `On`, the executor over a store, and `Executor`, the one over a pair of files: its parts, its view and its invariant.
 use crate::report::Reported;
 use child_model::Children;
-use disk_model::Disk;
+use exec_journal::Journal;
 use exec_ledger::Ledger;
 use exec_turn::TurnBuffers;
 use growth::Grows;
 use ocf_env::Site;
 use std::alloc::Global;
 use std::marker::Model;
+use store_model::Store;
 
-/// A local executor of OCF resource agents over a journal and agent processes. A disk fault closes it; it is opened again from
-/// its journal.
+/// A local executor of OCF resource agents over a store and agent processes. A fault of the store's device closes it; it is opened
+/// again from its store.
 ///
-/// While it is open its journal is settled at its state, and its reserve has space for the results of what runs and for a boot:
-/// that is the ledger's invariant. The executor's own adds that the agent processes of all running actions live.
+/// While it is open its store holds its state, with space for the results of what runs and for a boot: that is the ledger's
+/// invariant. The executor's own adds that the agent processes of all running actions live.
 #[derive(Drop)]
-pub struct Executor<D: Disk + Drop, C: Children + Drop, A: Grows = Global> {
-    pub(crate) ledger: Ledger<D, A>,
+pub struct On<S: Store + Drop, C: Children + Drop, A: Grows = Global> {
+    pub(crate) ledger: Ledger<S, A>,
     pub(crate) children: C,
     pub(crate) site: Site<A>,
     pub(crate) buffers: TurnBuffers<A>,
@@ -24,12 +25,15 @@ pub struct Executor<D: Disk + Drop, C: Children + Drop, A: Grows = Global> {
     pub(crate) alloc: A,
 }
 
-impl<D: Disk + Drop, C: Children + Drop, A: Grows> Model for Executor<D, C, A> {
+/// A local executor over a journal of two files.
+pub type Executor<D, C, A = Global> = On<Journal<D, A>, C, A>;
+
+impl<S: Store + Drop, C: Children + Drop, A: Grows> Model for On<S, C, A> {
     ghost use Rattle.exec_turn.specs.Turns.{turn_notices};
     ghost use Rattle.executor.specs.Reports.{remembered_report};
     ghost use Rattle.executor.specs.ExecutorView.{ChildrenInvariant, ExecutorView, executor_view};
 
-    ghost Value = { ExecutorView D };
+    ghost Value = { ExecutorView S };
 
     ghost view = { λ e. executor_view e.ledger (C.view e.children) e.site (turn_notices e.buffers) (remembered_report e.opening_report) };
 

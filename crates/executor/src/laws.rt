@@ -10,13 +10,18 @@ ghost use Rattle.two_parts.specs.declared.damage.Damage.{Damage};
 ghost use Rattle.child_model.specs.Children.{ChildrenView};
 ghost use Rattle.child_model.specs.declared.answer.Entry.{Entry};
 ghost use Rattle.exec_journal.specs.Found.{FoundAs, IsFirstLayout, IsFreshPair};
+ghost use Rattle.exec_journal.specs.Journal.{JournalView};
 ghost use Rattle.exec_journal.specs.Opening.{Opens};
 ghost use Rattle.exec_journal.specs.Reserve.{PairHasReserve};
+ghost use Rattle.exec_journal.specs.StoreViews.{store_view};
+ghost use Rattle.store_model.specs.Calls.{OpensStore};
 ghost use Rattle.exec_turn.specs.AgentsLive.{AgentsLive};
 ghost use Rattle.executor.specs.Joins.{SameIsolated, as_calls};
-ghost use Rattle.executor.specs.Incarnations.{BeginsAs, Calls, Does, Exchange, GoesOnFrom, InOpening, AreIncarnations, IncarnationsLeave, SurvivingEvents, OpensAfter, Batch, Lasted, Incarnation};
+ghost use Rattle.executor.specs.Incarnations.{Calls, Does, Exchange, GoesOnFrom, InOpening, AreIncarnations, IncarnationsLeave, IncarnationsOpen, SurvivingEvents, OpensAfter, Batch, Lasted, Incarnation};
 ghost use Rattle.executor.specs.Machine.{LacksMemory};
-ghost use Rattle.executor.specs.Openings.{NotOpened, Opened};
+ghost use Rattle.executor.specs.OnFiles.{BeginsAs, FilesGoOn, FilesLeave};
+ghost use Rattle.executor.specs.OnStores.{NotOpenedOn, OpensFrom, OpensOn};
+ghost use Rattle.executor.specs.Openings.{NotOpened, Opened, closed_pair};
 ghost use Rattle.executor.specs.Promise.{IsKept};
 ghost use Rattle.executor.specs.CommandBatches.{CallsCommands, TakesCommands};
 ghost use Rattle.executor.specs.Behaves.{Behaves};
@@ -33,6 +38,7 @@ ghost use Rattle.executor.specs.declared.opening.OpenError.TheVariants as why;
 use disk_model::Disk;
 use exec_journal::laws::{lemma_found_once, lemma_journal_holds};
 use ocf_types::laws::{layouts, lemma_lawful_states};
+use store_model::Store;
 
 /// Each resource's part of any calls is a behaviour of the machine that has this resource alone, whatever the children answered
 /// and however the actions of others ran in between. Its part is: the commands and questions that are about it, each turn, the
@@ -41,32 +47,32 @@ use ocf_types::laws::{layouts, lemma_lawful_states};
 /// handed in. The law holds while none of its replies reports a shortage that resources share or a closed executor, each turn
 /// ends done, moments do not go back, and the resource is not held in any turn that may begin actions; the replies to others,
 /// and whether others are held, do not matter.
-pub fn lemma_each_alone<D: Disk>()
-    ensures alone { (x z : ExecutorView D) (calls : List Exchange) (d : Effects) (id : List ℕ)
-        → DistinctKeys x.state → (made : Calls D.view x calls z d)
-        → IsFree D.view id x calls z d made → AllByRecursion IsAnswered (part id calls)
+pub fn lemma_each_alone<S: Store>()
+    ensures alone { (x z : ExecutorView S) (calls : List Exchange) (d : Effects) (id : List ℕ)
+        → DistinctKeys x.state → (made : Calls S.view x calls z d)
+        → IsFree S.view id x calls z d made → AllByRecursion IsAnswered (part id calls)
         → AreRising x.state.clock calls
         → Alone id (isolated_of x id) (part id calls)
         (entries_of_runs (own_runs id x.state d.events) d.entries)
         (events_of id d.events) }
     // the machine ends where the calls end
-    ensures ends { (x z : ExecutorView D) (calls : List Exchange) (d : Effects) (id : List ℕ)
-        → Calls D.view x calls z d
+    ensures ends { (x z : ExecutorView S) (calls : List Exchange) (d : Effects) (id : List ℕ)
+        → Calls S.view x calls z d
         → AllByRecursion IsAnswered (part id calls) → AreRising x.state.clock calls
         → SameIsolated (isolated_after_all (isolated_of x id) (events_of id d.events))
         (isolated_of z id) }
     // the same of a session, whose calls are its inputs with their replies
-    ensures session { (x z : ExecutorView D) (inputs : List Input) (replies : List Reply) (d : Effects)
+    ensures session { (x z : ExecutorView S) (inputs : List Input) (replies : List Reply) (d : Effects)
         (id : List ℕ)
-        → DistinctKeys x.state → (made : Session D.view x inputs replies z d)
-        → IsFreeSession D.view id x inputs replies z d made
+        → DistinctKeys x.state → (made : Session S.view x inputs replies z d)
+        → IsFreeSession S.view id x inputs replies z d made
         → AllByRecursion IsAnswered (part id (as_calls inputs replies))
         → AreRising x.state.clock (as_calls inputs replies)
         → Alone id (isolated_of x id) (part id (as_calls inputs replies))
         (entries_of_runs (own_runs id x.state d.events) d.entries)
         (events_of id d.events) }
     // and of a batch of commands, even if its record failed
-    ensures batch { (now : ℕ) (x : ExecutorView D) (commands : List Command) (replies : List Reply)
+    ensures batch { (now : ℕ) (x : ExecutorView S) (commands : List Command) (replies : List Reply)
         (es : List Event) (id : List ℕ)
         → Answered now x.state commands replies es
         → AllByRecursion IsAnswered (projection_of id (Batch now commands replies))
@@ -84,31 +90,31 @@ pub fn lemma_projections_join()
 {}
 
 /// A session is the calls of its inputs.
-pub fn lemma_session_is_calls<D: Disk>()
-    ensures { (x z : ExecutorView D) (inputs : List Input) (replies : List Reply) (d : Effects)
-        → Session D.view x inputs replies z d
-        → Calls D.view x (as_calls inputs replies) z d }
+pub fn lemma_session_is_calls<S: Store>()
+    ensures { (x z : ExecutorView S) (inputs : List Input) (replies : List Reply) (d : Effects)
+        → Session S.view x inputs replies z d
+        → Calls S.view x (as_calls inputs replies) z d }
 {}
 
 /// Commands that were taken together are calls, one after the other: each a command by itself, or a batch.
-pub fn lemma_commands_are_calls<D: Disk>()
-    ensures { (now : ℕ) (commands : List Command) (given : List Reply) (x y : ExecutorView D)
-        → TakesCommands D.view now commands x y given
-        → CallsCommands D.view now commands x y given }
+pub fn lemma_commands_are_calls<S: Store>()
+    ensures { (now : ℕ) (commands : List Command) (given : List Reply) (x y : ExecutorView S)
+        → TakesCommands S.view now commands x y given
+        → CallsCommands S.view now commands x y given }
 {}
 
 /// An executor remembers the report of its opening, whatever is called.
-pub fn lemma_report_stays<D: Disk>()
-    ensures { (x y : ExecutorView D) (calls : List Exchange) (d : Effects) → Calls D.view x calls y d
+pub fn lemma_report_stays<S: Store>()
+    ensures { (x y : ExecutorView S) (calls : List Exchange) (d : Effects) → Calls S.view x calls y d
         → y.opening_report ≡ x.opening_report }
 {}
 
 /// Lack of memory is reported only where the executor's allocator refuses memory: with an allocator that never refuses, no call
 /// reports it.
-pub fn lemma_memory_is_there<D: Disk>()
-    ensures reported { (x y : ExecutorView D) (call : Exchange) (d : Effects) → Does D.view call x y d
+pub fn lemma_memory_is_there<S: Store>()
+    ensures reported { (x y : ExecutorView S) (call : Exchange) (d : Effects) → Does S.view call x y d
         → LacksMemory call → IsTrue x.refuses }
-    ensures none { (x y : ExecutorView D) (calls : List Exchange) (d : Effects) → Calls D.view x calls y d
+    ensures none { (x y : ExecutorView S) (calls : List Exchange) (d : Effects) → Calls S.view x calls y d
         → x.refuses ≡ false → AllByRecursion (λ call. LacksMemory call → ⊥) calls }
 {}
 
@@ -119,20 +125,69 @@ pub fn lemma_distinct_keys()
         → DistinctKeys s }
 {}
 
-/// The promise. Take any history of incarnations, crashed at any moment, and any pair of files that its last crash may leave. Then
-/// there is one list of events with these properties. The pair is found as the state after them. The observations of the history
-/// are a behaviour of the machine, which knows no disk, and the list is what remains of that behaviour and of the calls. Each
+/// The promise, of an executor over any store. Take any history of incarnations, crashed at any moment, and any state that its last
+/// crash may leave. Then there is one list of events with these properties. The state is the one after them. The observations of the
+/// history are a behaviour of the machine, which knows no store, and the list is what remains of that behaviour and of the calls. Each
 /// acknowledgement has the event of its own command in the list, each notice its result, and each start of an agent its begin.
 /// Openings report as interrupted what boots interrupt. The list is in order.
+pub fn promise_on<S: Store>()
+    ensures { (start : State) (incarnations : List (Incarnation S))
+        (is : AreIncarnations S.view (GoesOnFrom S.view start) incarnations) (x : State)
+        → IsLawfulState start → IncarnationsLeave S.view start incarnations x
+        → (zs : List Event) × (x ≡ after_all start zs)
+        × Behaves start (seen S.view (GoesOnFrom S.view start) incarnations is) zs × SurvivingEvents start incarnations zs
+        × IsKept start (seen S.view (GoesOnFrom S.view start) incarnations is) zs }
+{
+    S::lemma_lawful();
+}
+
+/// After any history of openings, calls and crashes at any moment, whatever a crash left opens, with space for its boot: `opens`. So
+/// an opening after a history gives the state after what remains, with what ran reported as interrupted, and never reports a full
+/// store: `opened`, `not_full`.
+///
+/// An opening of a store, and then that of an executor over it, is the opening of an incarnation: `joined`. A refused one is an
+/// incarnation, too: `refused`. Its boot may remain only where the device failed: lack of memory, foreign children and a full store
+/// come before the boot.
+pub fn lemma_history_on<S: Store>()
+    ensures opens { (start : State) (incarnations : List (Incarnation S))
+        → AreIncarnations S.view (GoesOnFrom S.view start) incarnations → IncarnationsOpen S.view incarnations }
+    ensures opened { (start : State) (incarnations : List (Incarnation S)) (old : S) (from : ChildrenView)
+        (now : ℕ) (x : ExecutorView S) (ran queued : List Notice)
+        → AreIncarnations S.view (GoesOnFrom S.view start) incarnations → GoesOnFrom S.view start incarnations old
+        → OpensOn S.view old from now x ran queued
+        → (S.view x.store).honest → OpensAfter start incarnations now x.state ran queued }
+    ensures joined { (old mid : S) (s : State) (from : ChildrenView) (now : ℕ) (x : ExecutorView S) (ran queued : List Notice)
+        → OpensStore (S.view old) (S.view mid) s → OpensFrom S.view (λ t. t ≡ s) mid from now x ran queued
+        → OpensOn S.view old from now x ran queued }
+    ensures refused { (old mid new : S) (s : State) (from to : ChildrenView) (now : ℕ) (fault : OpenError)
+        → OpensStore (S.view old) (S.view mid) s → NotOpenedOn S.view s mid new from to now fault
+        → Lasted S.view (InOpening old new now (Some fault)) }
+    ensures not_full { (start : State) (incarnations : List (Incarnation S)) (old mid new : S) (s : State)
+        (from to : ChildrenView) (now : ℕ) (fault : OpenError)
+        → AreIncarnations S.view (GoesOnFrom S.view start) incarnations → GoesOnFrom S.view start incarnations old
+        → OpensStore (S.view old) (S.view mid) s → NotOpenedOn S.view s mid new from to now fault
+        → (S.view new).honest → fault ≢ why.Full }
+{
+    S::lemma_lawful();
+}
+
+/// The promise, of an executor over two files. Take any history of incarnations, crashed at any moment, and any pair of files that its
+/// last crash may leave. Then there is one list of events with these properties. The pair is found as the state after them. The
+/// observations of the history are a behaviour of the machine, which knows no disk, and the list is what remains of that behaviour
+/// and of the calls. Each acknowledgement has the event of its own command in the list, each notice its result, and each start of an
+/// agent its begin. Openings report as interrupted what boots interrupt. The list is in order.
+///
+/// It is `promise_on`, since two files are a store: whatever is left of them opens as a state.
 pub fn promise<D: Disk>()
-    ensures { (start : State) (incarnations : List (Incarnation D)) (is : AreIncarnations D.view start incarnations) (c : Image)
-        → IncarnationsLeave D.view start incarnations c
+    ensures { (start : State) (incarnations : List (Incarnation (JournalView D)))
+        (is : AreIncarnations (store_view D.view) (FilesGoOn D.view start) incarnations) (c : Image)
+        → FilesLeave D.view start incarnations c
         → (zs : List Event) × FoundAs (after_all start zs) c
-        × Behaves start (seen D.view start incarnations is) zs × SurvivingEvents start incarnations zs
-        × IsKept start (seen D.view start incarnations is) zs }
+        × Behaves start (seen (store_view D.view) (FilesGoOn D.view start) incarnations is) zs
+        × SurvivingEvents start incarnations zs
+        × IsKept start (seen (store_view D.view) (FilesGoOn D.view start) incarnations is) zs }
 {
     lemma_found_once();
-    lemma_journal_holds();
     lemma_lawful_states();
     layouts();
 }
@@ -143,9 +198,9 @@ pub fn promise<D: Disk>()
 /// So an opening after a history gives the state after what remains, with what ran reported as interrupted, and never reports
 /// damage or a full journal.
 ///
-/// A refused opening is an incarnation, too. Its boot may remain only where the device failed: lack of memory, foreign children,
-/// a full journal and damage come before the boot. Where only the journal was opened, for reading, that is an incarnation without
-/// a boot, however it ended.
+/// An opening of an executor over two files is the opening of an incarnation: `opening`. A refused opening is an incarnation, too. Its
+/// boot may remain only where the device failed: lack of memory, foreign children, a full journal and damage come before the boot.
+/// Where only the journal was opened, for reading, that is an incarnation without a boot, however it ended.
 ///
 /// A history begins on any pair that is found as a state and has its reserve: a fresh pair is such a pair, with the
 /// empty state, and so is a journal of the first layout, with the state that it leads to.
@@ -153,29 +208,35 @@ pub fn lemma_whole_history<D: Disk>()
     ensures fresh { (c : Image) → IsFreshPair c → BeginsAs empty c }
     ensures first { (start : State) (c : Image) → FoundAs start c → IsFirstLayout c
         → BeginsAs start c }
-    ensures holds { (start : State) (incarnations : List (Incarnation D)) → AreIncarnations D.view start incarnations
-        → (c : Image) → IncarnationsLeave D.view start incarnations c
+    ensures holds { (start : State) (incarnations : List (Incarnation (JournalView D)))
+        → AreIncarnations (store_view D.view) (FilesGoOn D.view start) incarnations
+        → (c : Image) → FilesLeave D.view start incarnations c
         → (zs : List Event) × SurvivingEvents start incarnations zs × FoundAs (after_all start zs) c }
-    ensures reserved { (start : State) (incarnations : List (Incarnation D)) → AreIncarnations D.view start incarnations
-        → (c : Image) → IncarnationsLeave D.view start incarnations c
+    ensures reserved { (start : State) (incarnations : List (Incarnation (JournalView D)))
+        → AreIncarnations (store_view D.view) (FilesGoOn D.view start) incarnations
+        → (c : Image) → FilesLeave D.view start incarnations c
         → PairHasReserve c }
-    ensures opened { (start : State) (incarnations : List (Incarnation D)) (old : D) (from : ChildrenView)
-        (now : ℕ) (x : ExecutorView D) (ran queued : List Notice)
-        → AreIncarnations D.view start incarnations → GoesOnFrom D.view start incarnations old
-        → Opened D.view (D.view old) from now x ran queued
-        → (D.view x.disk).honest → OpensAfter start incarnations now x.state ran queued }
-    ensures not_refused { (start : State) (incarnations : List (Incarnation D)) (old new : D)
+    ensures opened { (start : State) (incarnations : List (Incarnation (JournalView D))) (old : D) (from : ChildrenView)
+        (now : ℕ) (x : ExecutorView (JournalView D)) (ran queued : List Notice)
+        → AreIncarnations (store_view D.view) (FilesGoOn D.view start) incarnations
+        → FilesGoOn D.view start incarnations (closed_pair old)
+        → Opened D.view old from now x ran queued
+        → (D.view x.store.disk).honest → OpensAfter start incarnations now x.state ran queued }
+    ensures not_refused { (start : State) (incarnations : List (Incarnation (JournalView D))) (old new : D)
         (from to : ChildrenView) (now : ℕ) (fault : OpenError)
-        → AreIncarnations D.view start incarnations
-        → GoesOnFrom D.view start incarnations old → NotOpened (D.view old) (D.view new) from to now fault
+        → AreIncarnations (store_view D.view) (FilesGoOn D.view start) incarnations
+        → FilesGoOn D.view start incarnations (closed_pair old) → NotOpened D.view old new from to now fault
         → (D.view new).honest
         → (fault ≢ why.Full) × ((d : Damage) → fault ≢ why.Damaged d) }
+    ensures opening { (old : D) (from : ChildrenView) (now : ℕ) (x : ExecutorView (JournalView D)) (ran queued : List Notice)
+        → Opened D.view old from now x ran queued
+        → OpensOn (store_view D.view) (closed_pair old) from now x ran queued }
     ensures refused { (old new : D) (from to : ChildrenView) (now : ℕ) (fault : OpenError)
-        → NotOpened (D.view old) (D.view new) from to now fault
-        → Lasted D.view (InOpening old new now (Some fault)) }
+        → NotOpened D.view old new from to now fault
+        → Lasted (store_view D.view) (InOpening (closed_pair old) (closed_pair new) now (Some fault)) }
     ensures looked { (old new : D) (now : ℕ) (end : Option OpenError)
         → Opens (D.view old) (D.view new)
-        → Lasted D.view (InOpening old new now end) }
+        → Lasted (store_view D.view) (InOpening (closed_pair old) (closed_pair new) now end) }
 {
     lemma_found_once();
     lemma_journal_holds();

@@ -3,6 +3,7 @@
 
 mod commands;
 mod executor;
+mod files;
 pub mod histories;
 pub mod laws;
 pub mod machine;
@@ -12,7 +13,8 @@ mod session;
 mod tidies;
 mod turns;
 
-pub use executor::Executor;
-pub use opening::{OpenError, OpenFault};
+pub use executor::{Executor, On};
+pub use files::OpenFault;
+pub use opening::{OnFault, OpenError};
 pub use report::Report;
 pub use session::{Input, InputOf};

@@ -4,13 +4,12 @@ ghost use Rattle.ocf_types.specs.Kinds.{Reply};
 ghost use Rattle.exec_ledger.specs.Pieces.{Effects};
 ghost use Rattle.executor.specs.Sessions.{TakesInputs, TakesWhile};
 
-use crate::Executor;
+use crate::On;
 use child_model::Children;
-use disk_model::Disk;
-use exec_journal::laws::lemma_journal_holds;
 use growth::Grows;
 use ocf_types::{Params, Reply, ReplyOf, RequestOf};
 use std::alloc::Global;
+use store_model::Store;
 
 /// An input, at a moment in milliseconds since 1970. `P` is the type of parameters.
 #[derive(Drop)]
@@ -24,11 +23,11 @@ pub enum InputOf<P> {
 /// An input whose parameters lie in memory of the allocator.
 pub type Input<A = Global> = InputOf<Params<A>>;
 
-impl<D: Disk + Drop, C: Children + Drop, A: Grows> Executor<D, C, A> {
+impl<S: Store + Drop, C: Children + Drop, A: Grows> On<S, C, A> {
     // Takes one input.
     fn take(&mut self, input: Input<A>) -> Reply<A>
         ensures takes { (effects : Effects)
-            × TakesWhile self.old.is_open D.view input self.old self.new result effects }
+            × TakesWhile self.old.is_open S.view input self.old self.new result effects }
     {
         match input {
             InputOf::Request { now, request } => self.command(now, request),
@@ -48,14 +47,14 @@ impl<D: Disk + Drop, C: Children + Drop, A: Grows> Executor<D, C, A> {
         // each input was taken, in order and none left out, with one reply to each
         ensures takes_inputs { OnOk result
             ((given : List Reply) × (replies.new.items ≡ replies.old.items ++ given)
-            × TakesInputs D.view inputs.items self.old self.new given) }
+            × TakesInputs S.view inputs.items self.old self.new given) }
         // without memory for the replies nothing was done
         ensures refused { IfErr result
             (λ back. (back ≡ inputs) × (self.new ≡ self.old)
             × (replies.new.items ≡ replies.old.items)) }
         ensures memory { OnErr result (IsTrue A.refuses) }
     {
-        lemma_journal_holds();
+        S::lemma_lawful();
         self.lemma_known();
         let Ok(()) = A::reserve_for(replies, inputs.as_slice()) else {
             return Err(inputs);

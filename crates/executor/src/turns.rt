@@ -3,21 +3,21 @@ ghost use Rattle.std.specs.Prelude.{◌≡◌};
 ghost use Rattle.exec_turn.specs.Actives.{any_running};
 ghost use Rattle.executor.specs.TurnCalls.{Abandons, FinishesWhile, TurnsWhile, with_empty_book};
 
-use crate::Executor;
+use crate::On;
 use child_model::{Children, Entry};
-use disk_model::Disk;
 use exec_turn::{finish_turn, runs_any, take_turn};
 use growth::Grows;
 use ocf_types::{Notice, TurnEnd};
+use store_model::Store;
 
-impl<D: Disk + Drop, C: Children + Drop, A: Grows> Executor<D, C, A> {
+impl<S: Store + Drop, C: Children + Drop, A: Grows> On<S, C, A> {
     /// A turn at a moment in milliseconds since 1970: polls running actions, records their results, and begins and spawns the
     /// actions that have to begin. It begins nothing for a resource that the children hold.
     ///
     /// A result is recorded before it is reported, and a begin before its action is spawned. A disk fault closes the executor. A
     /// closed one does nothing.
     pub fn turn(&mut self, now: u64) -> TurnEnd
-        ensures turns { TurnsWhile self.old.is_open D.view now self.old self.new result }
+        ensures turns { TurnsWhile self.old.is_open S.view now self.old self.new result }
     {
         if !self.ledger.is_open() {
             return TurnEnd::Closed;
@@ -39,7 +39,7 @@ impl<D: Disk + Drop, C: Children + Drop, A: Grows> Executor<D, C, A> {
     ///
     /// A result is recorded before it is reported. A disk fault closes the executor. A closed one does nothing.
     pub fn finish(&mut self, now: u64) -> TurnEnd
-        ensures finishes { FinishesWhile self.old.is_open D.view now self.old self.new result }
+        ensures finishes { FinishesWhile self.old.is_open S.view now self.old self.new result }
     {
         if !self.ledger.is_open() {
             return TurnEnd::Closed;

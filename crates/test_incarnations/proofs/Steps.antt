@@ -10,9 +10,13 @@ use Rattle.disk_model.specs.Disk.{Lawful, DiskView}
 use Rattle.disk_model.specs.declared.memory.MemDisk.{MemDisk}
 use Rattle.child_model.specs.Children.{ChildrenView}
 use Rattle.exec_journal.specs.Found.{FoundAs, IsFreshPair}
+use Rattle.exec_journal.specs.Journal.{JournalView}
+use Rattle.exec_journal.specs.StoreViews.{store_view}
 use Rattle.executor.specs.Joins.{as_calls}
-use Rattle.executor.specs.Incarnations.{BeginsAs, Calls, Exchange, InOpening, Up, AreIncarnations, IncarnationsLeave, SurvivingEvents, Lasted, Incarnation}
-use Rattle.executor.specs.Openings.{NotOpened, Opened}
+use Rattle.executor.specs.Incarnations.{Calls, Exchange, InOpening, Up, AreIncarnations, SurvivingEvents, Lasted, Incarnation}
+use Rattle.executor.specs.OnFiles.{BeginsAs, FilesGoOn, FilesLeave}
+use Rattle.executor.specs.OnStores.{OpensOn}
+use Rattle.executor.specs.Openings.{NotOpened, closed_pair}
 use Rattle.executor.specs.Promise.{IsKept}
 use Rattle.executor.specs.Behaves.{Behaves}
 use Rattle.executor.specs.SeenIncarnations.{seen}
@@ -28,19 +32,20 @@ unanswered (i ∷ is) = refl
 
 module _ {D : Type 0} (view : D → DiskView) where
   -- an incarnation of an executor that was opened and made calls
-  pub served : (old new : D) (from : ChildrenView) (now : ℕ) (opened last : ExecutorView D) (ran queued : List Notice) (calls : List Exchange)
-      (d : Effects) → Opened view (view old) from now opened ran queued → Calls view opened calls last d → new ≡ last.disk
+  pub served : (old new : D) (from : ChildrenView) (now : ℕ) (opened last : ExecutorView (JournalView D)) (ran queued : List Notice)
+      (calls : List Exchange) (d : Effects) → OpensOn (store_view view) (closed_pair old) from now opened ran queued
+      → Calls (store_view view) opened calls last d → new ≡ last.store.disk
       → IsIncarnation view calls old new
   served old new from now opened last ran queued calls d opens made same = record {
     incarnation = Up (record {
-      disk = old;
+      store = closed_pair old;
       now = now;
       opened = opened;
       returned = last;
       last = last;
       done = d;
       under_way = no_effects;
-      stop = (view last.disk).clock;
+      stop = (view last.store.disk).clock;
     });
     sat = record {
       children = from;
@@ -61,9 +66,10 @@ module _ {D : Type 0} (view : D → DiskView) where
 
   -- an incarnation in which no executor was opened
   pub not_opened : (law : (d : D) → (view d).honest → Lawful (view d)) (old new : D) (from to : ChildrenView) (now : ℕ) (why : OpenError)
-      → NotOpened (view old) (view new) from to now why → Lasted view (InOpening old new now (Some why)) → IsIncarnation view [] old new
+      → NotOpened view old new from to now why
+      → Lasted (store_view view) (InOpening (closed_pair old) (closed_pair new) now (Some why)) → IsIncarnation view [] old new
   not_opened law old new from to now why refused sat = record {
-    incarnation = InOpening old new now (Some why);
+    incarnation = InOpening (closed_pair old) (closed_pair new) now (Some why);
     sat = sat;
     made = refl;
     first = refl;
@@ -95,7 +101,7 @@ module _ {M : Type 0} where
         incarnations = sat.incarnation ∷ h.incarnations;
         is = (
           h.is,
-          λ c now. h.goes_on c (same.now c (subst (λ (d : MemDisk M). (view_of d).now c) sat.first now)),
+          λ c now. h.goes_on c (same.now c (subst (λ (j : JournalView (MemDisk M)). (view_of j.disk).now c) sat.first now)),
           sat.sat,
           tt,
         );
@@ -104,13 +110,16 @@ module _ {M : Type 0} where
             (subst (λ (k : Image). (view_of new).since (view_of new).clock k) (sym (fresh.now c now)) holds);
       }
 
+  abbrev view : MemDisk M → DiskView
+  view d = view_of d
+
   -- the promise holds for such a history
-  pub promised : ((start : State) (incarnations : List (Incarnation (MemDisk M))) (is : AreIncarnations (λ (x : MemDisk M). view_of x) start incarnations) (c : Image)
-      → IncarnationsLeave (λ (x : MemDisk M). view_of x) start incarnations c
-      → (zs : List Event) × FoundAs (after_all start zs) c × Behaves start (seen (λ (x : MemDisk M). view_of x) start incarnations is) zs
-      × SurvivingEvents start incarnations zs × IsKept start (seen (λ (x : MemDisk M). view_of x) start incarnations is) zs)
-      → (calls : List (List Exchange)) (d : MemDisk M) → Lawful (view_of d)
-      → IsHistory (λ (x : MemDisk M). view_of x) calls d → IsPromised (λ (x : MemDisk M). view_of x) calls d
+  pub promised : ((start : State) (incarnations : List (Incarnation (JournalView (MemDisk M))))
+      (is : AreIncarnations (store_view view) (FilesGoOn view start) incarnations) (c : Image)
+      → FilesLeave view start incarnations c
+      → (zs : List Event) × FoundAs (after_all start zs) c × Behaves start (seen (store_view view) (FilesGoOn view start) incarnations is) zs
+      × SurvivingEvents start incarnations zs × IsKept start (seen (store_view view) (FilesGoOn view start) incarnations is) zs)
+      → (calls : List (List Exchange)) (d : MemDisk M) → Lawful (view_of d) → IsHistory view calls d → IsPromised view calls d
   promised law calls d lawful h =
       let (zs, found, runs, surviving, kept) = law empty h.incarnations h.is (view_of d).reads (h.goes_on (view_of d).reads lawful.reads_now) in
       record { history = h; events = zs; found = found; runs = runs; kept = kept }

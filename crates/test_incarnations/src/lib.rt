@@ -11,6 +11,7 @@ ghost use Rattle.test_incarnations.specs.History.{IsHistory, IsPromised, IsIncar
 
 use child_model::Children;
 use disk_model::{Disk, Fill, MemDisk};
+use exec_journal::Journal;
 use executor::laws::{lemma_session_is_calls, lemma_whole_history, promise};
 use executor::{Executor, Input};
 use growth::Grows;
@@ -47,7 +48,7 @@ fn run_incarnation<D: Disk + Drop, C: Children + Drop, A: Grows>(
         (λ r. IsIncarnation D.view (as_calls machine.inputs.items r.replies.items) disk r.disk) }
     ensures memory { IfNone result (IsTrue A.refuses) }
 {
-    lemma_session_is_calls::<D>();
+    lemma_session_is_calls::<Journal<D, A>>();
     lemma_whole_history::<D>();
     let mut replies = Vec::new(alloc);
     match Executor::open(alloc, disk, machine.children, machine.site, machine.now) {

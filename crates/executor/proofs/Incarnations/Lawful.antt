@@ -1,4 +1,4 @@
--- A history begins with a lawful state.
+-- A history over files begins with a lawful state.
 use Rattle.std.proofs.Common.{List, [], ◌∷◌, flat_map, sym, subst}
 use Rattle.ocf_types.specs.Applies.{Applies, AppliesIn}
 use Rattle.ocf_types.specs.Kinds.{Event}
@@ -12,10 +12,12 @@ use Rattle.two_parts.specs.Choice.{choice}
 use Rattle.two_parts.specs.declared.choice.Choice.{Choice}
 use Rattle.two_parts.specs.declared.choice.Choice.TheVariants.{Broken, Current, Fresh}
 use Rattle.exec_journal.specs.Found.{FoundAs, LeadsTo}
-use Rattle.exec_journal.specs.PartPrefix.{AllApplyIn}
-use Rattle.executor.specs.Incarnations.{InOpening, Up, AreIncarnations, IncarnationsLeave, Incarnation}
-use Rattle.exec_ledger.specs.Lemmas.{JournalLemmas}
-use Rattle.executor.proofs.Incarnations.Uptimes.{whole_leads}
+use Rattle.exec_journal.specs.Journal.{JournalView}
+use Rattle.exec_journal.specs.StoreViews.{store_view}
+use Rattle.store_model.specs.Batches.{AllApplyIn}
+use Rattle.executor.specs.Incarnations.{AreIncarnations, Incarnation, first_store}
+use Rattle.executor.specs.OnFiles.{FilesGoOn, FilesLeave}
+use Rattle.executor.proofs.Incarnations.Files.{first_honest}
 
 -- the model's laws of lawful states
 pub record LawfulLemmas : Type 0 where
@@ -51,15 +53,12 @@ module _ (laws : LawfulLemmas) where
           (in_second whole.layout (after_all_in whole.layout prefix.first (flat_map (λ es. es) prefix.batches))
           (all_stay whole.layout prefix.first (flat_map (λ es. es) prefix.batches) prefix.lawful prefix.apply))
 
-  module _ {D : Type 0} (view : D → DiskView) (law : JournalLemmas) (lawful : (d : D) → (view d).honest → Lawful (view d)) (start : State) where
-    -- so is the first state of a history that may leave something
-    pub start_lawful : (incarnations : List (Incarnation D)) → AreIncarnations view start incarnations → (c : Image) → IncarnationsLeave view start incarnations c → IsLawfulState start
+  module _ {D : Type 0} (view : D → DiskView) (lawful : (d : D) → (view d).honest → Lawful (view d)) (start : State) where
+    -- so is the first state of a history over files that may leave something
+    pub start_lawful : (xs : List (Incarnation (JournalView D))) → AreIncarnations (store_view view) (FilesGoOn view start) xs → (c : Image)
+        → FilesLeave view start xs c → IsLawfulState start
     start_lawful [] is c left = found_lawful start c left.0
-    start_lawful (InOpening old new now end ∷ older) (is, from, ends, honest) c left =
-        let reads = (view old).reads in
-        start_lawful older is reads (from reads (lawful old (ends.did.crash.passed.honest honest)).reads_now)
-    start_lawful (Up x ∷ older) (is, from, serves, honest) c left =
-        let whole = whole_leads view law lawful x serves in
-        let was_honest = serves.opens.did.crash.passed.honest (whole.crash.crash.passed.honest honest) in
-        let reads = (view x.disk).reads in
-        start_lawful older is reads (from reads (lawful x.disk was_honest).reads_now)
+    start_lawful (x ∷ older) (is, files, lasted, honest) c left =
+        let d = (first_store x).disk in
+        let reads = (view d).reads in
+        start_lawful older is reads (files reads (lawful d (first_honest view lawful x lasted honest)).reads_now)

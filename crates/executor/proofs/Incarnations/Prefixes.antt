@@ -1,4 +1,4 @@
--- Prefixes of a list of events as which a pair is found, and the longest of them.
+-- Prefixes of a list of events that lead to a state, and the longest of them.
 use Rattle.std.proofs.Common.{◌≡◌, ◌⊎◌, inl, inr, ⊎_elim, ◌≤◌, ◌<◌, ℕ, Bool, List, [], ◌∷◌, ◌++◌, length, refl, sym, ap, subst, ◌∙◌, append_assoc, arith}
 use Rattle.std.specs.List.{list_any}
 use Rattle.std.proofs.lemmas.Bool.{cases_lt, or_left}
@@ -7,12 +7,10 @@ use Rattle.std.proofs.lemmas.List.Folds.{list_any-append}
 use Rattle.std.proofs.lemmas.List.Elements.{Contains-append_left, Contains-append_right, Contains-push}
 use Rattle.ocf_types.specs.Kinds.{Event}
 use Rattle.ocf_types.specs.State.{State, after_all}
-use Rattle.disk_model.specs.Image.{Image}
 use Rattle.child_model.specs.Children.{Asked, IsOfStart}
 use Rattle.child_model.specs.declared.answer.Answer.{Answer}
 use Rattle.child_model.specs.declared.answer.Answer.TheVariants as asked
 use Rattle.child_model.specs.declared.answer.Entry.{Entry}
-use Rattle.exec_journal.specs.Found.{FoundAs}
 use Rattle.exec_ledger.specs.Lemmas.{asked_in, asked_none, asked_one}
 use Rattle.exec_ledger.specs.Pieces.{HasBegin, is_begin}
 
@@ -54,16 +52,16 @@ asked_here e xs start = (e.answer, start, Contains-append_left (e ∷ []) xs e (
 asked_later : (e : Entry) (xs : List Entry) (run clock : ℕ) → Asked xs run clock → Asked (e ∷ xs) run clock
 asked_later e xs run clock h = (h.0, h.1, Contains-append_right (e ∷ []) xs (record { run = run; at = clock; answer = h.0 }) h.2)
 
--- the pair is found as the state after a prefix of these events
-pub record PrefixOf (s : State) (all : List Event) (c : Image) (p : List Event) : Type 0 where
+-- this state is the one after a prefix of these events
+pub record PrefixOf (s : State) (all : List Event) (x : State) (p : List Event) : Type 0 where
   pub others : List Event
   pub prefix : p ++ others ≡ all
-  pub found : FoundAs (after_all s p) c
+  pub found : x ≡ after_all s p
 
-module _ (s : State) (all : List Event) (c : Image) (stop : ℕ) where
+module _ (s : State) (all : List Event) (x : State) (stop : ℕ) where
   -- of two prefixes one extends both
-  longer : (p q : List Event) → PrefixOf s all c p → PrefixOf s all c q
-      → (r : List Event) × PrefixOf s all c r × GoesOn p r × GoesOn q r
+  longer : (p q : List Event) → PrefixOf s all x p → PrefixOf s all x q
+      → (r : List Event) × PrefixOf s all x r × GoesOn p r × GoesOn q r
   longer p q f g = ⊎_elim
       (λ lt. (p, f, goes_on_self p, shorter q p g.others f.others (g.prefix ∙ sym f.prefix) (omega (arith, lt))))
       (λ le. (q, g, shorter p q f.others g.others (f.prefix ∙ sym g.prefix) le, goes_on_self q))
@@ -75,11 +73,11 @@ module _ (s : State) (all : List Event) (c : Image) (stop : ℕ) where
 
   -- for each start that was asked up to a moment there is a prefix with its begin
   abbrev pub EachBegun : List Entry → Type 0
-  EachBegun xs = (run clock : ℕ) → Asked xs run clock → clock ≤ stop → (q : List Event) × PrefixOf s all c q × HasBegin run q
+  EachBegun xs = (run clock : ℕ) → Asked xs run clock → clock ≤ stop → (q : List Event) × PrefixOf s all x q × HasBegin run q
 
   -- then one prefix has all of them, and extends any given one
-  pub all_begun : (xs : List Entry) → EachBegun xs → (p : List Event) → PrefixOf s all c p
-      → (r : List Event) × PrefixOf s all c r × GoesOn p r × AllBegun xs r
+  pub all_begun : (xs : List Entry) → EachBegun xs → (p : List Event) → PrefixOf s all x p
+      → (r : List Event) × PrefixOf s all x r × GoesOn p r × AllBegun xs r
   all_begun [] each p f = (p, f, goes_on_self p, λ run clock asked le. absurd (asked_none run clock asked))
   all_begun (e ∷ xs) each p f =
       let rest = all_begun xs (λ run clock asked le. each run clock (asked_later e xs run clock asked) le) p f in
@@ -89,8 +87,8 @@ module _ (s : State) (all : List Event) (c : Image) (stop : ℕ) where
       same_entry run clock h = asked_one e (record { run = run; at = clock; answer = h.0 }) h.2
 
       by : (IsOfStart e.answer ⊎ (IsOfStart e.answer → ⊥)) → (stop < e.at) ⊎ (e.at ≤ stop)
-          → (r : List Event) × PrefixOf s all c r × GoesOn p r × AllBegun xs r
-          → (r : List Event) × PrefixOf s all c r × GoesOn p r × AllBegun (e ∷ xs) r
+          → (r : List Event) × PrefixOf s all x r × GoesOn p r × AllBegun xs r
+          → (r : List Event) × PrefixOf s all x r × GoesOn p r × AllBegun (e ∷ xs) r
       by (inr none) when (r, g, on, begun) = (
         r,
         g,

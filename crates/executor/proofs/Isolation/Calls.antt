@@ -9,7 +9,6 @@ use Rattle.ocf_types.specs.State.{State, after_all}
 use Rattle.ocf_types.specs.declared.command.RequestOf.TheVariants as asked
 use Rattle.ocf_types.specs.declared.reply.TurnEnd.{TurnEnd}
 use Rattle.ocf_types.specs.declared.reply.TurnEnd.TheVariants as turn_end
-use Rattle.disk_model.specs.Disk.{DiskView}
 use Rattle.child_model.specs.Children.{is_held}
 use Rattle.child_model.specs.declared.answer.Entry.{Entry}
 use Rattle.exec_ledger.specs.Actives.{active}
@@ -38,8 +37,9 @@ use Rattle.executor.proofs.Isolation.Turns.{AllBeginOwn, AreApart, BeginsOwn, fr
 use Rattle.executor.proofs.Isolation.Went.{Went, call_went, closed_plain, first_fresh, here, own_append}
 use Rattle.executor.proofs.Incarnations.Calls.{calls_closed}
 use Rattle.executor.proofs.Sessions.Calls.{free_calls, lemma_session_is_calls}
+use Rattle.store_model.specs.StoreView.{StoreView}
 
-module _ {D : Type 0} (view : D → DiskView) (mine : ℕ → Bool) (id : List ℕ) where
+module _ {S : Type 0} (view : S → StoreView) (mine : ℕ → Bool) (id : List ℕ) where
   own_entries : List Entry → List Entry
   own_entries es = filter (λ e. mine e.run) es
 
@@ -51,7 +51,7 @@ module _ {D : Type 0} (view : D → DiskView) (mine : ℕ → Bool) (id : List �
   no_events effects none = ap (λ (x : Effects). events_of id x.events) none
 
   -- the machine agrees with the executor after a call
-  holds_after : (at : ℕ) (y : Isolated) (old new : ExecutorView D) (es : List Event) → Went mine id at old new es
+  holds_after : (at : ℕ) (y : Isolated) (old new : ExecutorView S) (es : List Event) → Went mine id at old new es
       → IsolatedAs y old.state (due_in old) id → IsolatedAs (isolated_after_all y (events_of id es)) new.state (due_in new) id
   holds_after at y old new es went holds =
       let own : events_of id (es ++ went.more) ≡ events_of id es = filter-append (names_it id) es went.more
@@ -62,7 +62,7 @@ module _ {D : Type 0} (view : D → DiskView) (mine : ℕ → Bool) (id : List �
       (sym went.does.due) (holds_all y old.state (due_in old) id (es ++ went.more) holds went.does.next)))
 
   -- the machine takes its part of a request, and of any call
-  request_alone : (open_now b : Bool) (y : Isolated) (now : ℕ) (old new : ExecutorView D) (r : Reply) (d : Effects) (request : Request)
+  request_alone : (open_now b : Bool) (y : Isolated) (now : ℕ) (old new : ExecutorView S) (r : Reply) (d : Effects) (request : Request)
       → is_about id request ≡ b → old.state.clock ≤ cut now → (b ≡ true → IsPlain r) → IsolatedAs y old.state (due_in old) id
       → TakesWhile open_now view (input.Request now request) old new r d
       → IsStep b id y (Took (input.Request now request) r) (own_entries d.entries) (events_of id d.events)
@@ -83,7 +83,7 @@ module _ {D : Type 0} (view : D → DiskView) (mine : ℕ → Bool) (id : List �
   one_alone true y e es vs step = (es, [], vs, [], sym (append-nil es), sym (append-nil vs), step, (refl, refl))
   one_alone false y e es vs step = step
 
-  turn_alone : (open_now : Bool) (y : Isolated) (now : ℕ) (old new : ExecutorView D) (r : Reply) (d : Effects) → old.state.clock ≤ cut now
+  turn_alone : (open_now : Bool) (y : Isolated) (now : ℕ) (old new : ExecutorView S) (r : Reply) (d : Effects) → old.state.clock ≤ cut now
       → IsPlain r → IsolatedAs y old.state (due_in old) id → AreApart old.state → AreOwn mine id (active old.state) → AllBeginOwn mine id d.events
       → is_held new.children.held id ≡ false → TakesWhile open_now view (input.Turn now) old new r d
       → IsStep true id y (Took (input.Turn now) r) (own_entries d.entries) (events_of id d.events)
@@ -92,7 +92,7 @@ module _ {D : Type 0} (view : D → DiskView) (mine : ℕ → Bool) (id : List �
       turn_isolated now old new r d (turn_done view now old new r d clock plain takes) mine id y holds apart own begins free
   turn_alone false y now old new r d clock plain holds apart own begins free takes = absurd (closed_plain (input.Turn now) r takes.0 plain)
 
-  finish_alone : (open_now : Bool) (y : Isolated) (now : ℕ) (end : TurnEnd) (old new : ExecutorView D) (d : Effects) → old.state.clock ≤ cut now
+  finish_alone : (open_now : Bool) (y : Isolated) (now : ℕ) (end : TurnEnd) (old new : ExecutorView S) (d : Effects) → old.state.clock ≤ cut now
       → end ≡ turn_end.Done → IsolatedAs y old.state (due_in old) id → AreApart old.state → AreOwn mine id (active old.state)
       → FinishedWhile open_now view now old new end d
       → IsStep true id y (Finished now end) (own_entries d.entries) (events_of id d.events)
@@ -106,7 +106,7 @@ module _ {D : Type 0} (view : D → DiskView) (mine : ℕ → Bool) (id : List �
   finish_alone false y now end old new d clock done holds apart own takes =
       absurd (let bad : turn_end.Closed ≡ turn_end.Done = sym takes.0 ∙ done in cc)
 
-  call_alone : (at : ℕ) (y : Isolated) (e : Exchange) (old new : ExecutorView D) (d : Effects) → old.state.clock ≤ moment_in at e
+  call_alone : (at : ℕ) (y : Isolated) (e : Exchange) (old new : ExecutorView S) (d : Effects) → old.state.clock ≤ moment_in at e
       → AllByRecursion IsAnswered (projection_of id e) → IsolatedAs y old.state (due_in old) id → AreApart old.state
       → AreOwn mine id (active old.state) → AllBeginOwn mine id d.events → WasFree id e new → Called view e old new d
       → Alone id y (projection_of id e) (own_entries d.entries) (events_of id d.events)
@@ -144,7 +144,7 @@ module _ {D : Type 0} (view : D → DiskView) (mine : ℕ → Bool) (id : List �
   call_alone at y Abandoned old new d clock plain holds apart own begins free does = (no_entries d does.1, no_events d does.1)
 
   -- the events of calls are new
-  calls_fresh : (at : ℕ) (es : List Exchange) (x z : ExecutorView D) (d : Effects) → x.state.clock ≤ at → AreRising at es
+  calls_fresh : (at : ℕ) (es : List Exchange) (x z : ExecutorView S) (d : Effects) → x.state.clock ≤ at → AreRising at es
       → AllByRecursion IsAnswered (part id es) → Calls view x es z d → AreFresh x.state d.events
   calls_fresh at [] x z d clock rises plain calls = subst (λ (k : Effects). AreFresh x.state k.events) (sym calls.1) tt
   calls_fresh at (e ∷ es) x z d clock rises plain (mid, first, later, does, rest, all) =
@@ -165,12 +165,12 @@ module _ {D : Type 0} (view : D → DiskView) (mine : ℕ → Bool) (id : List �
           (subst (AreFresh x.state) (sym (append-nil first.events)) new_first)
 
   -- the machine after calls
-  calls_hold : (at : ℕ) (es : List Exchange) (y : Isolated) (x z : ExecutorView D) (d : Effects) → x.state.clock ≤ at → AreRising at es
+  calls_hold : (at : ℕ) (es : List Exchange) (y : Isolated) (x z : ExecutorView S) (d : Effects) → x.state.clock ≤ at → AreRising at es
       → AllByRecursion IsAnswered (part id es) → IsolatedAs y x.state (due_in x) id → Calls view x es z d
       → IsolatedAs (isolated_after_all y (events_of id d.events)) z.state (due_in z) id
   calls_hold at [] y x z d clock rises plain holds calls =
       subst (λ (k : Effects). IsolatedAs (isolated_after_all y (events_of id k.events)) z.state (due_in z) id) (sym calls.1)
-      (subst (λ (w : ExecutorView D). IsolatedAs y w.state (due_in w) id) (sym calls.0) holds)
+      (subst (λ (w : ExecutorView S). IsolatedAs y w.state (due_in w) id) (sym calls.0) holds)
   calls_hold at (e ∷ es) y x z d clock rises plain holds (mid, first, later, does, rest, all) =
       let went = call_went view mine id at e x mid first (le_trans clock rises.0) (each_first IsAnswered (projection_of id e) (part id es) plain) does in
       let y2 = isolated_after_all y (events_of id first.events) in
@@ -182,7 +182,7 @@ module _ {D : Type 0} (view : D → DiskView) (mine : ℕ → Bool) (id : List �
       ∙ single-append y (events_of id first.events) (events_of id later.events))) there
 
   -- its part of calls is a behaviour of the machine
-  alone : (at : ℕ) (es : List Exchange) (y : Isolated) (x z : ExecutorView D) (d : Effects) → x.state.clock ≤ at → AreRising at es
+  alone : (at : ℕ) (es : List Exchange) (y : Isolated) (x z : ExecutorView S) (d : Effects) → x.state.clock ≤ at → AreRising at es
       → AllByRecursion IsAnswered (part id es) → IsolatedAs y x.state (due_in x) id → AreApart x.state → AreOwn mine id (active x.state)
       → AllBeginOwn mine id d.events → (calls : Calls view x es z d) → IsFree view id x es z d calls
       → Alone id y (part id es) (own_entries d.entries) (events_of id d.events)
@@ -212,7 +212,7 @@ module _ {D : Type 0} (view : D → DiskView) (mine : ℕ → Bool) (id : List �
       (lemma_projections_join id y y2 (projection_of id e) (part id es) (own_entries first.entries) (own_entries later.entries) (events_of id first.events)
       (events_of id later.events) one (holds_self y2) following)))
 
-module _ {D : Type 0} (view : D → DiskView) (x z : ExecutorView D) where
+module _ {S : Type 0} (view : S → StoreView) (x z : ExecutorView S) where
   -- the law
   pub lemma_each_alone : (es : List Exchange) (d : Effects) (id : List ℕ) → DistinctKeys x.state → (calls : Calls view x es z d) → IsFree view id x es z d calls
       → AllByRecursion IsAnswered (part id es) → AreRising x.state.clock es
@@ -244,7 +244,7 @@ module _ {D : Type 0} (view : D → DiskView) (x z : ExecutorView D) where
       (free_calls view id x z inputs replies d session free) plain rises
 
 -- the law of a batch
-pub commands_alone : {D : Type 0} (now : ℕ) (x : ExecutorView D) (commands : List Command) (replies : List Reply) (es : List Event) (id : List ℕ)
+pub commands_alone : {S : Type 0} (now : ℕ) (x : ExecutorView S) (commands : List Command) (replies : List Reply) (es : List Event) (id : List ℕ)
     → Answered now x.state commands replies es → AllByRecursion IsAnswered (projection_of id (Batch now commands replies)) → x.state.clock ≤ cut now
     → Alone id (isolated_of x id) (projection_of id (Batch now commands replies)) [] (events_of id es)
 commands_alone now x commands replies es id answered plain clock =

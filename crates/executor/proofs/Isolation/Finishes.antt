@@ -6,7 +6,6 @@ use Rattle.ocf_types.specs.declared.reply.TurnEnd.{TurnEnd}
 use Rattle.ocf_types.specs.declared.reply.TurnEnd.TheVariants.{Done}
 use Rattle.ocf_types.specs.Kinds.{Event}
 use Rattle.ocf_types.specs.State.{State, after_all}
-use Rattle.disk_model.specs.Disk.{DiskView}
 use Rattle.child_model.specs.declared.answer.Entry.{Entry}
 use Rattle.exec_ledger.specs.Actives.{active}
 use Rattle.exec_ledger.specs.Lemmas.{same_entries, same_events}
@@ -22,26 +21,29 @@ use Rattle.executor.proofs.Isolation.Changes.{IsolatedAs}
 use Rattle.executor.proofs.Isolation.Requests.{Does, moment_is, seen}
 use Rattle.executor.proofs.Isolation.CommandBatches.{AreOwn, IsEnd, ends_fresh, results_end}
 use Rattle.executor.proofs.Isolation.Turns.{AreApart, clock_after, ends_at, own_polls}
+use Rattle.store_model.specs.StoreView.{StoreView}
 
 -- A turn that begins nothing ended done, at the moment that was handed in.
-pub record FinishDone {D : Type 0} (now : ℕ) (old new : ExecutorView D) (effects : Effects) : Type 0 where
+pub record FinishDone {S : Type 0} (now : ℕ) (old new : ExecutorView S) (effects : Effects) : Type 0 where
   pub polled : List Polled
-  pub each_polled : EachPolled (batch_start old.state (due_in old) old.position (cut now) old.refuses) polled
+  pub tail : ℕ
+  pub each_polled : EachPolled (batch_start old.state (due_in old) tail (cut now) old.refuses) polled
   pub entries : effects.entries ≡ polls (cut now) polled
   pub events : effects.events ≡ results (cut now) polled
   pub state : new.state ≡ after_all old.state effects.events
   pub due : due_in new ≡ due_after_all old.state (due_in old) effects.events
 
-pub finish_done : {D : Type 0} (view : D → DiskView) (now : ℕ) (old new : ExecutorView D) (end : TurnEnd) (takes : FinishesTurn view now old new end)
+pub finish_done : {S : Type 0} (view : S → StoreView) (now : ℕ) (old new : ExecutorView S) (end : TurnEnd) (takes : FinishesTurn view now old new end)
     → old.state.clock ≤ cut now → end ≡ Done → FinishDone now old new takes.turns.effects
 finish_done view now old new end takes clock is_done =
     let turns = takes.turns in
-    let found = λ (at : ℕ). batch_start old.state (due_in old) old.position at old.refuses in
+    let found = λ (at : ℕ). batch_start old.state (due_in old) (view old.store).tail at old.refuses in
     let raw : OnlyResults (found (moment old.state now)) turns.effects new.reported =
     subst (λ (e : TurnEnd). IsFinish new.children.held e (found (moment old.state now)) turns.effects new.reported) is_done turns.does in
     let only : OnlyResults (found (cut now)) turns.effects new.reported =
     subst (λ (at : ℕ). OnlyResults (found at) turns.effects new.reported) (moment_is old.state now clock) raw in record {
       polled = only.0;
+      tail = (view old.store).tail;
       each_polled = only.1;
       entries = same_entries only.2;
       events = same_events only.2;
@@ -49,7 +51,7 @@ finish_done view now old new end takes clock is_done =
       due = turns.due_is;
     }
 
-module _ {D : Type 0} (now : ℕ) (old new : ExecutorView D) (effects : Effects) (finish : FinishDone now old new effects) where
+module _ {S : Type 0} (now : ℕ) (old new : ExecutorView S) (effects : Effects) (finish : FinishDone now old new effects) where
   -- the state after it is that after its events
   pub finish_does : old.state.clock ≤ cut now → Does (cut now) (seen old) (seen new) effects.events
   finish_does clock =

@@ -15,7 +15,6 @@ use Rattle.ocf_types.specs.declared.refusal.Refusal.{Refusal}
 use Rattle.ocf_types.specs.declared.refusal.Refusal.TheVariants as refusal
 use Rattle.ocf_types.specs.declared.reply.ReplyOf.TheVariants.{Refused}
 use Rattle.ocf_types.specs.RegistryLemmas.{none_is, passed}
-use Rattle.disk_model.specs.Disk.{DiskView}
 use Rattle.exec_ledger.specs.BatchStarts.{due_after_all}
 use Rattle.exec_ledger.specs.Commands.{Obeys, Records}
 use Rattle.executor.specs.Projections.{IsPlain, commanded}
@@ -27,13 +26,14 @@ use Rattle.executor.specs.CallLemmas.{same_view}
 use Rattle.executor.specs.ExecutorView.{ExecutorView, due_in, ledger_of}
 use Rattle.executor.specs.Isolated.{Follows, cut}
 use Rattle.executor.proofs.Isolation.Changes.{AreFresh, IsFresh}
+use Rattle.store_model.specs.StoreView.{StoreView}
 
 -- the parts of an executor that the machine of one resource depends on
 pub record Seen : Type 0 where
   pub state : State
   pub due : Due
 
-abbrev pub seen : {D : Type 0} → ExecutorView D → Seen
+abbrev pub seen : {S : Type 0} → ExecutorView S → Seen
 seen x = record { state = x.state; due = due_in x }
 
 -- the same after these events
@@ -130,10 +130,10 @@ pub record Commands (now : ℕ) (c : Command) (old new : Seen) (reply : Reply) (
   pub keep : AllByRecursion (λ e. KeepsRunning e.change) effects.events
   pub follows : IsPlain reply → Follows (event_of old.state now c) reply effects.events
 
-pub commands : {D : Type 0} (view : D → DiskView) (now : ℕ) (c : Command) (old new : ExecutorView D) (reply : Reply) (effects : Effects)
+pub commands : {S : Type 0} (view : S → StoreView) (now : ℕ) (c : Command) (old new : ExecutorView S) (reply : Reply) (effects : Effects)
     → old.state.clock ≤ cut now
     → TakesRequest view now (asked.Command c) old new reply effects → Commands now c (seen old) (seen new) reply effects
-commands {D} view now c old new reply effects clock takes =
+commands {S} view now c old new reply effects clock takes =
     subst (λ (x : Effects). Commands now c (seen old) (seen new) reply x) (sym takes.does) (by (event_of old.state now c) refl takes.serves.0)
   where
     by_reply : (e : Event) → event_of old.state now c ≡ Ok e → Records view e (ledger_of old) (ledger_of new) reply

@@ -20,7 +20,6 @@ use Rattle.ocf_types.specs.declared.reply.TurnEnd.{TurnEnd}
 use Rattle.ocf_types.specs.declared.reply.TurnEnd.TheVariants.{Done}
 use Rattle.ocf_types.specs.RegistryLemmas.{absent_any, distinct_filter, each_filter, keys-at_id}
 use Rattle.ocf_types.specs.Lemmas.{each_append, each_weaken}
-use Rattle.disk_model.specs.Disk.{DiskView}
 use Rattle.child_model.specs.Children.{is_held}
 use Rattle.child_model.specs.declared.answer.Entry.{Entry}
 use Rattle.exec_ledger.specs.Actives.{Active, active, active_of}
@@ -41,6 +40,7 @@ use Rattle.executor.proofs.Isolation.Begins.{isolated_begins}
 use Rattle.executor.proofs.Isolation.Picks.{begins_fresh, chosen, own_of}
 use Rattle.executor.proofs.Isolation.Requests.{Does, moment_is, seen}
 use Rattle.executor.proofs.Isolation.CommandBatches.{AreOwn, IsEnd, begins_kept, ends_fresh, names_it, own_active, polls_kept, refusals_end, refusals_kept, results_end, results_kept, isolated_poll, starts_kept}
+use Rattle.store_model.specs.StoreView.{StoreView}
 
 -- new events after new events
 pub fresh-append : (s : State) (es fs : List Event) → AreFresh s es → AreFresh (after_all s es) fs → AreFresh s (es ++ fs)
@@ -94,28 +94,30 @@ own_polls mine id at y s ps each bytes apart runs resource =
     (isolated_poll id at (running_in y) own (each_filter (λ p. IsPoll p.poll) (λ p. bytes_eq id p.who.id) ps bytes) who))
 
 -- A turn that ended done, at the moment that was handed in.
-pub record TurnDone {D : Type 0} (now : ℕ) (old new : ExecutorView D) (given : Reply) (effects : Effects) : Type 0 where
+pub record TurnDone {S : Type 0} (now : ℕ) (old new : ExecutorView S) (given : Reply) (effects : Effects) : Type 0 where
   pub done : given ≡ reply.Turn Done
-  pub t : TurnAnswers new.children.held Done (batch_start old.state (due_in old) old.position (cut now) old.refuses)
+  pub tail : ℕ
+  pub t : TurnAnswers new.children.held Done (batch_start old.state (due_in old) tail (cut now) old.refuses)
   pub entries : effects.entries ≡ polls (cut now) t.polled ++ starts t.clock t.started
   pub events : effects.events ≡ results (cut now) t.polled ++ (begins (cut now) t.begun ++ refusals (cut now) t.started)
   pub state : new.state ≡ after_all old.state effects.events
   pub due : due_in new ≡ due_after_all old.state (due_in old) effects.events
 
-pub turn_done : {D : Type 0} (view : D → DiskView) (now : ℕ) (old new : ExecutorView D) (given : Reply) (effects : Effects) → old.state.clock ≤ cut now
+pub turn_done : {S : Type 0} (view : S → StoreView) (now : ℕ) (old new : ExecutorView S) (given : Reply) (effects : Effects) → old.state.clock ≤ cut now
     → IsPlain given
     → TakesATurn view now old new given effects → TurnDone now old new given effects
-turn_done {D} view now old new given effects clock plain takes =
+turn_done {S} view now old new given effects clock plain takes =
     let turns = takes.takes.turns in
     let is_done : takes.end ≡ Done = subst IsPlain takes.replies plain in
-    let raw : Whole new.children.held Done (batch_start old.state (due_in old) old.position (moment old.state now) old.refuses) turns.effects new.reported =
+    let raw : Whole new.children.held Done (batch_start old.state (due_in old) (view old.store).tail (moment old.state now) old.refuses) turns.effects new.reported =
     subst (λ (e : TurnEnd). IsTurn new.children.held e
-    (batch_start old.state (due_in old) old.position (moment old.state now) old.refuses) turns.effects new.reported) is_done turns.does in
-    let whole : Whole new.children.held Done (batch_start old.state (due_in old) old.position (cut now) old.refuses) turns.effects new.reported =
-    subst (λ (at : ℕ). Whole new.children.held Done (batch_start old.state (due_in old) old.position at old.refuses) turns.effects new.reported)
+    (batch_start old.state (due_in old) (view old.store).tail (moment old.state now) old.refuses) turns.effects new.reported) is_done turns.does in
+    let whole : Whole new.children.held Done (batch_start old.state (due_in old) (view old.store).tail (cut now) old.refuses) turns.effects new.reported =
+    subst (λ (at : ℕ). Whole new.children.held Done (batch_start old.state (due_in old) (view old.store).tail at old.refuses) turns.effects new.reported)
     (moment_is old.state now clock) raw in
     let batch : effects.events ≡ turns.effects.events = same_events takes.does in record {
       done = takes.replies ∙ ap (λ (e : TurnEnd). reply.Turn e) is_done;
+      tail = (view old.store).tail;
       t = whole.0;
       entries = ap (λ (x : Effects). x.entries) takes.does ∙ same_entries whole.1;
       events =
@@ -125,7 +127,7 @@ turn_done {D} view now old new given effects clock plain takes =
       due = turns.due_is ∙ ap (due_after_all old.state (due_in old)) (sym batch);
     }
 
-module _ {D : Type 0} (now : ℕ) (old new : ExecutorView D) (given : Reply) (effects : Effects) (turn : TurnDone now old new given effects) where
+module _ {S : Type 0} (now : ℕ) (old new : ExecutorView S) (given : Reply) (effects : Effects) (turn : TurnDone now old new given effects) where
   at : ℕ
   at = cut now
 

@@ -8,8 +8,7 @@ use Rattle.ocf_types.specs.declared.command.RequestOf.TheVariants as asked
 use Rattle.ocf_types.specs.declared.reply.TidyEnd.{TidyEnd}
 use Rattle.ocf_types.specs.declared.reply.TurnEnd.{TurnEnd}
 use Rattle.ocf_types.specs.declared.reply.TurnEnd.TheVariants as turn_end
-use Rattle.disk_model.specs.Disk.{DiskView}
-use Rattle.exec_state.specs.Store.{due_of}
+use Rattle.exec_state.specs.StateValue.{due_of}
 use Rattle.exec_ledger.specs.LedgerView.{LedgerView}
 use Rattle.exec_ledger.specs.Lemmas.{same_events}
 use Rattle.exec_ledger.specs.Pieces.{Effects, no_effects, batch_effects}
@@ -29,6 +28,7 @@ use Rattle.executor.proofs.Isolation.Changes.{AreFresh, IsolatedAs}
 use Rattle.executor.proofs.Isolation.Finishes.{finish_does, finish_done}
 use Rattle.executor.proofs.Isolation.Requests.{AllKeep, Does, Seen, commands, rested, seen, seen_after}
 use Rattle.executor.proofs.Isolation.Turns.{AllBeginOwn, turn_does, turn_done}
+use Rattle.store_model.specs.StoreView.{StoreView}
 
 -- the replies of a closed executor are not plain
 pub closed_plain : (i : Input) (r : Reply) → r ≡ closed_reply i → IsPlain r → ⊥
@@ -46,21 +46,21 @@ own_append mine id [] fs one two = two
 own_append mine id (e ∷ es) fs one two = (one.0, own_append mine id es fs one.1 two)
 
 -- each resource by itself, as it is in an executor
-pub here : {D : Type 0} (x : ExecutorView D) (id : List ℕ) → IsolatedAs (isolated_of x id) x.state (due_in x) id
+pub here : {S : Type 0} (x : ExecutorView S) (id : List ℕ) → IsolatedAs (isolated_of x id) x.state (due_in x) id
 here x id = record { resource = refl; due = λ call there. refl; calls = le_refl x.state.next_call; runs = le_refl x.state.next_run }
 
 -- The effects of a call on one resource: the state and the due moments are those after its events, and after events of others that a
 -- disk fault left pending as it closed the executor.
-pub record Went {D : Type 0} (mine : ℕ → Bool) (id : List ℕ) (at : ℕ) (old new : ExecutorView D) (es : List Event) : Type 0 where
+pub record Went {S : Type 0} (mine : ℕ → Bool) (id : List ℕ) (at : ℕ) (old new : ExecutorView S) (es : List Event) : Type 0 where
   pub more : List Event
   pub does : Does at (seen old) (seen new) (es ++ more)
   pub others : events_of id more ≡ []
   pub begins : AllBeginOwn mine id more
   pub whole : new.is_open ≡ true → more ≡ []
 
-module _ {D : Type 0} (view : D → DiskView) (mine : ℕ → Bool) (id : List ℕ) where
+module _ {S : Type 0} (view : S → StoreView) (mine : ℕ → Bool) (id : List ℕ) where
   -- all events are recorded, or there are none
-  went_so : (at : ℕ) (old new : ExecutorView D) (es : List Event) → Does at (seen old) (seen new) es → Went mine id at old new es
+  went_so : (at : ℕ) (old new : ExecutorView S) (es : List Event) → Does at (seen old) (seen new) es → Went mine id at old new es
   went_so at old new es does = record {
     more = [];
     does = subst (λ (l : List Event). Does at (seen old) (seen new) l) (sym (append-nil es)) does;
@@ -69,26 +69,26 @@ module _ {D : Type 0} (view : D → DiskView) (mine : ℕ → Bool) (id : List �
     whole = λ _. refl;
   }
 
-  went_nowhere : (at : ℕ) (old new : ExecutorView D) (d : Effects) → old.state.clock ≤ at → seen new ≡ seen old → d ≡ no_effects
+  went_nowhere : (at : ℕ) (old new : ExecutorView S) (d : Effects) → old.state.clock ≤ at → seen new ≡ seen old → d ≡ no_effects
       → Went mine id at old new d.events
   went_nowhere at old new d clock same none =
       subst (λ (x : Effects). Went mine id at old new x.events) (sym none) (went_so at old new [] (rested at (seen old) (seen new) clock same))
 
   -- a request, and a turn
-  request_went : (b : Bool) (now : ℕ) (r : Reply) (old new : ExecutorView D) (d : Effects) (request : Request) → old.state.clock ≤ cut now
+  request_went : (b : Bool) (now : ℕ) (r : Reply) (old new : ExecutorView S) (d : Effects) (request : Request) → old.state.clock ≤ cut now
       → TakesWhile b view (input.Request now request) old new r d → Went mine id (cut now) old new d.events
   request_went true now r old new d (asked.Command c) clock takes = went_so (cut now) old new d.events (commands view now c old new r d clock takes).does
   request_went true now r old new d (asked.Question q) clock takes = went_nowhere (cut now) old new d clock (ap seen takes.serves.1) takes.does
   request_went false now r old new d request clock takes = went_nowhere (cut now) old new d clock (ap seen takes.1) takes.2
 
-  turn_went : (b : Bool) (now : ℕ) (r : Reply) (old new : ExecutorView D) (d : Effects) → old.state.clock ≤ cut now → IsPlain r
+  turn_went : (b : Bool) (now : ℕ) (r : Reply) (old new : ExecutorView S) (d : Effects) → old.state.clock ≤ cut now → IsPlain r
       → TakesWhile b view (input.Turn now) old new r d → Went mine id (cut now) old new d.events
   turn_went true now r old new d clock plain takes =
       went_so (cut now) old new d.events (turn_does now old new r d (turn_done view now old new r d clock plain takes) clock)
   turn_went false now r old new d clock plain takes = absurd (closed_plain (input.Turn now) r takes.0 plain)
 
   -- a turn that begins nothing
-  finish_went : (b : Bool) (now : ℕ) (end : TurnEnd) (old new : ExecutorView D) (d : Effects) → old.state.clock ≤ cut now → end ≡ turn_end.Done
+  finish_went : (b : Bool) (now : ℕ) (end : TurnEnd) (old new : ExecutorView S) (d : Effects) → old.state.clock ≤ cut now → end ≡ turn_end.Done
       → FinishedWhile b view now old new end d → Went mine id (cut now) old new d.events
   finish_went true now end old new d clock done (takes, did) =
       let finish = finish_done view now old new end takes clock done in
@@ -96,15 +96,15 @@ module _ {D : Type 0} (view : D → DiskView) (mine : ℕ → Bool) (id : List �
       (went_so (cut now) old new takes.turns.effects.events (finish_does now old new takes.turns.effects finish clock))
   finish_went false now end old new d clock done takes = absurd (let bad : turn_end.Closed ≡ turn_end.Done = sym takes.0 ∙ done in cc)
 
-  tidy_went : (b : Bool) (at : ℕ) (end : TidyEnd) (old new : ExecutorView D) (d : Effects) → old.state.clock ≤ at → d ≡ no_effects
+  tidy_went : (b : Bool) (at : ℕ) (end : TidyEnd) (old new : ExecutorView S) (d : Effects) → old.state.clock ≤ at → d ≡ no_effects
       → TidiesWhile b view old new end → Went mine id at old new d.events
   tidy_went true at end old new d clock none (tidies, beside) =
-      let seen_in : LedgerView D → Seen = λ h. record { state = h.state; due = due_of h.monitors } in
+      let seen_in : LedgerView S → Seen = λ h. record { state = h.state; due = due_of h.monitors } in
       went_nowhere at old new d clock (ap seen_in tidies.same) none
   tidy_went false at end old new d clock none rests = went_nowhere at old new d clock (ap seen rests.1) none
 
   -- a batch of commands
-  batch_went : (now : ℕ) (cs : List Command) (rs : List Reply) (old new : ExecutorView D) (d : Effects) → old.state.clock ≤ cut now
+  batch_went : (now : ℕ) (cs : List Command) (rs : List Reply) (old new : ExecutorView S) (d : Effects) → old.state.clock ≤ cut now
       → AllByRecursion IsAnswered (projection_of id (Batch now cs rs)) → TakesBatch view now cs old new rs d → Went mine id (cut now) old new d.events
   batch_went now cs rs old new d clock plain batch = by new.is_open refl batch.takes.reported (same_events batch.does)
     where
@@ -115,7 +115,7 @@ module _ {D : Type 0} (view : D → DiskView) (mine : ℕ → Bool) (id : List �
       did = batch_does now id (seen old) cs batch.takes.meant es clock batch.takes.answered
 
       state : new.state ≡ after_all old.state es
-      state = ap (λ (x : LedgerView D). x.state) batch.takes.records.went.same
+      state = ap (λ (x : LedgerView S). x.state) batch.takes.records.went.same
 
       done : Does (cut now) (seen old) (seen new) es
       done = record {
@@ -139,7 +139,7 @@ module _ {D : Type 0} (view : D → DiskView) (mine : ℕ → Bool) (id : List �
           }
 
   -- any call
-  pub call_went : (at : ℕ) (e : Exchange) (old new : ExecutorView D) (d : Effects) → old.state.clock ≤ moment_in at e
+  pub call_went : (at : ℕ) (e : Exchange) (old new : ExecutorView S) (d : Effects) → old.state.clock ≤ moment_in at e
       → AllByRecursion IsAnswered (projection_of id e) → Called view e old new d → Went mine id (moment_in at e) old new d.events
   call_went at (Took (input.Request now request) r) old new d clock plain does = request_went old.is_open now r old new d request clock does
   call_went at (Took (input.Turn now) r) old new d clock plain does = turn_went old.is_open now r old new d clock plain.0 does

@@ -14,7 +14,6 @@ use Rattle.ocf_types.specs.declared.reply.ReplyOf.TheVariants.{Refused}
 use Rattle.ocf_types.specs.declared.reply.TidyEnd.{TidyEnd}
 use Rattle.ocf_types.specs.declared.reply.TurnEnd.{TurnEnd}
 use Rattle.ocf_types.specs.declared.reply.TidyEnd.TheVariants as tidy
-use Rattle.disk_model.specs.Disk.{DiskView}
 use Rattle.child_model.specs.declared.answer.Entry.{Entry}
 use Rattle.exec_turn.specs.Turn.{IsFinish, IsTurn, TurnKind}
 use Rattle.exec_ledger.specs.Commands.{Obeys, Records}
@@ -37,9 +36,10 @@ use Rattle.executor.specs.TurnCalls.{MakesTurn}
 use Rattle.executor.specs.declared.session.InputOf.TheVariants as input
 use Rattle.executor.proofs.Incarnations.Calls.{does_nothing}
 use Rattle.executor.proofs.Memory.{memory_reported}
+use Rattle.store_model.specs.StoreView.{StoreView}
 
 -- an executor as the machine
-abbrev pub machine_of : {D : Type 0} → ExecutorView D → Machine
+abbrev pub machine_of : {S : Type 0} → ExecutorView S → Machine
 machine_of x = record { is_open = x.is_open; state = x.state; due = due_in x; refuses = x.refuses }
 
 pub same_machine : (m n : Machine) → m.is_open ≡ n.is_open → m.state ≡ n.state → m.due ≡ n.due → m.refuses ≡ n.refuses → m ≡ n
@@ -79,16 +79,16 @@ quiet_command : (v : Result Event Refusal) (reply : Reply) → (command_effects 
 quiet_command (Err refusal) reply = refl
 quiet_command (Ok e) reply = refl
 
-module _ {D : Type 0} (view : D → DiskView) where
-  still : (x y : ExecutorView D) (d : Effects) → y ≡ x → d ≡ no_effects → GoesOn [] (machine_of x) (machine_of y) d
+module _ {S : Type 0} (view : S → StoreView) where
+  still : (x y : ExecutorView S) (d : Effects) → y ≡ x → d ≡ no_effects → GoesOn [] (machine_of x) (machine_of y) d
   still x y d same none = (ap machine_of same, none)
 
   -- a label with the device's failures, and the position of the journal's next record
-  abbrev step_of : ExecutorView D → ExecutorView D → Label
+  abbrev step_of : ExecutorView S → ExecutorView S → Label
   step_of x y = label_in view true Cleared x y no_effects
 
   -- a command
-  records : (now : ℕ) (c : Command) (x y : ExecutorView D) (reply : Reply) (e : Event) → event_of x.state now c ≡ Ok e
+  records : (now : ℕ) (c : Command) (x y : ExecutorView S) (reply : Reply) (e : Event) → event_of x.state now c ≡ Ok e
       → Records view e (ledger_of x) (ledger_of y) reply → OnlyLedgerChanges x y → x.is_open ≡ true → (y.is_open ≡ false → reply ≡ Refused Disk) → (reply ≡ Refused Disk → y.is_open ≡ false)
       → TakesOne (step_of x y) now c reply (machine_of x) (machine_of y) (command_effects (Ok e) reply)
   records now c x y reply e is r beside was closes closed = by r.reported
@@ -138,7 +138,7 @@ module _ {D : Type 0} (view : D → DiskView) where
             ),
           )
 
-  one_command : (now : ℕ) (c : Command) (x y : ExecutorView D) (reply : Reply) (d : Effects) → TakesRequest view now (asked.Command c) x y reply d
+  one_command : (now : ℕ) (c : Command) (x y : ExecutorView S) (reply : Reply) (d : Effects) → TakesRequest view now (asked.Command c) x y reply d
       → x.is_open ≡ true → TakesOne (step_of x y) now c reply (machine_of x) (machine_of y) d
   one_command now c x y reply d takes was =
       subst (λ (k : Effects). TakesOne (step_of x y) now c reply (machine_of x) (machine_of y) k) (sym takes.does)
@@ -151,7 +151,7 @@ module _ {D : Type 0} (view : D → DiskView) where
       by (Ok e) is serves = records now c x y reply e is serves takes.serves.1 was takes.closes.0 takes.closes.1
 
   -- a batch of commands
-  batch_so : (o : Bool) (now : ℕ) (cs : List Command) (rs : List Reply) (x y : ExecutorView D) (d : Effects) (t : TakesBatch view now cs x y rs d)
+  batch_so : (o : Bool) (now : ℕ) (cs : List Command) (rs : List Reply) (x y : ExecutorView S) (d : Effects) (t : TakesBatch view now cs x y rs d)
       → y.is_open ≡ o → TakesAll (step_of x y) now cs (batch_replies o t.takes.meant) (machine_of x) (machine_of y) (batch_effects o t.takes.events)
   batch_so true now cs rs x y d t is = (
     t.takes.meant,
@@ -160,8 +160,8 @@ module _ {D : Type 0} (view : D → DiskView) where
     inl (
       refl,
       (
-        same_machine (machine_of y) _ (is ∙ sym t.takes.was_open) (ap (λ (h : LedgerView D). h.state) t.takes.records.went.same)
-            t.takes.records.went.due (ap (λ (h : LedgerView D). h.refuses) t.takes.records.went.same),
+        same_machine (machine_of y) _ (is ∙ sym t.takes.was_open) (ap (λ (h : LedgerView S). h.state) t.takes.records.went.same)
+            t.takes.records.went.due (ap (λ (h : LedgerView S). h.refuses) t.takes.records.went.same),
         refl,
       ),
     ),
@@ -171,13 +171,13 @@ module _ {D : Type 0} (view : D → DiskView) where
     t.takes.events,
     t.takes.answered,
     inr (
-      (λ none. false≢true (sym is ∙ ap (λ (h : LedgerView D). h.is_open) (t.takes.records.unchanged none) ∙ t.takes.was_open)),
+      (λ none. false≢true (sym is ∙ ap (λ (h : LedgerView S). h.is_open) (t.takes.records.unchanged none) ∙ t.takes.was_open)),
       refl,
       (t.takes.records.cause is, (is, refl)),
     ),
   )
 
-  one_batch : (now : ℕ) (cs : List Command) (rs : List Reply) (x y : ExecutorView D) (d : Effects) → TakesBatch view now cs x y rs d
+  one_batch : (now : ℕ) (cs : List Command) (rs : List Reply) (x y : ExecutorView S) (d : Effects) → TakesBatch view now cs x y rs d
       → TakesAll (step_of x y) now cs rs (machine_of x) (machine_of y) d
   one_batch now cs rs x y d t =
       subst (λ (l : List Reply). TakesAll (step_of x y) now cs l (machine_of x) (machine_of y) d) (sym t.takes.reported)
@@ -185,9 +185,9 @@ module _ {D : Type 0} (view : D → DiskView) where
       (batch_so y.is_open now cs rs x y d t refl))
 
   -- a turn of a kind, by its label
-  turn_so : (kind : TurnKind) (each now : ℕ) (x y : ExecutorView D) (end : TurnEnd) (e : Exchange) (t : MakesTurn kind each view now x y end)
+  turn_so : (kind : TurnKind) (each now : ℕ) (x y : ExecutorView S) (end : TurnEnd) (e : Exchange) (t : MakesTurn kind each view now x y end)
       → MovesTurn kind each end (moment x.state now)
-      (record { exchange = e; answers = t.turns.effects.entries; notices = y.reported; held = y.children.held; room = x.children.room; position = x.position; faults = ((view x.disk).failures, (view y.disk).failures) })
+      (record { exchange = e; answers = t.turns.effects.entries; notices = y.reported; held = y.children.held; room = x.children.room; tail = (view x.store).tail; epoch = (view x.store).epoch; faults = ((view x.store).failures, (view y.store).failures) })
       (machine_of x) (machine_of y) t.turns.effects
   turn_so kind each now x y end e t = record {
     turns = t.turns.does;
@@ -198,13 +198,13 @@ module _ {D : Type 0} (view : D → DiskView) where
     cause = t.turns.cause;
   }
 
-  one_finish : (now : ℕ) (x y : ExecutorView D) (end : TurnEnd) (d : Effects) → FinishedWhile true view now x y end d
+  one_finish : (now : ℕ) (x y : ExecutorView S) (end : TurnEnd) (d : Effects) → FinishedWhile true view now x y end d
       → MovesOpen (Finished now end) (label_in view true (Finished now end) x y d) (machine_of x) (machine_of y) d
   one_finish now x y end d (takes, does) =
       subst (λ (k : Effects). MovesTurn IsFinish 2 end (moment x.state now) (label_in view true (Finished now end) x y k) (machine_of x) (machine_of y) k)
       (sym does) (turn_so IsFinish 2 now x y end (Finished now end) takes)
 
-  one_turn : (now : ℕ) (x y : ExecutorView D) (reply : Reply) (d : Effects) → TakesATurn view now x y reply d
+  one_turn : (now : ℕ) (x y : ExecutorView S) (reply : Reply) (d : Effects) → TakesATurn view now x y reply d
       → MovesOpen (Took (input.Turn now) reply) (label_in view true (Took (input.Turn now) reply) x y d) (machine_of x) (machine_of y) d
   one_turn now x y reply d takes = (
     takes.end,
@@ -215,15 +215,15 @@ module _ {D : Type 0} (view : D → DiskView) where
   )
 
   -- a tidy
-  tidied_open : (x y : ExecutorView D) (d : Effects) (end : TidyEnd) → (end ≡ tidy.Disk → ⊥) → Tidies view (ledger_of x) (ledger_of y) end
+  tidied_open : (x y : ExecutorView S) (d : Effects) (end : TidyEnd) → (end ≡ tidy.Disk → ⊥) → Tidies view (ledger_of x) (ledger_of y) end
       → d ≡ no_effects → x.is_open ≡ true → GoesOn [] (machine_of x) (machine_of y) d
   tidied_open x y d end other t none was = (
-    same_machine (machine_of y) _ (is_true y.is_open (λ shut. other (t.closes.0 shut)) ∙ sym was) (ap (λ (h : LedgerView D). h.state) t.same)
-        (ap held_due t.same) (ap (λ (h : LedgerView D). h.refuses) t.same),
+    same_machine (machine_of y) _ (is_true y.is_open (λ shut. other (t.closes.0 shut)) ∙ sym was) (ap (λ (h : LedgerView S). h.state) t.same)
+        (ap held_due t.same) (ap (λ (h : LedgerView S). h.refuses) t.same),
     none,
   )
 
-  one_tidy : (end : TidyEnd) (x y : ExecutorView D) (d : Effects) → Tidies view (ledger_of x) (ledger_of y) end → d ≡ no_effects → x.is_open ≡ true
+  one_tidy : (end : TidyEnd) (x y : ExecutorView S) (d : Effects) → Tidies view (ledger_of x) (ledger_of y) end → d ≡ no_effects → x.is_open ≡ true
       → TidyEnds end (label_in view true (Tidied end) x y d) (machine_of x) (machine_of y) d
   one_tidy tidy.Done x y d t none was = tidied_open x y d tidy.Done (λ is. cc) t none was
   one_tidy tidy.EpochSpent x y d t none was = (t.spent.0 refl, tidied_open x y d tidy.EpochSpent (λ is. cc) t none was)
@@ -231,7 +231,7 @@ module _ {D : Type 0} (view : D → DiskView) where
   one_tidy tidy.Closed x y d t none was = t.not_closed refl
 
   -- an open executor
-  moves_open : (e : Exchange) (x y : ExecutorView D) (d : Effects) → x.is_open ≡ true → Does view e x y d
+  moves_open : (e : Exchange) (x y : ExecutorView S) (d : Effects) → x.is_open ≡ true → Does view e x y d
       → MovesOpen e (label_in view true e x y d) (machine_of x) (machine_of y) d
   moves_open (Took (input.Request now (asked.Question q)) reply) x y d was does =
       let t : TakesRequest view now (asked.Question q) x y reply d =
@@ -251,9 +251,9 @@ module _ {D : Type 0} (view : D → DiskView) where
       ((same_entries does.1, refl), one_tidy end x y d t.0 does.1 was)
   moves_open Cleared x y d was does = ((same_entries does.1, refl), (ap machine_of does.0, does.1))
   moves_open Abandoned x y d was does =
-      ((same_entries does.1, refl), (ap (λ (z : ExecutorView D). z.is_open) does.0.2, does.1))
+      ((same_entries does.1, refl), (ap (λ (z : ExecutorView S). z.is_open) does.0.2, does.1))
 
-  moves : (o : Bool) (e : Exchange) (x y : ExecutorView D) (d : Effects) → x.is_open ≡ o → Does view e x y d
+  moves : (o : Bool) (e : Exchange) (x y : ExecutorView S) (d : Effects) → x.is_open ≡ o → Does view e x y d
       → MovesWhile o (label_in view o e x y d) (machine_of x) (machine_of y) d
   moves true e x y d was does = (moves_open e x y d was does, memory_reported view e x y d does)
   moves false e x y d was does =
@@ -261,14 +261,14 @@ module _ {D : Type 0} (view : D → DiskView) where
       ((same_entries none.1.nothing, refl), none.0, (none.1.is_closed, none.1.nothing))
 
   -- calls, one after the other
-  pub moves_all : (es : List Exchange) (x y : ExecutorView D) (d : Effects) (calls : Calls view x es y d)
+  pub moves_all : (es : List Exchange) (x y : ExecutorView S) (d : Effects) (calls : Calls view x es y d)
       → MovesAll (labels view x es y d calls) (machine_of x) (machine_of y) d
   moves_all [] x y d calls = (ap machine_of calls.0, calls.1)
   moves_all (e ∷ es) x y d (mid, first, later, does, rest, is) =
       (machine_of mid, first, later, moves x.is_open e x mid first refl does, moves_all es mid y later rest, is)
 
   -- the answers in their labels are those that their children gave
-  pub labels_answers : (es : List Exchange) (x y : ExecutorView D) (d : Effects) (calls : Calls view x es y d)
+  pub labels_answers : (es : List Exchange) (x y : ExecutorView S) (d : Effects) (calls : Calls view x es y d)
       → flat_map (λ l. l.answers) (labels view x es y d calls) ≡ d.entries
   labels_answers [] x y d calls = sym (same_entries calls.1)
   labels_answers (e ∷ es) x y d (mid, first, later, does, rest, is) =

@@ -185,11 +185,11 @@ open_recorded (Took (input.Request now (asked.Question q)) r) l m n did h = unno
 open_recorded (Took (input.Request now (asked.Command c)) r) l m n did h =
     unnoticed m.state (acknowledgements now (c ∷ []) (r ∷ [])) l.notices did.events h.0.1 (one_taken l now c r m n did h.1)
 open_recorded (Took (input.Turn now) r) l m n did (end, replies, t) =
-    turn_recorded l.held end (batch_start m.state m.due l.position (moment m.state now) m.refuses) did l.notices t.turns
+    turn_recorded l.held end (batch_start m.state m.due l.tail (moment m.state now) m.refuses) did l.notices t.turns
 open_recorded (Batch now cs rs) l m n did h =
     unnoticed m.state (acknowledgements now cs rs) l.notices did.events h.0.1 (takes_recorded l now cs rs m n did h.1)
 open_recorded (Finished now end) l m n did t =
-    finish_recorded l.held end (batch_start m.state m.due l.position (moment m.state now) m.refuses) did l.notices t.turns
+    finish_recorded l.held end (batch_start m.state m.due l.tail (moment m.state now) m.refuses) did l.notices t.turns
 open_recorded _ l m n did h = unnoticed m.state [] l.notices did.events h.0.1 tt
 
 closed_claims : (e : Exchange) (ns : List Notice) → AnswersClosed e → ns ≡ [] → acknowledged_in e ++ map Ended ns ≡ []

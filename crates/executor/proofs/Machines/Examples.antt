@@ -17,7 +17,6 @@ use Rattle.child_model.specs.Children.{is_held, start_answer}
 use Rattle.child_model.specs.declared.answer.Entry.{Entry}
 use Rattle.child_model.specs.declared.answer.Poll.{Poll}
 use Rattle.child_model.specs.declared.answer.Poll.TheVariants as poll
-use Rattle.exec_journal.specs.Position.{first_position}
 use Rattle.exec_ledger.specs.Actives.{Active, active}
 use Rattle.exec_ledger.specs.BatchStarts.{BatchStart, batch_start, following}
 use Rattle.exec_turn.specs.Picks.{ArePicks, begin_of, begins as begins_at, begun_in}
@@ -62,7 +61,7 @@ no_polls at (p ∷ ps) is = absurd (by p.poll (none_before (entries_of at p.who.
 -- a turn at 10, by its end, its answers, the book's capacity and its notices
 abbrev pub turned : TurnEnd → List Entry → ℕ → List Notice → Label
 turned end answers room notices =
-    record { exchange = Took (input.Turn 10) (reply.Turn end); answers = answers; notices = notices; held = []; room = room; position = first_position; faults = (0, 0) }
+    record { exchange = Took (input.Turn 10) (reply.Turn end); answers = answers; notices = notices; held = []; room = room; tail = 44; epoch = 1; faults = (0, 0) }
 
 -- an open machine with one action in its queue, and none running
 abbrev waiting : Machine
@@ -74,7 +73,7 @@ done_so : (answers : List Entry) (room : ℕ) (notices : List Notice) (m n : Mac
     → (x : BatchStart) × (x.state ≡ m.state) × (answers ≡ did.entries) × Whole [] turn_end.Done x did notices
 done_so answers room notices m n did ((end, is, t), memory) =
     let same : end ≡ turn_end.Done = (let reported : reply.Turn turn_end.Done ≡ reply.Turn end = is in cc) in
-    let x : BatchStart = batch_start m.state m.due first_position (moment m.state 10) m.refuses in
+    let x : BatchStart = batch_start m.state m.due 44 (moment m.state 10) m.refuses in
     (x, refl, t.answers, subst (λ (e : TurnEnd). IsTurn [] e x did notices) same t.turns)
 
 -- a notice that no answer gives
@@ -120,7 +119,7 @@ held_begun : (e : Entry) (room : ℕ) (notices : List Notice) (n : Machine) (did
     → MovesWhile true (record (turned turn_end.Done (e ∷ []) room notices) { held = r1 ∷ [] }) waiting n did → ⊥
 held_begun e room notices n did ((end, is, t), memory) =
     let same : end ≡ turn_end.Done = (let reported : reply.Turn turn_end.Done ≡ reply.Turn end = is in cc) in
-    let x : BatchStart = batch_start waiting.state waiting.due first_position (moment waiting.state 10) waiting.refuses in
+    let x : BatchStart = batch_start waiting.state waiting.due 44 (moment waiting.state 10) waiting.refuses in
     let whole : Whole (r1 ∷ []) turn_end.Done x did notices = subst (λ (k : TurnEnd). IsTurn (r1 ∷ []) k x did notices) same t.turns in
     let no_ps = none_mapped (λ (p : Polled). p.who) whole.0.polled whole.0.each_polled.each in
     let picks = subst (λ (ps : List Polled). ArePicks (r1 ∷ []) (following x (results x.at ps)).due x.at (following x (results x.at ps)).state.next_run

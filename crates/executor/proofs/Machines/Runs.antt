@@ -254,11 +254,11 @@ moves_open (Took (input.Request now (asked.Command c)) reply) l m n did opened (
 moves_open (Took (input.Request now (asked.Command c)) reply) l m n did opened (quiet, inr full) = goes_on m n [] did opened full.4 (λ fine. tt)
 moves_open (Took (input.Turn now) reply) l m n did opened (end, replies, t) =
     turn_went IsTurn 3 end (moment m.state now) l m n did opened t
-    (turn_follows l.held end (batch_start m.state m.due l.position (moment m.state now) m.refuses) did l.notices t.turns)
+    (turn_follows l.held end (batch_start m.state m.due l.tail (moment m.state now) m.refuses) did l.notices t.turns)
 moves_open (Batch now cs rs) l m n did opened takes = takes_all l m n now cs rs did opened takes.1
 moves_open (Finished now end) l m n did opened t =
     turn_went IsFinish 2 end (moment m.state now) l m n did opened t
-    (finish_follows l.held end (batch_start m.state m.due l.position (moment m.state now) m.refuses) did l.notices t.turns)
+    (finish_follows l.held end (batch_start m.state m.due l.tail (moment m.state now) m.refuses) did l.notices t.turns)
 moves_open (Tidied end) l m n did opened (quiet, ends) = tidied end l m n did opened ends
 moves_open Cleared l m n did opened crash = goes_on m n [] did opened crash.1 (λ fine. tt)
 moves_open Abandoned l m n did opened fails = went_wrong m n [] [] did opened fails.1.0 fails.1.1 (λ fine. tt)

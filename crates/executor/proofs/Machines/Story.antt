@@ -1,4 +1,4 @@
--- A behaviour of the machine, from a state with one resource, at any position of a journal that has capacity for one begin: its start
+-- A behaviour of the machine, from a state with one resource, at any offset of a store that has space for one begin: its start
 -- action is asked, a turn begins and spawns it, the machine crashes in that turn, and the next opening reports the action as interrupted.
 use Rattle.std.proofs.Common.{◌≡◌, inl, ℕ, ◌<◌, true, false, List, [], ◌∷◌, length, Some, Ok, refl, ap, subst, arith}
 use Rattle.ocf_types.specs.Kinds.{Event}
@@ -12,8 +12,6 @@ use Rattle.ocf_types.specs.declared.reply.ReplyOf.TheVariants as reply
 use Rattle.ocf_types.specs.declared.reply.TurnEnd.TheVariants as turn_end
 use Rattle.child_model.specs.Children.{start_answer}
 use Rattle.child_model.specs.declared.answer.Entry.{Entry}
-use Rattle.exec_journal.specs.Position.{Position}
-use Rattle.exec_journal.specs.Batches.{IsTooLong}
 use Rattle.exec_ledger.specs.Actives.{Active}
 use Rattle.exec_ledger.specs.Lemmas.{asked_one}
 use Rattle.exec_ledger.specs.Pieces.{Effects, HasBegin, no_effects}
@@ -27,6 +25,7 @@ use Rattle.executor.specs.Interruptions.{interrupted}
 use Rattle.executor.specs.Behaves.{HasBegins, Remains, Behaves, SeenUptime, Serving, opened_on}
 use Rattle.executor.specs.declared.session.InputOf.TheVariants as input
 use Rattle.executor.proofs.History.Examples.{asked as exec_event, begins, boot, r1, registered}
+use Rattle.store_model.specs.Batches.{IsTooLong}
 
 -- the state with the resource
 abbrev start : State
@@ -56,7 +55,7 @@ running = record { call = 1; run = 1; task = task Start plain; timeout = 20000; 
 abbrev begun : Active
 begun = record { id = r1; running = running }
 
-module _ (p : Position) (fits : IsTooLong p.tail (begins_at 10 (begun ∷ [])) → ⊥) where
+module _ (tail epoch : ℕ) (fits : IsTooLong tail (begins_at 10 (begun ∷ [])) → ⊥) where
   -- the calls
   abbrev asks : Label
   asks = record {
@@ -65,7 +64,8 @@ module _ (p : Position) (fits : IsTooLong p.tail (begins_at 10 (begun ∷ [])) �
     notices = [];
     held = [];
     room = 256;
-    position = p;
+    tail = tail;
+    epoch = epoch;
     faults = (0, 0);
   }
 
@@ -76,7 +76,8 @@ module _ (p : Position) (fits : IsTooLong p.tail (begins_at 10 (begun ∷ [])) �
     notices = [];
     held = [];
     room = 256;
-    position = p;
+    tail = tail;
+    epoch = epoch;
     faults = (0, 0);
   }
 
@@ -94,7 +95,7 @@ module _ (p : Position) (fits : IsTooLong p.tail (begins_at 10 (begun ∷ [])) �
     λ bad. absurd (cc),
   )
 
-  abbrev reported : TurnAnswers [] turn_end.Done (batch_start with_action.state with_action.due p 10 false)
+  abbrev reported : TurnAnswers [] turn_end.Done (batch_start with_action.state with_action.due tail 10 false)
   reported = record {
     polled = [];
     begun = begun ∷ [];

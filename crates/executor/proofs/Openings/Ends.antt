@@ -1,73 +1,74 @@
--- An opening of the journal, and then its boot.
-use Rattle.std.proofs.Common.{◌≡◌, ◌<◌, ◌≤◌, inl, inr, ℕ, Bool, true, false, true≢false, cond, List, Ok, Err, refl, sym, ◌∙◌, ap, subst, arith}
-use Rattle.ocf_types.specs.Answer.{moment}
-use Rattle.ocf_types.specs.Boot.{any_busy, boot, boot_at}
-use Rattle.ocf_types.specs.Due.{due_at}
-use Rattle.ocf_types.specs.Lemmas.{quiet}
-use Rattle.ocf_types.specs.State.{State, after}
+-- An opening over a pair of files: that of its journal, and then that of the executor over it.
+use Rattle.std.proofs.Common.{◌≡◌, ◌⊎◌, ◌<◌, ◌≤◌, inl, inr, ⊎_elim, ℕ, Bool, true, false, true≢false, List, refl, sym, ◌∙◌, ap, subst, arith}
+use Rattle.std.proofs.lemmas.Bool.{cases_lt}
+use Rattle.ocf_types.specs.Boot.{any_busy}
+use Rattle.ocf_types.specs.State.{State}
 use Rattle.ocf_types.specs.declared.reply.Notice.{Notice}
-use Rattle.child_model.specs.Children.{Admits, AllEnded, ChildrenView}
 use Rattle.disk_model.specs.Image.{Image}
-use Rattle.disk_model.specs.Lemmas.{joined, passed_on, supposed, weakened}
-use Rattle.disk_model.specs.Runs.{CrashesTo}
-use Rattle.disk_model.specs.Disk.{Passed, Unwritten, DiskView}
-use Rattle.gated_slots.specs.declared.append.SlotFault.{SlotFault}
-use Rattle.gated_slots.specs.declared.append.SlotFault.TheVariants as slot
-use Rattle.exec_journal.specs.Found.{FoundAs, IsToWrite, JournalAt}
-use Rattle.exec_journal.specs.Opening.{FailsToOpen, Opens, OpensAt, OpensLike}
-use Rattle.exec_journal.specs.Position.{Position}
-use Rattle.exec_journal.specs.Reserve.{AllHaveReserve, HasReserve, PairHasReserve}
-use Rattle.exec_journal.specs.InSync.{IsInSync}
+use Rattle.disk_model.specs.Lemmas.{passed_on, stayed, supposed}
+use Rattle.disk_model.specs.Disk.{Lawful, Passed, Unwritten, DiskView}
 use Rattle.two_parts.specs.declared.damage.Damage.{Damage}
+use Rattle.child_model.specs.Children.{ChildrenView}
+use Rattle.exec_journal.specs.Found.{FoundAs, IsToWrite, JournalAt}
+use Rattle.exec_journal.specs.Journal.{JournalView}
+use Rattle.exec_journal.specs.Opening.{FailsToOpen, Opens, OpensAt, OpensLike}
+use Rattle.exec_journal.specs.Position.{Position, first_position}
+use Rattle.exec_journal.specs.StoreViews.{store_view}
+use Rattle.store_model.specs.Calls.{OpensStore}
 use Rattle.exec_journal.specs.declared.fault.JournalFault.{JournalFault}
 use Rattle.exec_journal.specs.declared.fault.JournalFault.TheVariants as journal
+use Rattle.exec_journal.proofs.StoreLaws.{lawful_store, opens_crash}
+use Rattle.store_model.specs.Crashes.{CrashesTo}
+use Rattle.store_model.specs.Lemmas.{weakened}
+use Rattle.exec_ledger.specs.Boots.{BootsFrom, LacksBoot}
+use Rattle.executor.specs.ExecutorView.{ExecutorView}
+use Rattle.executor.specs.OnStores.{NotOpenedOn, OpensFrom, StartsLike}
+use Rattle.executor.specs.Openings.{IsForeign, IsQuietPair, NotOpened, Opened, OpensDisk, PairLacksReserve, closed_pair, reported_fault}
 use Rattle.executor.specs.declared.opening.OpenError.{OpenError}
 use Rattle.executor.specs.declared.opening.OpenError.TheVariants as why
-use Rattle.exec_ledger.specs.Boots.{Boots, BootsFrom, LacksBoot, booted}
-use Rattle.executor.specs.Openings.{IsQuietPair, PairLacksReserve, NotOpened, Opened, OpensDisk, StartsLike, reported_fault, reported_slot, IsForeign, IsOver, IsOwn, IsUnready}
-use Rattle.executor.specs.Interruptions.{dropped, interrupted}
-use Rattle.exec_ledger.specs.LedgerView.{LedgerView}
-use Rattle.executor.specs.ExecutorView.{ExecutorView, due_in, ledger_of}
-use Rattle.exec_turn.specs.Turns.{ChildrenMatch}
-use Rattle.exec_ledger.proofs.Booting.{boot_quiet}
-use Rattle.executor.proofs.Keeping.{quiet_matched}
-use Rattle.exec_ledger.specs.Lemmas.{JournalLemmas}
+use Rattle.executor.proofs.Openings.OnStores.{both_crash}
 
-boot_next : (s : State) (m : ℕ) → (boot s m).next_run ≡ s.next_run
-boot_next s m = by (any_busy s)
-  where
-    by : (b : Bool) → (cond b (after s (boot_at m)) s).next_run ≡ s.next_run
-    by true = omega arith
-    by false = refl
+-- the journal's laws of what is found
+pub record FoundLaws : Type 0 where
+  pub once : (c : Image) (s t : State) → FoundAs s c → FoundAs t c → s ≡ t
+  pub found : (p : Position) (s : State) (c : Image) → JournalAt p s c → FoundAs s c
+  pub same : (p q : Position) (s t : State) (c : Image) → JournalAt p s c → JournalAt q t c → (p ≡ q) × (s ≡ t)
+  pub stays : (p : Position) (s : State) (c : Image) → JournalAt p s c → IsToWrite c → ⊥
 
-opens_like : (old new : DiskView) (now : ℕ) → CrashesTo old new (OpensLike old) → CrashesTo old new (StartsLike old now)
-opens_like old new now crash = weakened old new (OpensLike old) (StartsLike old now) (λ h c left. inl left) crash
+module _ {D : Type 0} (view : D → DiskView) (lawful : (d : D) → (view d).honest → Lawful (view d)) (old : D) (from : ChildrenView) (now : ℕ) where
+  -- only the journal was opened, or not even that
+  read_only : (new : D) → Opens (view old) (view new) → OpensDisk view old (closed_pair new) now
+  read_only new opens =
+      let u = store_view view (closed_pair old) in
+      let v = store_view view (closed_pair new) in
+      let was : State → Type 0 = u.leaves u.clock in
+      record {
+        mid = new;
+        opens = opens;
+        later = stayed (view new);
+        booted = λ h c since. inl ((lawful new h).only_now c since);
+        crash = weakened u v was (StartsLike was now) (λ h x left. (x, left, inl refl))
+            (opens_crash (view old) (view new) first_position first_position (lawful old) opens);
+        unwritten = λ quiet. opens.unwritten (λ h. (quiet h).0);
+      }
 
--- only the journal was opened, or not even that
-pub read_only : (old new : DiskView) (now : ℕ) → CrashesTo old new (OpensLike old) → ((old.honest → AllHaveReserve old) → CrashesTo old new PairHasReserve)
-    → ((old.honest → IsToWrite old.reads → ⊥) → Unwritten old new) → OpensDisk old new now
-read_only old new now crash reserved unwritten =
-    record { crash = opens_like old new now crash; reserved = reserved; unwritten = λ quiet. unwritten (λ h. (quiet h).0) }
-
-module _ (old new : DiskView) (from : ChildrenView) (now : ℕ) where
   -- the journal was not opened
-  pub journal_refused : (fault : JournalFault) → FailsToOpen fault old new → NotOpened old new from from now (reported_fault fault)
-  journal_refused fault fails = record {
-    did = read_only old new now fails.opens.crash fails.opens.reserved fails.opens.unwritten;
+  pub journal_refused : (new : D) (fault : JournalFault) → FailsToOpen fault (view old) (view new) → NotOpened view old new from from now (reported_fault fault)
+  journal_refused new fault fails = record {
+    did = read_only new fails.opens;
     children = inl refl;
     untouched = λ d is. refl;
     foreign = λ is. absurd (never_foreign fault is);
     spared = λ h other. refl;
     full_given_up = λ is. absurd (never_full fault is);
-    kept_unbooted = inl (refl, fails.opens.crash);
+    kept_unbooted = inl (refl, fails.opens);
     damaged = λ h d is. fails.damaged h d (as_damaged fault d is);
     cause = λ is. fails.cause (as_disk fault is);
     full = λ h is. absurd (never_full fault is);
     not_foreign = λ h is. absurd (never_full fault is);
     never_full = λ reserved h is. never_full fault is;
-    unbooted = λ _. fails.opens.crash;
+    unbooted = λ _. fails.opens;
     foreign_unbooted = λ _. fails.opens.crash;
-    unwritten = λ _. fails.opens.unwritten;
   }
     where
       as_damaged : (f : JournalFault) (d : Damage) → reported_fault f ≡ why.Damaged d → f ≡ journal.Damaged d
@@ -90,239 +91,165 @@ module _ (old new : DiskView) (from : ChildrenView) (now : ℕ) where
       never_full (journal.Damaged x) is = cc
       never_full journal.Memory is = cc
 
--- memory was refused once the journal was opened, and the children were given up
-pub unready_memory : (old new : DiskView) (from to : ChildrenView) (now : ℕ) → Opens old new → AllEnded from to
-    → (new.honest → IsOwn old.reads from) → (new.honest → IsForeign old.reads from → ⊥) → NotOpened old new from to now why.Memory
-unready_memory old new from to now opens kids theirs own = record {
-  did = read_only old new now opens.crash opens.reserved opens.unwritten;
-  children = inr kids;
-  full_given_up = λ is. kids;
-  kept_unbooted = inr (kids, theirs);
-  untouched = λ d is. let none : ⊥ = cc in absurd none;
-  foreign = λ is. let none : ⊥ = cc in absurd none;
-  damaged = λ h x is. let none : ⊥ = cc in absurd none;
-  cause = λ is. let none : ⊥ = cc in absurd none;
-  full = λ h is. let none : ⊥ = cc in absurd none;
-  not_foreign = λ h is. let none : ⊥ = cc in absurd none;
-  never_full = λ reserved h is. cc;
-  spared = λ h other. absurd (own h other);
-  unbooted = λ _. opens.crash;
-  foreign_unbooted = λ _. opens.crash;
-  unwritten = λ _. opens.unwritten;
-}
-
--- the children are another journal's
-unready_foreign : (old new : DiskView) (p : Position) (s : State) (from to : ChildrenView) (now : ℕ) → OpensAt p s old new → to ≡ from
-    → s.next_run ≤ from.last_run → NotOpened old new from to now why.Foreign
-unready_foreign old new p s from to now opens kids later = record {
-  did = read_only old new now opens.opens.crash opens.opens.reserved opens.opens.unwritten;
-  children = inl kids;
-  full_given_up = λ is. let none : ⊥ = cc in absurd none;
-  kept_unbooted = inl (kids, opens.opens.crash);
-  untouched = λ d is. kids;
-  foreign = λ is. (kids, λ h. record { state = s; found = opens.found h; later = later });
-  damaged = λ h x is. let none : ⊥ = cc in absurd none;
-  cause = λ is. let none : ⊥ = cc in absurd none;
-  full = λ h is. let none : ⊥ = cc in absurd none;
-  not_foreign = λ h is. let none : ⊥ = cc in absurd none;
-  never_full = λ reserved h is. cc;
-  spared = λ h other. kids;
-  unbooted = λ _. opens.opens.crash;
-  foreign_unbooted = λ _. opens.opens.crash;
-  unwritten = λ _. opens.opens.unwritten;
-}
-
--- the children were started for the journal that was found
-own_children : ((c : Image) (s t : State) → FoundAs s c → FoundAs t c → s ≡ t) → (c : Image) (s : State) (from : ChildrenView) → FoundAs s c
-    → from.last_run < s.next_run → IsForeign c from → ⊥
-own_children once c s from found low foreign =
-    let same = once c foreign.state s foreign.found found in
-    let next = ap (λ (t : State). t.next_run) same in
-    let later = foreign.later in
-    omega (arith, next, low, later)
-
-pub unready : ((c : Image) (s t : State) → FoundAs s c → FoundAs t c → s ≡ t) → (old new : DiskView) (p : Position) (s : State) (from to : ChildrenView) (now : ℕ) (fault : OpenError) → OpensAt p s old new
-    → IsUnready from to s fault → NotOpened old new from to now fault
-unready once old new p s from to now fault opens is = elim is.either [
-  | inl foreign ↦ (let kids = is.foreign foreign in
-      subst (λ (w : OpenError). NotOpened old new from to now w) (sym foreign)
-      (unready_foreign old new p s from to now opens kids.0 kids.1))
-  | inr memory ↦ subst (λ (w : OpenError). NotOpened old new from to now w) (sym memory)
-      (let kids = is.memory memory in unready_memory old new from to now opens.opens kids.0
-      (λ h. record { state = s; found = opens.found h; earlier = kids.1 })
-      (λ h. own_children once old.reads s from (opens.found h) kids.1))
-]
-
-module _ {D : Type 0} (view : D → DiskView) (law : JournalLemmas) (once : (c : Image) (s t : State) → FoundAs s c → FoundAs t c → s ≡ t)
-    (old : DiskView) (from : ChildrenView) (now : ℕ) (mid : ExecutorView D) (over : IsOver from mid)
-    (opens : OpensAt mid.position mid.state old (view mid.disk)) where
-  -- memory was refused before the boot
-  pub report_refused : (d : D) (to : ChildrenView) → d ≡ mid.disk → to ≡ mid.children → NotOpened old (view d) from to now why.Memory
-  report_refused d to same kids =
-      subst (λ (x : D). NotOpened old (view x) from to now why.Memory) (sym same)
-      (unready_memory old (view mid.disk) from to now opens.opens (subst (AllEnded from) (sym kids) over.children)
-      (λ h. record { state = mid.state; found = opens.found h; earlier = over.rising })
-      (λ h. own_children once old.reads mid.state from (opens.found h) over.rising))
-
-  module _ (new : LedgerView D) where
-    both_passed : Passed (view mid.disk) (view new.disk) → Passed old (view new.disk)
-    both_passed passed = passed_on old (view mid.disk) (view new.disk) opens.opens.crash.passed passed
-
-    did_both : (crash : CrashesTo (view mid.disk) (view new.disk) (BootsFrom mid.state now))
-        → (HasReserve mid.position.tail mid.state → CrashesTo (view mid.disk) (view new.disk) PairHasReserve) → (any_busy mid.state ≡ false → new ≡ ledger_of mid)
-        → OpensDisk old (view new.disk) now
-    did_both crash reserved quiet = record {
-      crash = joined old (view mid.disk) (view new.disk) (StartsLike old now)
-          (opens_like old (view mid.disk) now opens.opens.crash)
-          (weakened (view mid.disk) (view new.disk) (BootsFrom mid.state now) (StartsLike old now)
-          (λ h c left. inr (mid.state, opens.found (crash.passed.honest h), left)) crash);
-      reserved =
-          λ all. joined old (view mid.disk) (view new.disk) PairHasReserve (opens.opens.reserved all)
-          (supposed (view mid.disk) (view new.disk) PairHasReserve crash.passed (λ h. reserved (opens.reserve all (crash.passed.honest h))));
-      unwritten = λ is_quiet. rests is_quiet (any_busy mid.state) refl;
+  module _ (law : FoundLaws) (mid : JournalView D) (s : State) (opens : OpensAt mid.position s (view old) (view mid.disk))
+      (store : OpensStore (store_view view (closed_pair old)) (store_view view mid) s) where
+    did_both : (new : JournalView D) → CrashesTo (store_view view mid) (store_view view new) (BootsFrom s now) → (any_busy s ≡ false → new ≡ mid)
+        → OpensDisk view old new now
+    did_both new crash quiet = record {
+      mid = mid.disk;
+      opens = opens.opens;
+      later = later;
+      booted = λ h c since.
+          let mid_h = crash.passed.honest h in
+          let found = crash.opens h (view mid.disk).clock (omega arith) ((lawful_store view lawful mid mid_h).held_opens s (opens.settled mid_h)) c since in
+          inr (found.0, (s, opens.found mid_h, crash.from_start h found.0 (c, since, found.1)), found.1);
+      crash = both_crash (store_view view) (closed_pair old) mid s store new now crash;
+      unwritten = λ is_quiet. rests is_quiet (any_busy s) refl;
     }
       where
-        rests : (old.honest → IsQuietPair old.reads) → (b : Bool) → any_busy mid.state ≡ b → Unwritten old (view new.disk)
+        later : Passed (view mid.disk) (view new.disk)
+        later = record { clock = crash.passed.clock; failures = crash.passed.failures; honest = crash.passed.honest }
+
+        rests : ((view old).honest → IsQuietPair (view old).reads) → (b : Bool) → any_busy s ≡ b → Unwritten (view old) (view new.disk)
         rests is_quiet false not =
-            subst (λ (x : LedgerView D). Unwritten old (view x.disk)) (sym (quiet not)) (opens.opens.unwritten (λ h. (is_quiet h).0))
+            subst (λ (k : JournalView D). Unwritten (view old) (view k.disk)) (sym (quiet not)) (opens.opens.unwritten (λ h. (is_quiet h).0))
         rests is_quiet true busy =
             let never : (view new.disk).honest → ⊥ = λ h. let mid_h = crash.passed.honest h in
-            true≢false (sym busy ∙ (is_quiet (opens.opens.crash.passed.honest mid_h)).1 mid.state (opens.found mid_h)) in
+            true≢false (sym busy ∙ (is_quiet (opens.opens.crash.passed.honest mid_h)).1 s (opens.found mid_h)) in
             record {
-              passed = both_passed crash.passed;
+              passed = passed_on (view old) (view mid.disk) (view new.disk) opens.opens.crash.passed later;
               same = λ h. absurd (never h);
               still = λ h. absurd (never h);
               since = λ h. absurd (never h);
             }
 
     -- where nothing was written, the same is found
-    holds_before : (view mid.disk).honest → (IsToWrite old.reads → ⊥) → JournalAt mid.position mid.state old.reads
+    holds_before : (view mid.disk).honest → (IsToWrite (view old).reads → ⊥) → JournalAt mid.position s (view old).reads
     holds_before h unwritten =
-        subst (λ (c : Image). JournalAt mid.position mid.state c) ((opens.opens.unwritten (λ _. unwritten)).same h) (opens.settled h).holds
+        subst (λ (c : Image). JournalAt mid.position s c) ((opens.opens.unwritten (λ _. unwritten)).same h) (opens.settled h).holds
 
     -- and nothing was written where a boot does not fit
-    lacks_unwritten : (view mid.disk).honest → LacksBoot mid.position.tail mid.state → IsToWrite old.reads → ⊥
+    lacks_unwritten : (view mid.disk).honest → LacksBoot mid.position.tail s → IsToWrite (view old).reads → ⊥
     lacks_unwritten h lacks to_write =
         let reserve = opens.anew h to_write lacks.0 in
         let short = lacks.1 in
         omega (arith, reserve, short)
 
-    lacks_reserve : (view mid.disk).honest → LacksBoot mid.position.tail mid.state → PairLacksReserve old.reads
+    lacks_reserve : (view mid.disk).honest → LacksBoot mid.position.tail s → PairLacksReserve (view old).reads
     lacks_reserve h lacks =
-        record { position = mid.position; state = mid.state; holds = holds_before h (lacks_unwritten h lacks); lacks = lacks }
+        record { position = mid.position; state = s; holds = holds_before h (lacks_unwritten h lacks); lacks = lacks }
 
-    lacks_boot : (view mid.disk).honest → PairLacksReserve old.reads → LacksBoot mid.position.tail mid.state
+    lacks_boot : (view mid.disk).honest → PairLacksReserve (view old).reads → LacksBoot mid.position.tail s
     lacks_boot h lacks =
-        let same = once old.reads lacks.state mid.state (law.found lacks.position lacks.state old.reads lacks.holds) (opens.found h) in
-        let here = subst (λ (s : State). LacksBoot lacks.position.tail s) same lacks.lacks in
-        let at = (law.once lacks.position mid.position lacks.state mid.state old.reads lacks.holds
-        (holds_before h (law.stays lacks.position lacks.state old.reads lacks.holds))).0 in
-        subst (λ p. LacksBoot p.tail mid.state) at here
+        let reads = (view old).reads in
+        let same = law.once reads lacks.state s (law.found lacks.position lacks.state reads lacks.holds) (opens.found h) in
+        let here = subst (λ (t : State). LacksBoot lacks.position.tail t) same lacks.lacks in
+        let at = (law.same lacks.position mid.position lacks.state s reads lacks.holds
+        (holds_before h (law.stays lacks.position lacks.state reads lacks.holds))).0 in
+        subst (λ p. LacksBoot p.tail s) at here
 
-    pub opened : (x : Unit) (final : ExecutorView D) (ran queued : List Notice) → Boots view now (ledger_of mid) new (Ok x) → final.is_open ≡ true
-        → final.state ≡ new.state → final.disk ≡ new.disk → final.position ≡ new.position
-        → due_in final ≡ due_at final.state (moment mid.state now) → final.children ≡ mid.children → final.reported ≡ mid.reported
-        → final.opening_report ≡ record { interrupted = ran; dropped = queued }
-        → ran ≡ interrupted mid.state (moment mid.state now) → queued ≡ dropped mid.state (moment mid.state now)
-        → Admits from.site final.site → Opened view old from now final ran queued
-    opened x final ran queued boots is_open state disk index due kids sends remembers ran_is queued_is admits =
-        let honest_new : (view final.disk).honest → (view new.disk).honest = λ h. subst (λ (d : D). (view d).honest) disk h in
-        let done : final.state ≡ booted mid.state now = state ∙ boots.state in
-        let quiet_now : any_busy final.state ≡ false = ap any_busy done ∙ boot_quiet mid.state (moment mid.state now) in
-        let given : AllEnded from final.children = subst (AllEnded from) (sym kids) over.children in
-        let next = ap (λ (u : State). u.next_run) done ∙ boot_next mid.state (moment mid.state now) in
-        let low = over.rising in
-        let rising : from.last_run < final.state.next_run = omega (arith, next, low) in record {
-          over = record { is_open = is_open; children = given; reported = sends ∙ over.reported; rising = rising };
-          sound = λ _. record {
-            journal =
-                λ h. subst (λ p. IsInSync p final.state (view final.disk)) (sym index)
-                (subst (λ (s : State). IsInSync new.position s (view final.disk)) (sym state)
-                (subst (λ (d : D). IsInSync new.position new.state (view d)) (sym disk) (boots.settled (honest_new h))));
-            reserve = λ busy. absurd (true≢false (sym busy ∙ quiet_now));
-            matched =
-                subst (λ (v : ChildrenView). ChildrenMatch final.state v) (sym given.1) (quiet_matched final.state from given.0 quiet_now rising);
-            admits = subst (λ (v : ChildrenView). Admits v.site final.site) (sym given.1) admits;
+    -- the executor was opened
+    pub opened_files : (x : ExecutorView (JournalView D)) (ran queued : List Notice)
+        → OpensFrom (store_view view) (λ t. t ≡ s) mid from now x ran queued → (any_busy s ≡ false → x.store ≡ mid)
+        → (LacksBoot mid.position.tail s → ⊥) → Opened view old from now x ran queued
+    opened_files x ran queued over quiet fits = record {
+      over = over.over;
+      sound = over.sound;
+      starts = λ h. let starts = over.starts h in
+          record {
+            state = starts.state;
+            found = subst (λ (t : State). FoundAs t (view old).reads) (sym starts.found) (opens.found (over.crash.passed.honest h));
+            boot = starts.boot;
+            due_is = starts.due_is;
+            ran = starts.ran;
+            queued = starts.queued;
           };
-          starts = λ h. record {
-            state = mid.state;
-            found = opens.found (boots.crash.passed.honest (honest_new h));
-            boot = done;
-            due_is = due;
-            ran = ran_is;
-            queued = queued_is;
-          };
-          opening_report = remembers;
-          did = subst (λ (d : D). OpensDisk old (view d) now) (sym disk) (did_both boots.crash boots.reserved boots.quiet);
-          fits = λ h lacks. let bad = boots.full.1 (lacks_boot (boots.crash.passed.honest (honest_new h)) lacks) in let none : ⊥ = cc in
-              none;
-        }
+      opening_report = over.opening_report;
+      did = did_both x.store
+          (weakened (store_view view mid) (store_view view x.store) (StartsLike (λ t. t ≡ s) now) (BootsFrom s now)
+          (λ h y left. subst (λ (t : State). BootsFrom t now y) left.1 left.2) over.crash)
+          quiet;
+      fits = λ h lacks. fits (lacks_boot (over.crash.passed.honest h) lacks);
+    }
 
-    -- the boot failed
-    pub boot_refused : (fault : SlotFault) (d : D) (to : ChildrenView) → Boots view now (ledger_of mid) new (Err fault) → d ≡ new.disk
-        → to ≡ mid.children → NotOpened old (view d) from to now (reported_slot fault)
-    boot_refused fault d to boots same kids = subst (λ (x : D). NotOpened old (view x) from to now (reported_slot fault)) (sym same) (record {
-      did = did_both boots.crash boots.reserved boots.quiet;
-      children = inr gone;
-      full_given_up = λ is. gone;
-      kept_unbooted = inr (
-        gone,
-        λ h.
-            record { state = mid.state; found = opens.found (boots.crash.passed.honest h); earlier = over.rising },
-      );
-      untouched = λ x is. absurd (no_damage fault x is);
-      foreign = λ is. absurd (no_foreign fault is);
-      damaged = λ h x is. absurd (no_damage fault x is);
-      cause = λ is. let increased = boots.cause (ap Err (as_disk fault is)) in let before = opens.opens.crash.passed.failures in
+    -- it was not opened
+    pub refused_files : (new : JournalView D) (to : ChildrenView) (fault : OpenError) → NotOpenedOn (store_view view) s mid new from to now fault
+        → NotOpened view old new.disk from to now fault
+    refused_files new to fault fails = record {
+      did = record {
+        mid = did.mid;
+        opens = did.opens;
+        later = did.later;
+        booted = did.booted;
+        crash = record {
+          passed = record { clock = did.crash.passed.clock; failures = did.crash.passed.failures; honest = did.crash.passed.honest };
+          from_start = did.crash.from_start;
+          before = did.crash.before;
+          opens = did.crash.opens;
+          boots = did.crash.boots;
+        };
+        unwritten = did.unwritten;
+      };
+      children = ⊎_elim (λ is. inl (fails.kept is)) (λ not. inr (fails.given_up not)) (is_foreign fault);
+      untouched = λ d is. absurd (fails.undamaged d is);
+      foreign = λ is. (fails.kept is, λ h. record { state = s; found = found h; later = fails.foreign.0 is });
+      spared = λ h other. fails.kept (theirs h other);
+      full_given_up = λ is. fails.given_up (λ bad. no_full (sym is ∙ bad));
+      kept_unbooted = ⊎_elim
+          (λ is. inl (fails.kept is, unbooted (λ bad. no_disk (sym is ∙ bad))))
+          (λ not. inr (fails.given_up not, λ h. record { state = s; found = found h; earlier = own not }))
+          (is_foreign fault);
+      damaged = λ h d is. absurd (fails.undamaged d is);
+      cause = λ is. let increased = fails.cause is in let before = opens.opens.crash.passed.failures in
           omega (arith, increased, before);
-      full = λ h is. lacks_reserve (boots.crash.passed.honest h) (boots.full.0 (ap Err (as_full fault is)));
+      full = λ h is. lacks_reserve (fails.crash.passed.honest h) (fails.full is);
+      not_foreign = λ h is other. no_full (sym is ∙ theirs h other);
       never_full = λ reserved h is.
-          let lacks = boots.full.0 (ap Err (as_full fault is)) in
-          let reserve = opens.reserve reserved (boots.crash.passed.honest h) lacks.0 in
+          let lacks = fails.full is in
+          let reserve = opens.reserve reserved (fails.crash.passed.honest h) lacks.0 in
           let short = lacks.1 in
           omega (arith, reserve, short);
-      not_foreign = λ h _. own h;
-      spared = λ h other. absurd (own h other);
+      unbooted = unbooted;
       foreign_unbooted = λ other.
-          supposed old (view new.disk) (OpensLike old) (both_passed boots.crash.passed) (λ h. absurd (own h (other h)));
-      unwritten = λ not_disk not.
-          subst (λ (x : D). Unwritten old (view x)) (sym (boots.unwritten (ap Err (else_full fault not_disk)))) (opens.opens.unwritten not);
-      unbooted = λ not_disk.
-          subst (λ (x : D). CrashesTo old (view x) (OpensLike old)) (sym (boots.unwritten (ap Err (else_full fault not_disk)))) opens.opens.crash;
-    })
+          supposed (view old) (view new.disk) (OpensLike (view old))
+          (passed_on (view old) (view mid.disk) (view new.disk) opens.opens.crash.passed later)
+          (λ h. (unbooted (λ bad. no_disk (sym (theirs h (other h)) ∙ bad))).crash);
+    }
       where
-        gone : AllEnded from to
-        gone = subst (AllEnded from) (sym kids) over.children
+        did : OpensDisk view old new now
+        did = did_both new fails.crash fails.quiet
 
-        own : (view new.disk).honest → IsForeign old.reads from → ⊥
-        own h = own_children once old.reads mid.state from (opens.found (boots.crash.passed.honest h)) over.rising
+        later : Passed (view mid.disk) (view new.disk)
+        later = record { clock = fails.crash.passed.clock; failures = fails.crash.passed.failures; honest = fails.crash.passed.honest }
 
-        no_damage : (f : SlotFault) (x : Damage) → reported_slot f ≡ why.Damaged x → ⊥
-        no_damage slot.Disk x is = cc
-        no_damage slot.Full x is = cc
+        found : (view new.disk).honest → FoundAs s (view old).reads
+        found h = opens.found (fails.crash.passed.honest h)
 
-        as_disk : (f : SlotFault) → reported_slot f ≡ why.Disk → f ≡ slot.Disk
-        as_disk slot.Disk is = refl
-        as_disk slot.Full is = absurd cc
+        unbooted : (fault ≡ why.Disk → ⊥) → Opens (view old) (view new.disk)
+        unbooted not_disk = subst (λ (k : JournalView D). Opens (view old) (view k.disk)) (sym (fails.unwritten not_disk)) opens.opens
 
-        as_full : (f : SlotFault) → reported_slot f ≡ why.Full → f ≡ slot.Full
-        as_full slot.Disk is = absurd cc
-        as_full slot.Full is = refl
+        theirs : (view new.disk).honest → IsForeign (view old).reads from → fault ≡ why.Foreign
+        theirs h other =
+            fails.foreign.1 (subst (λ (t : State). t.next_run ≤ from.last_run) (law.once (view old).reads other.state s other.found (found h)) other.later)
 
-        no_foreign : (f : SlotFault) → reported_slot f ≡ why.Foreign → ⊥
-        no_foreign slot.Disk is = cc
-        no_foreign slot.Full is = cc
+        own : (fault ≡ why.Foreign → ⊥) → from.last_run < s.next_run
+        own not = ⊎_elim (λ lt. lt) (λ later. absurd (not (fails.foreign.1 later))) (cases_lt from.last_run s.next_run)
 
-        else_full : (f : SlotFault) → (reported_slot f ≡ why.Disk → ⊥) → f ≡ slot.Full
-        else_full slot.Disk not = absurd (not refl)
-        else_full slot.Full not = refl
+        no_full : why.Full ≡ why.Foreign → ⊥
+        no_full is = cc
 
--- where an opening was refused for memory the journal's opening was, and not the boot
+        no_disk : why.Foreign ≡ why.Disk → ⊥
+        no_disk is = cc
+
+        is_foreign : (f : OpenError) → (f ≡ why.Foreign) ⊎ (f ≡ why.Foreign → ⊥)
+        is_foreign why.Foreign = inl refl
+        is_foreign why.Disk = inr (λ is. cc)
+        is_foreign (why.Damaged d) = inr (λ is. cc)
+        is_foreign why.Memory = inr (λ is. cc)
+        is_foreign why.Full = inr (λ is. cc)
+
+-- where an opening was refused for memory the journal's opening was
 pub reported_memory : (f : JournalFault) → reported_fault f ≡ why.Memory → f ≡ journal.Memory
 reported_memory journal.Disk is = absurd cc
 reported_memory (journal.Damaged d) is = absurd cc
 reported_memory journal.Memory is = refl
-
-pub never_memory : (f : SlotFault) → reported_slot f ≡ why.Memory → ⊥
-never_memory slot.Disk is = cc
-never_memory slot.Full is = cc

@@ -1,15 +1,15 @@
 -- A session is the calls of its inputs.
 use Rattle.std.proofs.Common.{ℕ, List, [], ◌∷◌}
 use Rattle.ocf_types.specs.Kinds.{Reply}
-use Rattle.disk_model.specs.Disk.{DiskView}
 use Rattle.executor.specs.Joins.{as_calls}
 use Rattle.executor.specs.Incarnations.{Calls}
 use Rattle.exec_ledger.specs.Pieces.{Effects}
 use Rattle.executor.specs.Projections.{IsFree, IsFreeSession}
 use Rattle.executor.specs.Sessions.{Input, Session}
 use Rattle.executor.specs.ExecutorView.{ExecutorView}
+use Rattle.store_model.specs.StoreView.{StoreView}
 
-pub lemma_session_is_calls : {D : Type 0} (view : D → DiskView) (x z : ExecutorView D) (is : List Input) (rs : List Reply) (d : Effects)
+pub lemma_session_is_calls : {S : Type 0} (view : S → StoreView) (x z : ExecutorView S) (is : List Input) (rs : List Reply) (d : Effects)
     → Session view x is rs z d → Calls view x (as_calls is rs) z d
 lemma_session_is_calls view x z [] [] d session = session
 lemma_session_is_calls view x z [] (r ∷ rs) d session = absurd session
@@ -18,7 +18,7 @@ lemma_session_is_calls view x z (i ∷ is) (r ∷ rs) d (mid, first, later, take
     (mid, first, later, takes, lemma_session_is_calls view mid z is rs later rest, all)
 
 -- a resource that is not held in its inputs is not held in these calls
-pub free_calls : {D : Type 0} (view : D → DiskView) (id : List ℕ) (x z : ExecutorView D) (is : List Input) (rs : List Reply) (d : Effects)
+pub free_calls : {S : Type 0} (view : S → StoreView) (id : List ℕ) (x z : ExecutorView S) (is : List Input) (rs : List Reply) (d : Effects)
     (session : Session view x is rs z d) → IsFreeSession view id x is rs z d session
     → IsFree view id x (as_calls is rs) z d (lemma_session_is_calls view x z is rs d session)
 unfolding lemma_session_is_calls

@@ -17,7 +17,9 @@ returns-in-Ok-session-clause-runs g c =
     subst (λ (l : List Reply). IsIncarnation g.D.Disk.view (as_calls inputs l) c.args.disk c.close-disk.result.0) (sym given)
     (served g.D.Disk.view c.args.disk c.close-disk.result.0 (g.C.Children.view c.args.machine.children) c.args.machine.now
     c.in-Ok.executor c.session.new.self c.in-Ok._report.interrupted.items c.in-Ok._report.dropped.items (as_calls inputs takes_inputs.0) d
-    c.in-Ok.ensures.opened calls c.close-disk.ensures.disk)
+    (c.lemma_whole_history.ensures.opening c.args.disk (g.C.Children.view c.args.machine.children) c.args.machine.now c.in-Ok.executor
+    c.in-Ok._report.interrupted.items c.in-Ok._report.dropped.items c.in-Ok.ensures.opened)
+    calls c.close-disk.ensures.disk)
 
 pub returns-in-Err-clause-runs : goal.returns-in-Err-clause-runs
 returns-in-Err-clause-runs g c =

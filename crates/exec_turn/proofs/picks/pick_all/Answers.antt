@@ -4,8 +4,8 @@ use Rattle.ocf_types.specs.Kinds.{Event}
 use Rattle.ocf_types.specs.Limits.{num_max}
 use Rattle.ocf_types.specs.Indexes.{id_at}
 use Rattle.child_model.specs.Children.{is_held}
-use Rattle.exec_journal.specs.PartPrefix.{encoded_batch}
-use Rattle.exec_state.specs.Store.{dues}
+use Rattle.store_model.specs.Batches.{encoded_batch}
+use Rattle.exec_state.specs.StateValue.{dues}
 use Rattle.exec_ledger.specs.Actives.{Active}
 use Rattle.exec_turn.specs.Launches.{IsStart, actions_of_starts}
 use Rattle.exec_turn.specs.Picks.{begins}
@@ -20,7 +20,7 @@ held_as held id own b value same = ap (is_held held) (sym same) ∙ sym value
 pub returns-then-rests-clause-picked : goal.returns-then-rests-clause-picked
 returns-then-rests-clause-picked g c =
     let none : c.clear-2.new.self.items ≡ [] = search rules in
-    rests_picked (g.C.Children.view c.args.children.now).held c.args.state.now c.args.journal.now.tail.at c.args.at c.clear-2.new.self.items c.lemma_known.ensures.lawful
+    rests_picked (g.C.Children.view c.args.children.now).held c.args.state.now (g.T.Store.view c.args.store.now).tail c.args.at c.clear-2.new.self.items c.lemma_known.ensures.lawful
     (c.if-rests.ensures refl) none
 
 pub loop-index-preserved-then-holds : goal.loop-index-preserved-then-holds
@@ -81,7 +81,7 @@ returns-then-not-fits-clause-picked g c =
     let size = encoded_more c.args.at c.loop-index.len c.encoded_len-len.result (actions_of_starts c.loop-index.starts.items)
     (record { id = id_at s c.loop-index.index; running = c.in-Some.running }) c.loop-index.batch.items c.begin_at-begin.result inv.batch
     c.begin_at-begin.ensures.begin inv.len c.encoded_len-len.ensures in
-    let all = c.args.journal.now.tail.at + 5 + (c.loop-index.len + c.encoded_len-len.result) + 1 + 32768 in
+    let all = (g.T.Store.view c.args.store.now).tail + 5 + (c.loop-index.len + c.encoded_len-len.result) + 1 + 32768 in
     let over : 8388608 < all = above all 8388608 (λ le. let no : false ≡ true = c.if-not-fits.ensures.value.1 le in cc) in
     full_here inv.so_far within free c.in-Some.ensures drawn size over
 
@@ -121,7 +121,7 @@ loop-index-preserved g c =
     batch_more c.args.at (actions_of_starts items) a c.loop-index.batch.items c.push_reserved.new.self.items c.begin_at-begin.result
     c.push_reserved.ensures.items inv.batch c.begin_at-begin.ensures.begin in
     let count : length starts ≡ length items + 1 = one_longer items starts c.in-Ok.start grown in record {
-      so_far = subst (λ (l : List Active). SoFar (g.C.Children.view c.args.children.now).held s (dues c.args.state.now) c.args.journal.now.tail.at c.args.at (c.loop-index.index + 1)
+      so_far = subst (λ (l : List Active). SoFar (g.C.Children.view c.args.children.now).held s (dues c.args.state.now) (g.T.Store.view c.args.store.now).tail c.args.at (c.loop-index.index + 1)
           c.in-Some-new.next l) (sym all) more;
       batch = batch_is ∙ ap (begins c.args.at) (sym all);
       are_starts =

@@ -1,9 +1,8 @@
 use Rattle.std.proofs.Common.{◌≡◌, ◌*◌, ◌≤◌, length}
 use Rattle.std.specs.List.{AllByRecursion}
 use Rattle.std.specs.Vec.{vec_capacity}
-use Rattle.exec_journal.specs.PartPrefix.{encoded_batch}
-use Rattle.exec_journal.specs.Journal.{journal_position}
-use Rattle.exec_state.specs.Store.{dues}
+use Rattle.store_model.specs.Batches.{encoded_batch}
+use Rattle.exec_state.specs.StateValue.{dues}
 use Rattle.exec_turn.specs.Launches.{IsStart, actions_of_starts}
 use Rattle.exec_turn.specs.Picks.{begins}
 use Rattle.exec_turn.proofs.PickSteps.{SoFar}
@@ -14,7 +13,7 @@ invariant-loop-index g l =
     let s = l.state.state in
     let begun = actions_of_starts l.starts.items in
     record {
-      so_far : SoFar (g.C.Children.view l.children).held s (dues l.state) (journal_position l.journal).tail l.at l.index l.run begun;
+      so_far : SoFar (g.C.Children.view l.children).held s (dues l.state) (g.T.Store.view l.store).tail l.at l.index l.run begun;
       batch : l.batch.items ≡ begins l.at begun;
       are_starts : AllByRecursion (IsStart l.site s) l.starts.items;
       len : l.len ≡ length (encoded_batch l.batch.items);

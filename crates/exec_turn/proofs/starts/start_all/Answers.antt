@@ -2,7 +2,6 @@ use Rattle.std.proofs.Common.{◌≡◌, ◌+◌, ◌++◌, ◌∙◌, List, [],
 use Rattle.std.proofs.lemmas.List.{append-nil, drop_more, map-append, take_more}
 use Rattle.ocf_types.specs.declared.reply.Notice.{Notice}
 use Rattle.child_model.specs.Children.{ChildrenView}
-use Rattle.exec_journal.specs.Journal.{journal_disk}
 use Rattle.ocf_env.specs.Locations.{Call, SiteView}
 use Rattle.child_model.specs.MayStart.{IsLaunch}
 use Rattle.exec_ledger.specs.Actives.{Active}
@@ -45,7 +44,7 @@ pub loop-start-preserved : goal.loop-start-preserved
 loop-start-preserved g c =
     let inv = c.loop-start.invariant in
     let view = g.C.Children.view in
-    let clock = (g.D.Disk.view (journal_disk c.args.journal.now)).clock in
+    let clock = (g.T.Store.view c.args.store.now).clock in
     let all = c.args.starts.now in
     let i = c.loop-start.start-index in
     let x = c.start-item.result in

@@ -2,7 +2,6 @@ use Rattle.std.proofs.Common.{◌≡◌, ◌≤◌, ◌+◌, ◌++◌, [], List,
 use Rattle.std.specs.Vec.{vec_capacity}
 use Rattle.ocf_types.specs.declared.reply.Notice.{Notice}
 use Rattle.child_model.specs.Children.{live_limit}
-use Rattle.exec_journal.specs.Journal.{journal_disk}
 use Rattle.exec_turn.specs.Launches.{actions_of_starts}
 use Rattle.exec_turn.specs.Starts.{Rising, Starts}
 use Rattle.exec_turn.proofs.starts.start_all.Given as goal
@@ -10,7 +9,7 @@ use Rattle.exec_turn.proofs.starts.start_all.Given as goal
 abbrev pub invariant-loop-start : goal.invariant-loop-start
 invariant-loop-start g l =
     let view = g.C.Children.view in
-    let clock = (g.D.Disk.view (journal_disk l.journal)).clock in
+    let clock = (g.T.Store.view l.store).clock in
     let i = l.start-index in
     record {
       started : (reported : List Notice)

@@ -2,4 +2,4 @@ use Rattle.executor.specs.BatchLemmas.{commands_called}
 use Rattle.executor.proofs.laws.lemma_commands_are_calls.Goals as goal
 
 pub returns : goal.returns
-returns g c now = commands_called g.D.Disk.view now
+returns g c now = commands_called g.S.Store.view now

@@ -3,8 +3,8 @@ use Rattle.executor.proofs.laws.lemma_each_alone.Goals as goal
 
 pub returns : goal.returns
 returns g c = record {
-  alone = lemma_each_alone g.D.Disk.view;
-  ends = alone_ends g.D.Disk.view;
-  session = session_alone g.D.Disk.view;
+  alone = lemma_each_alone g.S.Store.view;
+  ends = alone_ends g.S.Store.view;
+  session = session_alone g.S.Store.view;
   batch = commands_alone;
 }

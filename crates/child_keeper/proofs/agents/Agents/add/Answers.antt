@@ -1,6 +1,5 @@
 use Rattle.std.proofs.Common.{◌≡◌, ap, arith, length, rules, vec_len}
 use Rattle.std.proofs.lemmas.List.{length-map}
-use Rattle.child_keeper.specs.Agents.{runs_of}
 use Rattle.child_keeper.proofs.agents.Agents.add.Goals as goal
 
 pub invariant_of-self : goal.invariant_of-self
