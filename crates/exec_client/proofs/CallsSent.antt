@@ -4,7 +4,7 @@ use Rattle.std.proofs.lemmas.List.{append-nil, map-append}
 use Rattle.std.specs.List.{AllByRecursion, flat_map}
 use Rattle.ocf_types.specs.Kinds.{Event}
 use Rattle.ocf_types.specs.declared.command.RequestOf.TheVariants as asked
-use Rattle.disk_model.specs.Disk.{DiskView}
+use Rattle.store_model.specs.StoreView.{StoreView}
 use Rattle.executor.specs.CallLemmas.{followed_by_assoc, followed_by_none}
 use Rattle.executor.specs.Incarnations.{Abandoned, Calls, Cleared, Does, Exchange, Finished, Batch, Tidied, Took}
 use Rattle.executor.specs.CommandBatches.{IsAt, replies_of}
@@ -29,15 +29,15 @@ both_nothing : (ss ts : List SentItem) → ClaimsNothing ss → ClaimsNothing ts
 both_nothing [] ts one two = two
 both_nothing (s ∷ ss) ts one two = (one.0, both_nothing ss ts one.1 two)
 
-module _ {D : Type 0} (view : D → DiskView) where
+module _ {S : Type 0} (view : S → StoreView) where
   -- one call
-  pub one_sends : (x y : ExecutorView D) (e : Exchange) (d : Effects) (items : List SentItem) → Does view e x y d → States e y items
+  pub one_sends : (x y : ExecutorView S) (e : Exchange) (d : Effects) (items : List SentItem) → Does view e x y d → States e y items
       → SendsCalls view x (e ∷ []) y d items
   one_sends x y e d items does says =
       ([], items, [], y, d, no_effects, tt, does, says, (refl, refl, tt), sym (followed_by_none d), sym (append-nil items))
 
   -- messages that claim nothing, and then calls
-  aside_sends : (x z : ExecutorView D) (es : List Exchange) (d : Effects) (ss ts : List SentItem) → ClaimsNothing ss → SendsCalls view x es z d ts
+  aside_sends : (x z : ExecutorView S) (es : List Exchange) (d : Effects) (ss ts : List SentItem) → ClaimsNothing ss → SendsCalls view x es z d ts
       → SendsCalls view x es z d (ss ++ ts)
   aside_sends x z [] d ss ts none (same, nil, plain) = (same, nil, both_nothing ss ts none plain)
   aside_sends x z (e ∷ es) d ss ts none (aside, mine, later, mid, first, rest, plain, does, says, goes_on, is, reported) = (
@@ -56,11 +56,11 @@ module _ {D : Type 0} (view : D → DiskView) where
   )
 
   -- calls, and then others
-  pub both_send : (x y z : ExecutorView D) (es fs : List Exchange) (a b : Effects) (ss ts : List SentItem) → SendsCalls view x es y a ss
+  pub both_send : (x y z : ExecutorView S) (es fs : List Exchange) (a b : Effects) (ss ts : List SentItem) → SendsCalls view x es y a ss
       → SendsCalls view y fs z b ts → SendsCalls view x (es ++ fs) z (followed_by a b) (ss ++ ts)
   both_send x y z [] fs a b ss ts (same, none, plain) two =
       subst (λ (d : Effects). SendsCalls view x fs z d (ss ++ ts)) (sym (ap (λ (d : Effects). followed_by d b) none))
-      (aside_sends x z fs b ss ts plain (subst (λ (w : ExecutorView D). SendsCalls view w fs z b ts) same two))
+      (aside_sends x z fs b ss ts plain (subst (λ (w : ExecutorView S). SendsCalls view w fs z b ts) same two))
   both_send x y z (e ∷ es) fs a b ss ts (aside, mine, later, mid, first, rest, plain, does, says, goes_on, is, reported) two = (
     aside,
     mine,
@@ -78,7 +78,7 @@ module _ {D : Type 0} (view : D → DiskView) where
   )
 
   -- commands that were carried out at one moment
-  states_at : (now : ℕ) (e : Exchange) (y : ExecutorView D) → IsAt now e → States e y (map answered (replies_of e))
+  states_at : (now : ℕ) (e : Exchange) (y : ExecutorView S) → IsAt now e → States e y (map answered (replies_of e))
   states_at now (Took (input.Request at (asked.Command c)) r) y is = refl
   states_at now (Took (input.Request at (asked.Question q)) r) y is = absurd is
   states_at now (Took (input.Turn at) r) y is = absurd is
@@ -88,7 +88,7 @@ module _ {D : Type 0} (view : D → DiskView) where
   states_at now Cleared y is = absurd is
   states_at now Abandoned y is = absurd is
 
-  pub commands_send : (now : ℕ) (es : List Exchange) (x y : ExecutorView D) (d : Effects) → AllByRecursion (IsAt now) es → Calls view x es y d
+  pub commands_send : (now : ℕ) (es : List Exchange) (x y : ExecutorView S) (d : Effects) → AllByRecursion (IsAt now) es → Calls view x es y d
       → SendsCalls view x es y d (map answered (flat_map replies_of es))
   commands_send now [] x y d at (same, none) = (same, none, tt)
   commands_send now (e ∷ es) x y d at (mid, first, later, does, calls, is) = (

@@ -2,7 +2,7 @@
 use Rattle.std.proofs.Common.{ℕ, true≢false, List, [], ◌∷◌, ◌++◌, ap, length, length-append, arith}
 use Rattle.ocf_types.specs.Kinds.{Event, Reply, Request}
 use Rattle.ocf_types.specs.declared.reply.ReplyOf.TheVariants.{Done}
-use Rattle.disk_model.specs.Disk.{DiskView}
+use Rattle.store_model.specs.StoreView.{StoreView}
 use Rattle.executor.specs.Incarnations.{Took}
 use Rattle.executor.specs.Sessions.{Effects}
 use Rattle.executor.specs.ExecutorView.{ExecutorView}
@@ -25,7 +25,7 @@ twice e (untold _ _ _ backed) = too_early (ok ∷ []) backed
 twice e (sends _ _ _ _ is backed) = too_early [] backed
 twice e (states_else _ _ _ none backed) = true≢false none
 
-module _ {D : Type 0} (view : D → DiskView) (x y : ExecutorView D) (d : Effects) where
+module _ {S : Type 0} (view : S → StoreView) (x y : ExecutorView S) (d : Effects) where
   -- no call was made
   of_no_call : SendsCalls view x [] y d (ok ∷ []) → ⊥
   of_no_call (same, none, nothing) = true≢false nothing.0

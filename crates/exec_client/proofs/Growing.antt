@@ -10,7 +10,7 @@ use Rattle.ocf_types.specs.declared.refusal.Refusal.TheVariants.{Disk}
 use Rattle.ocf_types.specs.declared.reply.ReplyOf.TheVariants as reply
 use Rattle.ocf_types.specs.declared.reply.TidyEnd.{TidyEnd}
 use Rattle.ocf_types.specs.declared.reply.TurnEnd.{TurnEnd}
-use Rattle.disk_model.specs.Disk.{DiskView}
+use Rattle.store_model.specs.StoreView.{StoreView}
 use Rattle.executor.specs.CallLemmas.{followed_by_none, calls_after}
 use Rattle.exec_ledger.specs.Commands.{Obeys}
 use Rattle.executor.specs.Commands.{Serves, ServesWhile}
@@ -47,9 +47,9 @@ refused_after r why is =
 events_are : (ss : List SentItem) (d e : Effects) → d ≡ e → BackedBy ss e.events → BackedBy ss d.events
 events_are ss d e same backed = subst (λ (f : Effects). BackedBy ss f.events) (sym same) backed
 
-module _ {D : Type 0} (view : D → DiskView) where
+module _ {S : Type 0} (view : S → StoreView) where
   -- no call, one call, and calls after others
-  pub none_holds : (x y : ExecutorView D) (items : List SentItem) → y ≡ x → BackedBy items [] → IsBacked view x y items
+  pub none_holds : (x y : ExecutorView S) (items : List SentItem) → y ≡ x → BackedBy items [] → IsBacked view x y items
   none_holds x y items same backed = record {
     calls = [];
     effects = no_effects;
@@ -58,7 +58,7 @@ module _ {D : Type 0} (view : D → DiskView) where
     backed = backed;
   }
 
-  one_holds : (x y : ExecutorView D) (e : Exchange) (d : Effects) (items : List SentItem) → Does view e x y d → States e y items → BackedBy items d.events
+  one_holds : (x y : ExecutorView S) (e : Exchange) (d : Effects) (items : List SentItem) → Does view e x y d → States e y items → BackedBy items d.events
       → IsBacked view x y items
   one_holds x y e d items does says backed = record {
     calls = e ∷ [];
@@ -68,7 +68,7 @@ module _ {D : Type 0} (view : D → DiskView) where
     backed = backed;
   }
 
-  pub both_hold : (x y z : ExecutorView D) (ss ts : List SentItem) → IsBacked view x y ss → IsBacked view y z ts
+  pub both_hold : (x y z : ExecutorView S) (ss ts : List SentItem) → IsBacked view x y ss → IsBacked view y z ts
       → IsBacked view x z (ss ++ ts)
   both_hold x y z ss ts one two = record {
     calls = one.calls ++ two.calls;
@@ -79,18 +79,18 @@ module _ {D : Type 0} (view : D → DiskView) where
   }
 
   -- nothing is sent of the later calls
-  pub still_hold : (x y z : ExecutorView D) (ss : List SentItem) → IsBacked view x y ss → IsBacked view y z [] → IsBacked view x z ss
+  pub still_hold : (x y z : ExecutorView S) (ss : List SentItem) → IsBacked view x y ss → IsBacked view y z [] → IsBacked view x z ss
   still_hold x y z ss one two =
       subst (λ (items : List SentItem). IsBacked view x z items) (append-nil ss) (both_hold x y z ss [] one two)
 
   -- a command
-  obeys_after : (now : ℕ) (c : Command) (x y : ExecutorView D) (r : Reply) (found : Result Event Refusal) → event_of x.state now c ≡ found
+  obeys_after : (now : ℕ) (c : Command) (x y : ExecutorView S) (r : Reply) (found : Result Event Refusal) → event_of x.state now c ≡ found
       → Obeys view found (ledger_of x) (ledger_of y) r → BackedBy (answered r ∷ []) (command_effects found r).events
   obeys_after now c x y r (Err why) is (refused, same) = refused_after r why refused
   obeys_after now c x y r (Ok e) is records = reply_after e r (command_keeps x.state now c e is) records.reported
 
   -- a request
-  while_taken : (b : Bool) (now : ℕ) (request : Request) (x y : ExecutorView D) (r : Reply) → ServesWhile b view now request x y r
+  while_taken : (b : Bool) (now : ℕ) (request : Request) (x y : ExecutorView S) (r : Reply) → ServesWhile b view now request x y r
       → (b ≡ true → ((y.is_open ≡ false) ↔ (r ≡ reply.Refused Disk)))
       → (d : Effects) × TakesWhile b view (input.Request now request) x y r d × BackedBy (answered r ∷ []) d.events
   while_taken true now (asked.Question question) x y r serves closes = (
@@ -105,14 +105,14 @@ module _ {D : Type 0} (view : D → DiskView) where
   )
   while_taken false now request x y r serves closes = (no_effects, (serves.0, serves.1, refl), refused_after r _ serves.0)
 
-  pub serves_holds : (now : ℕ) (request : Request) (x y : ExecutorView D) (r : Reply) → Serves view now request x y r
+  pub serves_holds : (now : ℕ) (request : Request) (x y : ExecutorView S) (r : Reply) → Serves view now request x y r
       → (x.is_open ≡ true → ((y.is_open ≡ false) ↔ (r ≡ reply.Refused Disk))) → IsBacked view x y (answered r ∷ [])
   serves_holds now request x y r serves closes =
       let (d, takes, backed) = while_taken x.is_open now request x y r serves closes in
       one_holds x y (Took (input.Request now request) r) d (answered r ∷ []) takes refl backed
 
   -- commands in a batch
-  batch_holds : (now : ℕ) (cs : List Command) (x y : ExecutorView D) (rs : List Reply) (d : Effects) → TakesBatch view now cs x y rs d
+  batch_holds : (now : ℕ) (cs : List Command) (x y : ExecutorView S) (rs : List Reply) (d : Effects) → TakesBatch view now cs x y rs d
       → BackedBy (map answered rs) d.events
   batch_holds now cs x y rs d takes = by y.is_open refl
     where
@@ -128,14 +128,14 @@ module _ {D : Type 0} (view : D → DiskView) where
       by false is = sent_so false is (failed_after takes.takes.meant)
 
   -- one of the calls by which commands are carried out
-  taken_after : (b : Bool) (at : ℕ) (c : Command) (x y : ExecutorView D) (r : Reply) (d : Effects)
+  taken_after : (b : Bool) (at : ℕ) (c : Command) (x y : ExecutorView S) (r : Reply) (d : Effects)
       → TakesWhile b view (input.Request at (asked.Command c)) x y r d → BackedBy (answered r ∷ []) d.events
   taken_after true at c x y r d takes =
       events_are (answered r ∷ []) d (command_effects (event_of x.state at c) r) takes.does
       (obeys_after at c x y r (event_of x.state at c) refl takes.serves.0)
   taken_after false at c x y r d (refused, same, none) = events_are (answered r ∷ []) d no_effects none (refused_after r _ refused)
 
-  one_after : (now : ℕ) (e : Exchange) (x y : ExecutorView D) (d : Effects) → IsAt now e → Does view e x y d
+  one_after : (now : ℕ) (e : Exchange) (x y : ExecutorView S) (d : Effects) → IsAt now e → Does view e x y d
       → BackedBy (map answered (replies_of e)) d.events
   one_after now (Took (input.Request at (asked.Command c)) r) x y d is does = taken_after x.is_open at c x y r d does
   one_after now (Took (input.Request at (asked.Question q)) r) x y d is does = absurd is
@@ -146,7 +146,7 @@ module _ {D : Type 0} (view : D → DiskView) where
   one_after now Cleared x y d is does = absurd is
   one_after now Abandoned x y d is does = absurd is
 
-  calls_sent : (now : ℕ) (es : List Exchange) (x y : ExecutorView D) (d : Effects) → AllByRecursion (IsAt now) es → Calls view x es y d
+  calls_sent : (now : ℕ) (es : List Exchange) (x y : ExecutorView S) (d : Effects) → AllByRecursion (IsAt now) es → Calls view x es y d
       → BackedBy (map answered (flat_map replies_of es)) d.events
   calls_sent now [] x y d at (same, none) = events_are [] d no_effects none nothing
   calls_sent now (e ∷ es) x y d at (mid, first, later, does, calls, is) =
@@ -155,7 +155,7 @@ module _ {D : Type 0} (view : D → DiskView) where
       (both_after (map answered (replies_of e)) first.events (map answered (flat_map replies_of es)) later.events
       (one_after now e x mid first at.0 does) (calls_sent now es mid y later at.1 calls)))
 
-  pub commands_hold : (now : ℕ) (cs : List Command) (x y : ExecutorView D) (rs : List Reply) → TakesCommands view now cs x y rs
+  pub commands_hold : (now : ℕ) (cs : List Command) (x y : ExecutorView S) (rs : List Reply) → TakesCommands view now cs x y rs
       → IsBacked view x y (map answered rs)
   commands_hold now cs x y rs does =
       let takes = commands_called view now cs rs x y does in record {
@@ -169,50 +169,50 @@ module _ {D : Type 0} (view : D → DiskView) where
       }
 
   -- a turn, a turn that begins nothing, a tidy, and an emptied book
-  pub turn_holds : (now : ℕ) (x y : ExecutorView D) (end : TurnEnd) → x.is_open ≡ true → TakesTurn view now x y end
+  pub turn_holds : (now : ℕ) (x y : ExecutorView S) (end : TurnEnd) → x.is_open ≡ true → TakesTurn view now x y end
       → IsBacked view x y (noticed y)
   turn_holds now x y end is_open takes =
       one_holds x y (Took (input.Turn now) (reply.Turn end)) takes.turns.effects (noticed y)
       (while_open _ is_open (record { end = end; takes = takes; replies = refl; does = refl })) refl
       (turn_after y.children.book y.children.held end _ takes.turns.effects y.reported takes.turns.does)
 
-  pub finish_holds : (now : ℕ) (x y : ExecutorView D) (end : TurnEnd) → x.is_open ≡ true → FinishesTurn view now x y end
+  pub finish_holds : (now : ℕ) (x y : ExecutorView S) (end : TurnEnd) → x.is_open ≡ true → FinishesTurn view now x y end
       → IsBacked view x y (noticed y)
   finish_holds now x y end is_open takes =
       one_holds x y (Finished now end) takes.turns.effects (noticed y) (while_open _ is_open (takes, refl)) refl
       (finish_after y.children.book y.children.held end _ takes.turns.effects y.reported takes.turns.does)
 
-  pub tidied_holds : (x y : ExecutorView D) (end : TidyEnd) → TidiesWhile x.is_open view x y end → IsBacked view x y []
+  pub tidied_holds : (x y : ExecutorView S) (end : TidyEnd) → TidiesWhile x.is_open view x y end → IsBacked view x y []
   tidied_holds x y end tidies = one_holds x y (Tidied end) no_effects [] (tidies, refl) refl nothing
 
-  pub tidy_holds : (x y : ExecutorView D) (end : TidyEnd) → x.is_open ≡ true → Tidies view x y end → IsBacked view x y []
+  pub tidy_holds : (x y : ExecutorView S) (end : TidyEnd) → x.is_open ≡ true → Tidies view x y end → IsBacked view x y []
   tidy_holds x y end is_open tidies =
       tidied_holds x y end (while_open _ is_open tidies)
 
-  pub cleared_holds : (x y : ExecutorView D) → y ≡ with_empty_book x → IsBacked view x y []
+  pub cleared_holds : (x y : ExecutorView S) → y ≡ with_empty_book x → IsBacked view x y []
   cleared_holds x y cleared = one_holds x y Cleared no_effects [] (cleared, refl) refl nothing
 
   -- what may be sent of an executor after calls
-  pub may_send : (client_view : ClientView D) (x y : ExecutorView D) (what : Message) → AllBacked view client_view x → IsBacked view x y (sent_in what)
+  pub may_send : (client_view : ClientView S) (x y : ExecutorView S) (what : Message) → AllBacked view client_view x → IsBacked view x y (sent_in what)
       → IsOfView y what → MaySend view client_view y what
   may_send client_view x y what holds more says =
       record { holds = both_hold client_view.opened x y client_view.reported (sent_in what) holds more; says = says }
 
   -- calls of which nothing is sent
-  pub all_still_hold : (client_view : ClientView D) (x y : ExecutorView D) → AllBacked view client_view x → IsBacked view x y [] → AllBacked view client_view y
+  pub all_still_hold : (client_view : ClientView S) (x y : ExecutorView S) → AllBacked view client_view x → IsBacked view x y [] → AllBacked view client_view y
   all_still_hold client_view x y holds more = still_hold client_view.opened x y client_view.reported holds more
 
   -- a reply to a line, of an executor after calls
-  pub may_reply : (client_view : ClientView D) (x y : ExecutorView D) (given : LineReply) → AllBacked view client_view x
+  pub may_reply : (client_view : ClientView S) (x y : ExecutorView S) (given : LineReply) → AllBacked view client_view x
       → IsBacked view x y (Answered given ∷ []) → MayReply y given → MayBeReplied view client_view y given
   may_reply client_view x y given holds more says = (both_hold client_view.opened x y client_view.reported (Answered given ∷ []) holds more, says)
 
   -- a reply that claims nothing
-  pub may_reply_none : (client_view : ClientView D) (x : ExecutorView D) (given : LineReply) → AllBacked view client_view x → claims (Answered given) ≡ false
+  pub may_reply_none : (client_view : ClientView S) (x : ExecutorView S) (given : LineReply) → AllBacked view client_view x → claims (Answered given) ≡ false
       → MayReply x given → MayBeReplied view client_view x given
   may_reply_none client_view x given holds none says =
       may_reply client_view x x given holds (none_holds x x (Answered given ∷ []) refl (states_nothing (Answered given) none)) says
 
   -- all agent processes are given up
-  pub abandoned_holds : (x y : ExecutorView D) → Abandons x y → IsBacked view x y []
+  pub abandoned_holds : (x y : ExecutorView S) → Abandons x y → IsBacked view x y []
   abandoned_holds x y given_up = one_holds x y Abandoned no_effects [] (given_up, refl) refl nothing

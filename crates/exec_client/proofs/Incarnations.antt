@@ -13,7 +13,7 @@ by_lists : (ss ts : List SentItem) (es fs : List Event) → ss ≡ ts → es ≡
 by_lists ss ts es fs same same2 b =
     subst (λ (ns : List SentItem). BackedBy ns es) (sym same) (subst (λ (gs : List Event). BackedBy ts gs) (sym same2) b)
 
-pub sent_lives : {D : Type 0} (start : State) (incarnations : List (Incarnation D)) (reported : List SentItem) (zs : List Event) → SentOver incarnations reported
+pub sent_lives : {S : Type 0} (start : State) (incarnations : List (Incarnation S)) (reported : List SentItem) (zs : List Event) → SentOver incarnations reported
     → SurvivingEvents start incarnations zs → BackedBy reported zs
 sent_lives start [] reported zs none same = by_lists reported [] zs [] none same nothing
 sent_lives start (InOpening old new now end ∷ older) reported zs over (ys, surviving, inl same) =

@@ -14,7 +14,7 @@ use Rattle.exec_client.specs.SentItem.{Noticed, Reported, answered, line_of, lin
 use Rattle.exec_client.specs.Signals.{signal_of}
 use Rattle.exec_client.specs.Tags.{TagsView, after_notice, after_reply, first_tag, next_line, tag_of_call}
 use Rattle.exec_client.specs.MessageTags.{after_notices, after_replies, notice_tags}
-use Rattle.exec_client.specs.declared.reasons.RunReason.{RunReason}
+use Rattle.resource_status.specs.declared.reasons.RunReason.{RunReason}
 use Rattle.exec_client.proofs.Along.{Along, along_all, along_more, along_part, drop_next, drop_none}
 
 -- bytes that are equal

@@ -11,7 +11,7 @@ use Rattle.ocf_types.specs.declared.event.Step.TheVariants as step
 use Rattle.ocf_types.specs.declared.refusal.Refusal.{Refusal}
 use Rattle.ocf_types.specs.declared.refusal.Refusal.TheVariants.{Disk}
 use Rattle.ocf_types.specs.declared.reply.ReplyOf.TheVariants as reply
-use Rattle.disk_model.specs.Disk.{DiskView}
+use Rattle.store_model.specs.StoreView.{StoreView}
 use Rattle.exec_ledger.specs.Commands.{Obeys}
 use Rattle.executor.specs.Incarnations.{Abandoned, Calls, Cleared, Does, Exchange, Finished, Batch, Tidied, Took}
 use Rattle.exec_ledger.specs.Replies.{IsReplyTo, acknowledged}
@@ -27,7 +27,7 @@ all_both : {X : Type 0} (P : X → Type 0) (xs ys : List X) → AllByRecursion P
 all_both P [] ys one two = two
 all_both P (x ∷ xs) ys one two = (one.0, all_both P xs ys one.1 two)
 
-module _ {D : Type 0} (z : ExecutorView D) where
+module _ {S : Type 0} (z : ExecutorView S) where
   abbrev Plain : Reply → Type 0
   Plain r = MayAnswer z r
 
@@ -54,7 +54,7 @@ module _ {D : Type 0} (z : ExecutorView D) where
   reply_plain e r (inr (inr (inl is))) = is_plain r _ is tt
   reply_plain e r (inr (inr (inr is))) = is_plain r _ is tt
 
-  pub obeys_plain : (view : D → DiskView) (x y : ExecutorView D) (r : Reply) (found : Result Event Refusal) → Obeys view found (ledger_of x) (ledger_of y) r → Plain r
+  pub obeys_plain : (view : S → StoreView) (x y : ExecutorView S) (r : Reply) (found : Result Event Refusal) → Obeys view found (ledger_of x) (ledger_of y) r → Plain r
   obeys_plain view x y r (Err why) (refused, same) = is_plain r _ refused tt
   obeys_plain view x y r (Ok e) records = reply_plain e r records.reported
 
@@ -95,13 +95,13 @@ module _ {D : Type 0} (z : ExecutorView D) where
   batch_plain true now s cs meant es given = answered_plain now s cs meant es given
   batch_plain false now s cs meant es given = failed_plain meant
 
-  module _ (view : D → DiskView) where
-    taken_plain : (b : Bool) (at : ℕ) (c : Command) (x y : ExecutorView D) (r : Reply) (d : Effects)
+  module _ (view : S → StoreView) where
+    taken_plain : (b : Bool) (at : ℕ) (c : Command) (x y : ExecutorView S) (r : Reply) (d : Effects)
         → TakesWhile b view (input.Request at (asked.Command c)) x y r d → Plain r
     taken_plain true at c x y r d takes = obeys_plain view x y r (event_of x.state at c) takes.serves.0
     taken_plain false at c x y r d (refused, same, none) = is_plain r _ refused tt
 
-    one_plain : (now : ℕ) (e : Exchange) (x y : ExecutorView D) (d : Effects) → IsAt now e → Does view e x y d → AllByRecursion Plain (replies_of e)
+    one_plain : (now : ℕ) (e : Exchange) (x y : ExecutorView S) (d : Effects) → IsAt now e → Does view e x y d → AllByRecursion Plain (replies_of e)
     one_plain now (Took (input.Request at (asked.Command c)) r) x y d is does = (taken_plain x.is_open at c x y r d does, tt)
     one_plain now (Took (input.Request at (asked.Question q)) r) x y d is does = absurd is
     one_plain now (Took (input.Turn at) r) x y d is does = absurd is
@@ -113,14 +113,14 @@ module _ {D : Type 0} (z : ExecutorView D) where
     one_plain now Cleared x y d is does = absurd is
     one_plain now Abandoned x y d is does = absurd is
 
-    calls_plain : (now : ℕ) (es : List Exchange) (x y : ExecutorView D) (d : Effects) → AllByRecursion (IsAt now) es → Calls view x es y d
+    calls_plain : (now : ℕ) (es : List Exchange) (x y : ExecutorView S) (d : Effects) → AllByRecursion (IsAt now) es → Calls view x es y d
         → AllByRecursion Plain (flat_map replies_of es)
     calls_plain now [] x y d at calls = tt
     calls_plain now (e ∷ es) x y d at (mid, first, later, does, calls, is) =
         all_both Plain (replies_of e) (flat_map replies_of es) (one_plain now e x mid first at.0 does)
         (calls_plain now es mid y later at.1 calls)
 
-    pub commands_plain : (now : ℕ) (cs : List Command) (x y : ExecutorView D) (rs : List Reply) → TakesCommands view now cs x y rs
+    pub commands_plain : (now : ℕ) (cs : List Command) (x y : ExecutorView S) (rs : List Reply) → TakesCommands view now cs x y rs
         → AllByRecursion Plain rs
     commands_plain now cs x y rs takes =
         let called = commands_called view now cs rs x y takes in

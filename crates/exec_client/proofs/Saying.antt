@@ -37,14 +37,14 @@ answer_none s question.List = refl
 answer_none s (question.Info id) = sent_none (resource_at s id) (λ r. reply.Info (info_of id r)) (λ r. refl)
 answer_none s (question.History id) = sent_none (resource_at s id) (λ r. reply.History r.history.ended) (λ r. refl)
 
-pub no_claim : {D : Type 0} (x : ExecutorView D) (q : Question) (given : Reply) → IsReplyOrMemory (reply_to x.state q) given
+pub no_claim : {S : Type 0} (x : ExecutorView S) (q : Question) (given : Reply) → IsReplyOrMemory (reply_to x.state q) given
     → claims (answered given) ≡ false
 no_claim x q given is = elim (is_or_memory (reply_to x.state q) given is) [
   | inl same ↦ ap (λ (r : Reply). claims (answered r)) same ∙ answer_none x.state q
   | inr memory ↦ ap (λ (r : Reply). claims (answered r)) memory
 ]
 
-module _ {D : Type 0} (x : ExecutorView D) (question : Question) (is_open : x.is_open ≡ true) where
+module _ {S : Type 0} (x : ExecutorView S) (question : Question) (is_open : x.is_open ≡ true) where
   from_state : (given : Reply) → given ≡ reply_to x.state question → MayAnswer x given
   from_state (reply.Refused why) is = tt
   from_state reply.Done is = tt

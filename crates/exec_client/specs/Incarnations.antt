@@ -6,7 +6,7 @@ use Rattle.exec_client.specs.SentItem.{SentItem}
 
 -- these messages were sent over these incarnations, the last one first: in each incarnation the messages are backed by what its calls had
 -- recorded when they returned
-abbrev pub SentOver : {D : Type 0} → List (Incarnation D) → List SentItem → Type 0
+abbrev pub SentOver : {S : Type 0} → List (Incarnation S) → List SentItem → Type 0
 SentOver [] reported = reported ≡ []
 SentOver (InOpening old new now end ∷ older) reported = SentOver older reported
 SentOver (Up x ∷ older) reported =

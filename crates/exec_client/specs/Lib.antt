@@ -1,5 +1,4 @@
 pub mod Signals
-pub mod Reasons
 pub mod Tags
 pub mod Waiting
 pub mod SentItem

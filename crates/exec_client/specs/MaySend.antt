@@ -6,7 +6,7 @@ use Rattle.ocf_types.specs.Kinds.{Reply}
 use Rattle.ocf_types.specs.declared.command.Question.{Question}
 use Rattle.ocf_types.specs.declared.reply.Notice.{Notice}
 use Rattle.ocf_types.specs.declared.reply.ReplyOf.TheVariants as reply
-use Rattle.disk_model.specs.Disk.{DiskView}
+use Rattle.store_model.specs.StoreView.{StoreView}
 use Rattle.executor.specs.Incarnations.{Calls, Exchange}
 use Rattle.executor.specs.Sessions.{Effects}
 use Rattle.executor.specs.ExecutorView.{ExecutorView}
@@ -15,6 +15,7 @@ use Rattle.exec_commands.specs.declared.reply.LineReply.{LineReply}
 use Rattle.exec_commands.specs.declared.reply.LineReply.TheVariants as line
 use Rattle.exec_commands.specs.declared.service.Counts.{Counts}
 use Rattle.resource_status.specs.Statuses.{statuses_of}
+use Rattle.resource_status.specs.declared.reasons.RunReason.{RunReason}
 use Rattle.exec_client.specs.BackedBy.{BackedBy}
 use Rattle.exec_client.specs.ClientView.{ClientView}
 use Rattle.exec_client.specs.SentItem.{Answered, SentItem, sent_in}
@@ -24,7 +25,7 @@ use Rattle.exec_client.specs.declared.message.Message.TheVariants as message
 
 -- Calls lead from one view of an executor to another. The messages are exactly what these calls answered, with nothing left out, and the
 -- events that the calls recorded back them.
-pub record IsBacked {D : Type 0} (view : D → DiskView) (old new : ExecutorView D) (items : List SentItem) : Type 0 where
+pub record IsBacked {S : Type 0} (view : S → StoreView) (old new : ExecutorView S) (items : List SentItem) : Type 0 where
   pub calls : List Exchange
   pub effects : Effects
   pub leads : Calls view old calls new effects
@@ -32,11 +33,11 @@ pub record IsBacked {D : Type 0} (view : D → DiskView) (old new : ExecutorView
   pub backed : BackedBy items effects.events
 
 -- the reply is what an open executor answers to some question, from its state
-abbrev pub IsAnswer : {D : Type 0} → ExecutorView D → Reply → Type 0
+abbrev pub IsAnswer : {S : Type 0} → ExecutorView S → Reply → Type 0
 IsAnswer x given = (x.is_open ≡ true) × (question : Question) × (given ≡ reply_to x.state question)
 
 -- a reply may be sent: if it reports on the state, it is the answer from that state
-abbrev pub MayAnswer : {D : Type 0} → ExecutorView D → Reply → Type 0
+abbrev pub MayAnswer : {S : Type 0} → ExecutorView S → Reply → Type 0
 MayAnswer x (reply.List ids) = IsAnswer x (reply.List ids)
 MayAnswer x (reply.Info info) = IsAnswer x (reply.Info info)
 MayAnswer x (reply.History results) = IsAnswer x (reply.History results)
@@ -44,25 +45,25 @@ MayAnswer x _ = ⊤
 
 -- these are the numbers of the executor's resources, and of the results that its opening reported as interrupted and as dropped, and its
 -- next call
-abbrev pub IsCounted : {D : Type 0} → ExecutorView D → Counts → Type 0
+abbrev pub IsCounted : {S : Type 0} → ExecutorView S → Counts → Type 0
 IsCounted x counts =
     (counts.resources ≡ length x.state.resources) × (counts.interrupted ≡ length x.opening_report.interrupted)
     × (counts.dropped ≡ length x.opening_report.dropped) × (counts.next_call ≡ x.state.next_call)
 
--- a reply to a line may be sent: a reply to a request as above; a status is that of the state of an open executor, and the
--- counts of the line that the session is ready are those of its opening
-abbrev pub MayReply : {D : Type 0} → ExecutorView D → LineReply → Type 0
+-- a reply to a line may be sent: a reply to a request as above; a status is that of the state of an open executor, with some
+-- reasons for failures, and the counts of the line that the session is ready are those of its opening
+abbrev pub MayReply : {S : Type 0} → ExecutorView S → LineReply → Type 0
 MayReply x (line.Request given) = MayAnswer x given
-MayReply x (line.Status statuses) = (x.is_open ≡ true) × (statuses_in statuses ≡ statuses_of x.state)
+MayReply x (line.Status statuses) = (x.is_open ≡ true) × (reasons : List RunReason) × (statuses_in statuses ≡ statuses_of reasons x.state)
 MayReply x (line.Ready counts) = IsCounted x counts
 MayReply x _ = ⊤
 
 -- the opening of this executor reported these notices as interrupted, or as dropped
-abbrev pub IsReported : {D : Type 0} → ExecutorView D → List Notice → Type 0
+abbrev pub IsReported : {S : Type 0} → ExecutorView S → List Notice → Type 0
 IsReported x notices = (notices ≡ x.opening_report.interrupted) ⊎ (notices ≡ x.opening_report.dropped)
 
 -- a message may be sent by its content: answers are from the settled state, and a report is that of the opening
-abbrev pub IsOfView : {D : Type 0} → ExecutorView D → Message → Type 0
+abbrev pub IsOfView : {S : Type 0} → ExecutorView S → Message → Type 0
 IsOfView x (message.Reply given) = MayReply x given.now
 IsOfView x (message.News given) = MayReply x given.now
 IsOfView x (message.Replies given) = AllByRecursion (MayAnswer x) given.now
@@ -70,14 +71,14 @@ IsOfView x (message.Notices turn) = ⊤
 IsOfView x (message.Report notices) = IsReported x notices.now
 
 -- all messages that were sent are backed by what the executor recorded since it was opened
-abbrev pub AllBacked : {D : Type 0} → (D → DiskView) → ClientView D → ExecutorView D → Type 0
+abbrev pub AllBacked : {S : Type 0} → (S → StoreView) → ClientView S → ExecutorView S → Type 0
 AllBacked view client_view x = IsBacked view client_view.opened x client_view.reported
 
 -- This message may be sent to a client of an executor in this view: all that was sent is recorded, and so is this message.
-pub record MaySend {D : Type 0} (view : D → DiskView) (client_view : ClientView D) (x : ExecutorView D) (what : Message) : Type 0 where
+pub record MaySend {S : Type 0} (view : S → StoreView) (client_view : ClientView S) (x : ExecutorView S) (what : Message) : Type 0 where
   pub holds : IsBacked view client_view.opened x (client_view.reported ++ sent_in what)
   pub says : IsOfView x what
 
 -- this reply to a line may be sent
-abbrev pub MayBeReplied : {D : Type 0} → (D → DiskView) → ClientView D → ExecutorView D → LineReply → Type 0
+abbrev pub MayBeReplied : {S : Type 0} → (S → StoreView) → ClientView S → ExecutorView S → LineReply → Type 0
 MayBeReplied view client_view x given = IsBacked view client_view.opened x (client_view.reported ++ Answered given ∷ []) × MayReply x given

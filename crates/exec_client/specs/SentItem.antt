@@ -8,12 +8,12 @@ use Rattle.exec_commands.specs.declared.notice.Origin.TheVariants.{Opening, Turn
 use Rattle.exec_commands.specs.declared.reply.LineReply.{LineReply}
 use Rattle.exec_commands.specs.declared.reply.LineReply.TheVariants.{Request}
 use Rattle.child_model.specs.declared.answer.Entry.{Entry}
-use Rattle.exec_client.specs.Reasons.{reason_of}
+use Rattle.resource_status.specs.Reasons.{reason_of}
 use Rattle.exec_client.specs.Signals.{signal_of}
 use Rattle.exec_client.specs.Tags.{LineTag, first_tag}
 use Rattle.exec_client.specs.declared.message.Message.{Message}
 use Rattle.exec_client.specs.declared.message.Message.TheVariants as message
-use Rattle.exec_client.specs.declared.reasons.RunReason.{RunReason}
+use Rattle.resource_status.specs.declared.reasons.RunReason.{RunReason}
 
 -- a reply to a line or other news; a notice of a turn, with the signal that ended its run, if one did; or a line of the opening's report
 pub data SentItem : Type 0 where

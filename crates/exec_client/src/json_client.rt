@@ -10,20 +10,21 @@ ghost use Rattle.exec_client.specs.MessageTags.{after_sent, sent_tags};
 use crate::client::Client;
 use crate::message::Message;
 use crate::notices::send_turn;
-use crate::reasons::{Reasons, reasons_for};
+use crate::reasons::{Asking, Reasons};
 use crate::replies::{Making, send_answer, send_answers, send_news};
 use crate::sent_log::SentLog;
 use crate::tags::Tags;
 use child_model::Children;
-use disk_model::Disk;
 use exec_commands::{NoticeForm, Tag};
 use exec_lines::Output;
 use exec_messages::{IoFault, send_notices};
-use executor::Executor;
+use executor::On;
 use growth::Grows;
 use past::Seen;
+use resource_status::RunReason;
 use std::alloc::{AllocError, Global};
 use std::io::Write;
+use store_model::Store;
 
 /// A client of an executor of this type, which writes messages as lines. It owns the writer, and what knows the reasons of failures.
 #[derive(Drop)]
@@ -86,20 +87,20 @@ impl<E, W: Output, R: Reasons> JsonClient<E, W, R> {
     }
 }
 
-impl<D: Disk + Drop, C: Children + Drop, W: Output, R: Reasons> Client<D, C>
-    for JsonClient<Executor<D, C>, W, R> {
+impl<S: Store + Drop, C: Children + Drop, W: Output, R: Reasons> Client<S, C>
+    for JsonClient<On<S, C>, W, R> {
     ghost client_view = { λ t. record { opened = t.opened.value; reported = t.sent_log.items; written = W.contents t.writer } };
 
     ghost refuses = { ⟦<Global as Grows>⟧.refuses };
 
     fn send(
         &mut self,
-        executor: &Executor<D, C>,
+        executor: &On<S, C>,
         form: NoticeForm,
         what: &Message,
     ) -> Result<(), IoFault> {
         self.sent_log.note(what);
-        let reasons = reasons_for(self.alloc, &mut self.reasons, what);
+        let reasons = Asking::new(self.alloc, &self.reasons, executor.state()).of_message(what);
         let making = Making {
             alloc: self.alloc,
             form,
@@ -110,6 +111,10 @@ impl<D: Disk + Drop, C: Children + Drop, W: Output, R: Reasons> Client<D, C>
 
     fn note_tag(&mut self, tag: Option<Tag>) -> Result<(), AllocError> {
         self.tags.note(tag)
+    }
+
+    fn failure_reasons(&self, executor: &On<S, C>) -> Vec<RunReason> {
+        Asking::new(self.alloc, &self.reasons, executor.state()).of_resources()
     }
 
     fn has_reader(&self) -> bool {

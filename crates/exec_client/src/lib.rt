@@ -17,5 +17,5 @@ mod waiting;
 pub use client::Client;
 pub use json_client::JsonClient;
 pub use message::{Message, TurnNotices};
-pub use reasons::{NoReasons, Reasons, RunReason};
+pub use reasons::{FailedRun, NoReasons, Reasons};
 pub use tags::Tags;

@@ -5,10 +5,10 @@ ghost use Rattle.exec_client.specs.Sends.{noticed};
 ghost use Rattle.exec_client.specs.declared.message.Message.TheVariants.{Notices};
 
 use child_model::{Children, Entry};
-use disk_model::Disk;
 use exec_commands::LineReply;
-use executor::Executor;
+use executor::On;
 use ocf_types::{Notice, Reply};
+use store_model::Store;
 
 /// The notices of a turn, and what the agent processes had answered by its end. The signal that ended a run is found there, since the
 /// journal does not record it.
@@ -20,8 +20,8 @@ pub struct TurnNotices<'a> {
 
 impl<'a> TurnNotices<'a> {
     /// The notices of the executor's last turn.
-    pub fn of_executor<D: Disk + Drop, C: Children + Drop>(
-        executor: &'a Executor<D, C>,
+    pub fn of_executor<S: Store + Drop, C: Children + Drop>(
+        executor: &'a On<S, C>,
     ) -> TurnNotices<'a>
         ensures items { sent_in (Notices result) ≡ noticed executor.now }
     {

@@ -9,7 +9,6 @@ ghost use Rattle.exec_client.specs.Tags.{after_notice, tag_of_call};
 ghost use Rattle.exec_client.specs.MessageTags.{after_notices, notice_tags};
 
 use crate::message::TurnNotices;
-use crate::reasons::reason_of;
 use crate::replies::Making;
 use crate::signals::signal_of;
 use crate::tags::Tags;
@@ -18,6 +17,7 @@ use exec_commands::{Origin, Tagged};
 use exec_messages::{IoFault, send_notice};
 use growth::Grows;
 use ocf_types::Notice;
+use resource_status::reason_of;
 use std::alloc::Global;
 use std::io::Write;
 

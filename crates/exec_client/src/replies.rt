@@ -9,12 +9,12 @@ ghost use Rattle.exec_client.specs.SentItem.{Answered, answered, line_of, lines_
 ghost use Rattle.exec_client.specs.Tags.{after_line_reply, after_reply, first_tag, next_line};
 ghost use Rattle.exec_client.specs.MessageTags.{after_replies};
 
-use crate::reasons::RunReason;
 use crate::tags::Tags;
 use exec_commands::{LineReply, NoticeForm, Tagged};
 use exec_messages::{IoFault, put_reply, send_reply};
 use growth::Grows;
 use ocf_types::Reply;
+use resource_status::RunReason;
 use std::alloc::Global;
 use std::io::Write;
 

@@ -5,15 +5,16 @@ ghost use Rattle.exec_events.specs.Events.{IsEventLine, WritesEvents, notices_in
 
 use crate::lines::event_line;
 use child_model::Children;
-use disk_model::Disk;
 use exec_client::{Client, Message};
 use exec_commands::{NoticeForm, Tag};
 use exec_lines::write_flushed;
 use exec_messages::IoFault;
-use executor::Executor;
+use executor::On;
 use ocf_types::Notice;
+use resource_status::RunReason;
 use std::alloc::{AllocError, Global};
 use std::io::Write;
+use store_model::Store;
 
 /// Which lines are written for a person.
 #[derive(Clone, Copy, Debug, PartialEq, Eq)]
@@ -95,7 +96,7 @@ fn notices_in<'a>(what: &Message<'a>) -> &'a [Notice]
     }
 }
 
-impl<D: Disk + Drop, C: Children + Drop, T: Client<D, C>, W: Write> Client<D, C>
+impl<S: Store + Drop, C: Children + Drop, T: Client<S, C>, W: Write> Client<S, C>
     for Eventful<T, W> {
     ghost client_view = { λ e. T.client_view e.client };
 
@@ -103,7 +104,7 @@ impl<D: Disk + Drop, C: Children + Drop, T: Client<D, C>, W: Write> Client<D, C>
 
     fn send(
         &mut self,
-        executor: &Executor<D, C>,
+        executor: &On<S, C>,
         form: NoticeForm,
         what: &Message,
     ) -> Result<(), IoFault> {
@@ -125,6 +126,10 @@ impl<D: Disk + Drop, C: Children + Drop, T: Client<D, C>, W: Write> Client<D, C>
 
     fn note_tag(&mut self, tag: Option<Tag>) -> Result<(), AllocError> {
         self.client.note_tag(tag)
+    }
+
+    fn failure_reasons(&self, executor: &On<S, C>) -> Vec<RunReason> {
+        self.client.failure_reasons(executor)
     }
 
     fn has_reader(&self) -> bool {

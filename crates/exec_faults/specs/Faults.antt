@@ -9,6 +9,7 @@ use Rattle.exec_faults.specs.declared.fault.Fault.TheVariants as fault
 
 -- the exit status of the process
 abbrev pub status_of : Fault → ℕ
+status_of fault.Failed = 1
 status_of fault.Usage = 2
 status_of fault.Choice = 2
 status_of fault.NotText = 2

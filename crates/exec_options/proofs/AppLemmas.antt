@@ -1,5 +1,5 @@
 -- The command line after adding arguments and subcommands, and the result of a parse.
-use Rattle.std.proofs.Common.{◌≡◌, ◌+◌, ◌<◌, ◌++◌, ℕ, Bool, false, ◌||◌, List, [], ◌∷◌, Option, Some, None, get_or, length, map, take, option_map, refl, ap, ap₂, ◌∙◌, sym}
+use Rattle.std.proofs.Common.{◌≡◌, ◌+◌, ◌<◌, ℕ, Bool, false, ◌||◌, List, [], ◌∷◌, Option, Some, None, get_or, length, map, take, option_map, refl, ap, ap₂, ◌∙◌, sym}
 use Rattle.std.proofs.Math.Bool.{or-false}
 use Rattle.std.proofs.lemmas.List.{map_more}
 use Rattle.std.proofs.lemmas.List.Sums.{fold-append}

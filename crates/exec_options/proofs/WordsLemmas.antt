@@ -1,5 +1,5 @@
 -- The result of parsing the arguments of the command line, and arguments that give no options.
-use Rattle.std.proofs.Common.{◌≡◌, ◌≢◌, true, is_some, inl, inr, List, [], Option, None, Some, option_map, unwrap_or, ap, subst, ◌∙◌, sym}
+use Rattle.std.proofs.Common.{◌≡◌, ◌≢◌, true, inl, inr, List, [], Option, None, Some, option_map, unwrap_or, ap, subst, ◌∙◌, sym}
 use Rattle.clap.specs.Words.{Row, Text, app_of, fault_of, is_simple, is_simple_and_free, subcommand_name_of, subcommand_of}
 use Rattle.clap.specs.Words.{subcommand_rows_of, HasMatchesOf, Kinds}
 use Rattle.clap.specs.declared.builder.command.Command.{Command}

@@ -62,6 +62,9 @@ agent_rules =
     text (codes "log") ∷ (text (codes "logs") ∷ (flag (codes "events")
     ∷ (text_or (codes "orphans") ORPHANS.now ∷ (flag (codes "leave-orphans") ∷ []))))
 
+abbrev pub run_rules : List Rule
+run_rules = flag (codes "strict") ∷ []
+
 -- what `status` and `log` print
 abbrev pub shown_rules : List Rule
 shown_rules = words (codes "resource") ∷ (flag (codes "json") ∷ (flag (codes "failed") ∷ (text (codes "color") ∷ [])))
@@ -80,9 +83,12 @@ call_rules =
     word (codes "agent") ∷ (word (codes "action") ∷ (words (codes "parameters") ∷ (text_or (codes "timeout") TIMEOUT.now
     ∷ (text (codes "level") ∷ (text (codes "id") ∷ (text (codes "of") ∷ (text (codes "journal") ∷ (flag (codes "beside") ∷ []))))))))
 
--- a subcommand that reads commands, and one that reads a journal
+-- a subcommand that reads commands, `run`, and a subcommand that reads a journal
 abbrev pub session_app : List ℕ → App
 session_app name = with_rules (with_rules (with_rules (with_rules (new_app name) location_rules) kept_rules) site_rules) agent_rules
+
+abbrev pub run_app : App
+run_app = with_rules (session_app (codes "run")) run_rules
 
 abbrev pub query_app : List ℕ → App
 query_app name = with_rules (new_app name) location_rules
@@ -105,7 +111,7 @@ top_app =
 -- the whole command line
 abbrev pub ocfexec_app : App
 ocfexec_app =
-    let with_run = with_subcommand top_app (session_app (codes "run")).top in
+    let with_run = with_subcommand top_app run_app.top in
     let with_serve = with_subcommand with_run (session_app (codes "serve")).top in
     let with_show = with_subcommand with_serve (query_app (codes "show")).top in
     let with_status = with_subcommand with_show status_app.top in

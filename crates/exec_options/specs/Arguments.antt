@@ -127,6 +127,7 @@ pub record IsReadFrom (rows : List Row) (o : Options) : Type 0 where
   pub leave_orphans : o.leave_orphans ≡ is_set (codes "leave-orphans") rows
   pub resources : named_ids o.resources ≡ texts_in (codes "resource") rows
   pub json : o.json ≡ is_set (codes "json") rows
+  pub strict : o.strict ≡ is_set (codes "strict") rows
   pub exit_code : o.exit_code ≡ is_set (codes "exit-code") rows
   pub failed : o.failed ≡ is_set (codes "failed") rows
   pub times : o.times ≡ is_set (codes "times") rows

@@ -2,7 +2,7 @@
 ghost use Rattle.std.specs.Prelude.{◌≡◌, false, IfOk, IsTrue, OnErr, map};
 ghost use Rattle.clap.specs.Words.{app_of, new_app, rule_of};
 ghost use Rattle.clap.specs.declared.builder.command.Command.TheViews.{out-Command};
-ghost use Rattle.exec_options.specs.App.{log_app, ocfexec_app, once_app, query_app, rule_for, session_app, status_app, top_app, with_rules};
+ghost use Rattle.exec_options.specs.App.{log_app, ocfexec_app, once_app, query_app, rule_for, run_app, session_app, status_app, top_app, with_rules};
 
 use crate::table::{self, Argument, Form, SubcommandTexts};
 use crate::texts;
@@ -69,6 +69,18 @@ fn session<'a>(alloc: Global, texts: SubcommandTexts<'a>) -> Result<Command<'a>,
     with_group(alloc, command, table::agents())
 }
 
+fn run<'a>(alloc: Global) -> Result<Command<'a>, AllocError>
+    ensures app { IfOk result (λ r. app_of r ≡ run_app) }
+    ensures local { IfOk result (λ r. (out-Command r).has_globals ≡ false) }
+{
+    let texts = SubcommandTexts {
+        name: "run",
+        about: "Reads commands, a JSON object a line, and replies to each",
+        more: texts::RUN,
+    };
+    with_group(alloc, session(alloc, texts)?, table::run())
+}
+
 // A subcommand that reads a journal.
 fn query<'a>(alloc: Global, texts: SubcommandTexts<'a>) -> Result<Command<'a>, AllocError>
     ensures app { IfOk result (λ r. app_of r ≡ query_app texts.entry.name.now) }
@@ -127,12 +139,6 @@ fn top<'a>(alloc: Global) -> Command<'a>
         .subcommand_required(true)
 }
 
-const RUN: SubcommandTexts = SubcommandTexts {
-    name: "run",
-    about: "Reads commands, a JSON object a line, and replies to each",
-    more: texts::RUN,
-};
-
 const SERVE: SubcommandTexts = SubcommandTexts {
     name: "serve",
     about: "The same, and polls agents by itself between commands",
@@ -154,7 +160,7 @@ const METRICS: SubcommandTexts = SubcommandTexts {
 fn ocfexec<'a>(alloc: Global) -> Result<Command<'a>, AllocError>
     ensures { IfOk result (λ c. app_of c ≡ ocfexec_app) }
 {
-    let run = session(alloc, RUN)?;
+    let run = run(alloc)?;
     let serve = session(alloc, SERVE)?;
     let show = query(alloc, SHOW)?;
     let status = status(alloc)?;

@@ -179,6 +179,7 @@ fn options_of<'a>(
         leave_orphans: is_set(matches, "leave-orphans"),
         resources: values::resources(matches)?,
         json: is_set(matches, "json"),
+        strict: is_set(matches, "strict"),
         exit_code: is_set(matches, "exit-code"),
         failed: is_set(matches, "failed"),
         times: is_set(matches, "times"),

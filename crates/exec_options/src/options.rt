@@ -149,6 +149,8 @@ pub struct Options<'a> {
     pub resources: Resources<'a>,
     /// Whether the status or the records are printed as lines of JSON.
     pub json: bool,
+    /// Whether `run` ends with exit status 1 if a line was refused or an action failed.
+    pub strict: bool,
     /// Whether `status` ends with another exit status than 0 if a resource is failed or unknown.
     pub exit_code: bool,
     /// Whether only what failed is printed.

@@ -1,6 +1,6 @@
 //! The arguments of each subcommand: the one table of their names, forms, defaults and help texts.
 ghost use Rattle.std.specs.Prelude.{◌≡◌, map};
-ghost use Rattle.exec_options.specs.App.{agent_rules, call_rules, kept_rules, location_rules, log_rules, rule_for, shown_rules, site_rules, status_rules};
+ghost use Rattle.exec_options.specs.App.{agent_rules, call_rules, kept_rules, location_rules, log_rules, rule_for, run_rules, shown_rules, site_rules, status_rules};
 
 /// The directory of the package's journal, which subcommands that start no agent read if none is named.
 pub const JOURNAL: &str = "/var/lib/ocfexec";
@@ -145,6 +145,12 @@ const AGENTS: &[Argument] = &[
         help: "Leave that alone, and do not wait for it",
     },
 ];
+
+const RUN: &[Argument] = &[Argument {
+    name: "strict",
+    form: Form::Flag,
+    help: "End with 1 if a line was refused or an action failed",
+}];
 
 const SHOWN: &[Argument] = &[
     Argument {
@@ -299,6 +305,13 @@ pub fn agents() -> &'static [Argument<'static>]
     ensures { map rule_for result.now ≡ agent_rules }
 {
     AGENTS
+}
+
+/// The other arguments of `run`.
+pub fn run() -> &'static [Argument<'static>]
+    ensures { map rule_for result.now ≡ run_rules }
+{
+    RUN
 }
 
 /// What `status` and `log` print.

@@ -1,7 +1,7 @@
 //! The texts at the ends of `--help`, and the version. No line is longer than 80 columns.
 
 /// The version of the program.
-pub const VERSION: &str = "0.1.0";
+pub const VERSION: &str = "0.2.0";
 
 /// The end of the program's help: the commands that `run` and `serve` read, and a reference to the manual.
 pub const COMMANDS: &str =
@@ -40,7 +40,7 @@ created in DIR, which must exist. The commands: ocfexec --help.
 
 Examples:
   echo '{\"op\":\"list\"}' | ocfexec run --memory
-  ocfexec run --journal /var/lib/ocfexec < commands";
+  ocfexec run --strict --journal /var/lib/ocfexec < commands || echo check it";
 
 /// The end of the help of `serve`.
 pub const SERVE: &str = "Give exactly one of --journal and --memory. The files part-a and part-b are

@@ -1,5 +1,5 @@
 -- What a session may ask for, from its options.
-use Rattle.std.proofs.Common.{◌≡◌, ℕ, List, Option, Some, inl, inr, option_map, refl}
+use Rattle.std.proofs.Common.{◌≡◌, ℕ, List, Some, inl, inr, option_map, refl}
 use Rattle.exec_options.specs.Arguments.{directory_of}
 use Rattle.exec_options.specs.declared.options.Options.{Options}
 use Rattle.exec_program.specs.Asked.{Asked}

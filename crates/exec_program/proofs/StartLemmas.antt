@@ -1,6 +1,6 @@
 -- Why the program ends as it does.
 use Rattle.std.proofs.Common.{inl, inr, ⊎_elim, ◌||◌, ℕ, List, Result, Ok, Err, Option, ap, refl, subst, sym, ◌≡◌, is_some, Bool, IsTrue, true}
-use Rattle.disk_model.specs.Disk.{DiskView}
+use Rattle.store_model.specs.StoreView.{StoreView}
 use Rattle.child_model.specs.Children.{ChildrenView}
 use Rattle.executor.specs.declared.opening.OpenError.{OpenError}
 use Rattle.executor.specs.declared.opening.OpenError.TheVariants as opening
@@ -24,8 +24,8 @@ use Rattle.journal_directory.specs.Ends.{IsDirectoryEnd}
 use Rattle.exec_program.specs.Starts.{EndsFor, IsEndOf, IsWrittenAs, StartEndsFor, opening_fault, with_status}
 
 -- a session does not end because of its arguments
-ends : {D N T : Type 0} (view : D → DiskView) (source : Source) (rules : Rules) (report : Report N)
-    (p q : SessionPosition D) (r : Result T Fault)
+ends : {S N T : Type 0} (view : S → StoreView) (source : Source) (rules : Rules) (report : Report N)
+    (p q : SessionPosition S) (r : Result T Fault)
     → EndsAs view source rules report p q r → IsRunEnd r
 ends view source rules report p q (Ok done) how = tt
 ends view source rules report p q (Err fault.Usage) how = absurd how
@@ -45,11 +45,12 @@ ends view source rules report p q (Err fault.InputOrOutput) how = tt
 ends view source rules report p q (Err fault.ReplyMemory) how = tt
 ends view source rules report p q (Err fault.ChildrenIgnored) how = absurd how
 ends view source rules report p q (Err fault.NoExecutor) how = absurd how
+ends view source rules report p q (Err fault.Failed) how = absurd how
 
-pub run_ends : {D C N : Type 0} (view : D → DiskView) (tend : C → ChildrenView) (source : Source) (rules : Rules) (report : Report N)
-    (p : SessionPosition D) (edge : EdgeView D) (ended : Result Unit Fault) (disk : D) (children : C)
-    → Ended view tend source rules report p edge ended disk children → IsRunEnd ended
-run_ends view tend source rules report p edge ended disk children ends_so =
+pub run_ends : {S C N : Type 0} (view : S → StoreView) (tend : C → ChildrenView) (source : Source) (rules : Rules) (report : Report N)
+    (p : SessionPosition S) (edge : EdgeView S) (ended : Result Unit Fault) (store : S) (children : C)
+    → Ended view tend source rules report p edge ended store children → IsRunEnd ended
+run_ends view tend source rules report p edge ended store children ends_so =
     ends view source rules report p (session_position (session_view ends_so.last edge.client_view edge.events) edge.left) ended ends_so.ends
 
 -- neither does one that ended as sessions do
@@ -96,6 +97,7 @@ journal_ends named arguments o (Err fault.InputOrOutput) gives ends = (o, gives)
 journal_ends named arguments o (Err fault.ReplyMemory) gives ends = (o, gives)
 journal_ends named arguments o (Err fault.ChildrenIgnored) gives ends = (o, gives)
 journal_ends named arguments o (Err fault.NoExecutor) gives ends = (o, gives)
+journal_ends named arguments o (Err fault.Failed) gives ends = (o, gives)
 
 -- arguments that ask for a journal in the files of a directory
 pub directory_ends : {T : Type 0} (named : Option (List ℕ)) (arguments : List (List ℕ)) (o : Options) (r : Result T Fault) → Gives named arguments o

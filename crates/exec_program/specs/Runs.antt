@@ -1,7 +1,10 @@
--- A session over a disk, and how it ends.
-use Rattle.std.specs.Prelude.{◌≡◌, ◌⊎◌, ℕ, true, codes, List, [], Option, Some, None, not, option_map, Result, Err, is_some}
+-- A session over a store, which in this program is a journal of two files, and how it ends.
+use Rattle.std.specs.Prelude.{◌≡◌, ◌⊎◌, ◌&&◌, ℕ, Bool, true, if◌then◌else◌, codes, List, [], Option, Some, None, not, option_map, Result, Ok, Err, is_some}
 use Rattle.std.specs.declared.alloc.Global.{Global}
 use Rattle.disk_model.specs.Disk.{DiskView}
+use Rattle.store_model.specs.StoreView.{StoreView}
+use Rattle.exec_journal.specs.Journal.{JournalView}
+use Rattle.exec_journal.specs.StoreViews.{store_view}
 use Rattle.child_model.specs.Children.{ChildrenView}
 use Rattle.executor.specs.Openings.{NotOpened, Opened}
 use Rattle.executor.specs.ExecutorView.{ExecutorView}
@@ -28,6 +31,7 @@ use Rattle.exec_session.specs.SessionViews.{at_of}
 use Rattle.exec_session.specs.declared.context.Mode.{Mode}
 use Rattle.exec_session.specs.declared.context.Mode.TheVariants as mode
 use Rattle.exec_trace.specs.Edges.{EdgeView}
+use Rattle.exec_events.specs.Failures.{tell_failure}
 use Rattle.exec_program.specs.Asked.{AreFresh, Asked}
 use Rattle.exec_program.specs.Limits.{book_room, most_turns}
 use Rattle.exec_program.specs.declared.options.Findings.{Findings}
@@ -88,6 +92,11 @@ pub record IsHeldTo (o : Options) (identity : Option (List ℕ)) (left : List Le
 abbrev pub disk_line : List ℕ
 disk_line = codes "{\"end\":\"disk\",\"kind\":\"trouble\"}\n"
 
+-- how a session counts that ended so, in which something failed or not: with `--strict` a failure is a fault
+abbrev pub judged : Options → Bool → Result Unit Fault → Result Unit Fault
+judged o failed (Ok done) = if o.strict && failed then Err fault.Failed else Ok done
+judged o failed (Err f) = Err f
+
 -- how the program ends after its session: in the same way, or by its disk where the session broke off and the served journal is gone
 abbrev pub EndsBy : {F L A S R W H : Type 0} → Asked F L A S R W H → Options → H → Result Unit Fault → Result Unit Fault → Type 0
 EndsBy asked o watch ran ended =
@@ -103,23 +112,24 @@ pub record PreparedRun {F L A S R W H : Type 0} (asked : Asked F L A S R W H) (t
   pub shown : asked.moment now
 
 -- The lines that this reader gives were answered over an executor that was just opened, where these processes live on, with metadata of
--- the options' site. The opening's report is the first output (`Ended`: `Runs`). The session ended like this, and gave back this disk and
--- these agents.
-pub record RunsLines {F L A S R W H D : Type 0} (asked : Asked F L A S R W H) (tend : A → ChildrenView) (gives : S → Source)
-    (left : R → Option (List ℕ)) (contents : W → Option (List ℕ)) (view : D → DiskView) (o : Options) (reader : R) (lives : List Left)
-    (executor : ExecutorView D) (report : Report Global) (ran : Result Unit Fault) (last_disk : D) (last_agents : A) : Type 0 where
+-- the options' site. The opening's report is the first output (`Ended`: `Runs`). The session ended like this, one of its messages told of a
+-- failure or not, and it gave back this store and these agents.
+pub record RunsLines {F L A S R W H T : Type 0} (asked : Asked F L A S R W H) (tend : A → ChildrenView) (gives : S → Source)
+    (left : R → Option (List ℕ)) (contents : W → Option (List ℕ)) (view : T → StoreView) (o : Options) (reader : R) (lives : List Left)
+    (executor : ExecutorView T) (report : Report Global) (ran : Result Unit Fault) (failed : Bool) (last_store : T) (last_agents : A) : Type 0 where
   pub source : S
   pub writer : W
   pub identity : Option (List ℕ)
   pub rules : Rules
-  pub edge : EdgeView D
+  pub edge : EdgeView T
   pub of_journal : asked.identity (directory_of o.journal) identity
   pub of_site : asked.source (site_of o) (not o.no_groups) source
   pub writes : asked.writer (served_directory o) writer
   pub held : IsHeldTo o identity lives rules
   pub runs : Ended view tend (gives source) rules report
       (at_of executor (record { left = left reader; client_view = record { opened = executor; reported = []; written = contents writer }; events = [] }))
-      edge ran last_disk last_agents
+      edge ran last_store last_agents
+  pub fails : failed ≡ tell_failure edge.client_view.reported
 
 -- An executor was opened over this disk, at the site that the options name, and the session that began then ended like this.
 pub record Runs {F L A S R W H D : Type 0} (asked : Asked F L A S R W H) (tend : A → ChildrenView) (gives : S → Source)
@@ -130,18 +140,19 @@ pub record Runs {F L A S R W H D : Type 0} (asked : Asked F L A S R W H) (tend :
   pub watch : H
   pub lives : List Left
   pub now : ℕ
-  pub executor : ExecutorView D
+  pub executor : ExecutorView (JournalView D)
   pub report : Report Global
   pub ran : Result Unit Fault
-  pub last_disk : D
+  pub failed : Bool
+  pub last_store : JournalView D
   pub last_agents : A
   pub holds : PreparedRun asked tend o log agents lives now
-  pub opened : Opened view (view disk) (tend agents) now executor report.interrupted.items report.dropped.items
+  pub opened : Opened view disk (tend agents) now executor report.interrupted.items report.dropped.items
   pub at_site : executor.site ≡ site_of o
   pub reads : asked.reader reader
   pub watches : asked.watch (served_directory o) watch
-  pub lines : RunsLines asked tend gives left contents view o reader lives executor report ran last_disk last_agents
-  pub ends : EndsBy asked o watch ran ended
+  pub lines : RunsLines asked tend gives left contents (store_view view) o reader lives executor report ran failed last_store last_agents
+  pub ends : EndsBy asked o watch (judged o failed ran) ended
 
 -- No executor was opened over this disk, for this cause.
 pub record RunsNot {F L A S R W H D : Type 0} (asked : Asked F L A S R W H) (tend : A → ChildrenView) (view : D → DiskView) (o : Options)
@@ -153,7 +164,7 @@ pub record RunsNot {F L A S R W H D : Type 0} (asked : Asked F L A S R W H) (ten
   pub now : ℕ
   pub why : OpenError
   pub holds : PreparedRun asked tend o log agents lives now
-  pub refused : NotOpened (view disk) (view last_disk) (tend agents) (tend last_agents) now why
+  pub refused : NotOpened view disk last_disk (tend agents) (tend last_agents) now why
   pub ends : ended ≡ Err (opening_fault why)
 
 -- How the program ends over a disk: with a session; because no executor was opened; or for lack of memory before the disk was asked for

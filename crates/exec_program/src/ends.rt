@@ -2,7 +2,7 @@
 ghost use Rattle.std.specs.Prelude.{◌≡◌, true, IfErr, IsErrOf};
 ghost use Rattle.exec_faults.specs.Faults.{HasCause, IsRunEnd};
 ghost use Rattle.exec_program.specs.Requests.{Allows, IsOfStreams};
-ghost use Rattle.exec_program.specs.Runs.{EndsBy, served_directory};
+ghost use Rattle.exec_program.specs.Runs.{EndsBy, judged, served_directory};
 ghost use Rattle.exec_program.specs.Starts.{opening_fault};
 
 use crate::host::Host;
@@ -44,6 +44,19 @@ pub fn reported<H: Host, D: ReportsError>(
         host.report_device(options, disk.first_error());
     }
     ended
+}
+
+/// How a session counts that ended so, in which something failed or not: with `--strict` a failure is a fault.
+pub fn judged(options: Options, failed: bool, ended: Result<(), Fault>) -> Result<(), Fault>
+    ensures judged { result ≡ judged options.entry failed ended }
+    ensures run { IsRunEnd ended → IsRunEnd result }
+    ensures memory { IfErr ended (HasCause ⟦<Global as Grows>⟧.refuses)
+        → IfErr result (HasCause ⟦<Global as Grows>⟧.refuses) }
+{
+    match ended {
+        Ok(()) if options.strict && failed => Err(Fault::Failed),
+        ended => ended,
+    }
 }
 
 // Whether a session ended because its input or output failed.

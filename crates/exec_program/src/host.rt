@@ -134,8 +134,8 @@ pub trait Host {
     /// Standard error, for the lines of results.
     fn errors(&self) -> Self::Errors;
 
-    /// The reasons that agents wrote to their logs in this directory; none without a directory.
-    fn reasons(&self, logs: Option<&str>) -> Self::Reasons;
+    /// The reasons that agents wrote: to their logs in a directory, if one is named, else to the log of all, if one is named.
+    fn reasons(&self, log: Option<&str>, logs: Option<&str>) -> Self::Reasons;
 
     /// Whether standard error goes to the system's journal.
     fn is_marked(&self) -> bool;

@@ -10,19 +10,19 @@ ghost use Rattle.exec_program.specs.Starts.{site_of};
 use crate::host::Host;
 use crate::options::{Findings, context_of, events_of, served_directory};
 use crate::upkeep::directory_of;
-use disk_model::Disk;
 use exec_client::JsonClient;
 use exec_commands::Left;
-use exec_events::Eventful;
+use exec_events::{Eventful, Strict};
 use exec_faults::Fault;
 use exec_lines::{SessionClock, moment_now};
 use exec_options::{JournalLocation, Options};
 use exec_session::{LineRoom, Run, run_lines};
 use exec_trace::Edge;
-use executor::{Executor, Report};
+use executor::{On, Report};
 use growth::Grows;
 use ocf_env::Site;
 use std::alloc::Global;
+use store_model::Store;
 
 /// What the lines of a session need besides its executor.
 #[derive(Drop)]
@@ -39,9 +39,11 @@ pub struct LineParts<R: Drop> {
 
 /// How the lines of a session ended, and what it gave back.
 #[derive(Drop)]
-pub struct LinesEnd<D: Drop, C: Drop> {
+pub struct LinesEnd<S: Drop, C: Drop> {
     pub ended: Result<(), Fault>,
-    pub disk: D,
+    /// Whether a message of the session said that a line was not done or that an action failed.
+    pub has_failed: bool,
+    pub store: S,
     pub children: C,
 }
 
@@ -61,19 +63,19 @@ fn record_moment<H: Host>(host: &H, options: Options, moment: u64)
 
 /// Sends the report of an executor that was just opened, and answers the lines of standard input.
 #[tactic(auto, using(crate::proofs::StartLemmas::run_ends))]
-pub fn answer_lines<H: Host, D: Disk + Drop>(
+pub fn answer_lines<H: Host, S: Store + Drop>(
     host: &H,
     options: Options,
     parts: LineParts<H::Reader>,
-    opened: (Executor<D, H::Agents>, Report),
-) -> LinesEnd<D, H::Agents>
+    opened: (On<S, H::Agents>, Report),
+) -> LinesEnd<S, H::Agents>
     requires site { parts.site ≡ site_of options }
     requires open { opened.0.is_open ≡ true }
     requires opening_report { IsReportOf opened.0 opened.1 }
     requires may { Allows (H.may host.now) (IsOfRun (H.asked host.now) options) }
     ensures ends { IsRunEnd result.ended }
-    ensures runs { RunsLines (H.asked host.now) H.Agents.view H.Source.gives H.Reader.remaining H.Writer.contents D.view
-        options.entry parts.reader parts.left.items opened.0 opened.1 result.ended result.disk result.children }
+    ensures runs { RunsLines (H.asked host.now) H.Agents.view H.Source.gives H.Reader.remaining H.Writer.contents S.view
+        options.entry parts.reader parts.left.items opened.0 opened.1 result.ended result.has_failed result.store result.children }
     ensures memory { IfErr result.ended (HasCause ⟦<Global as Grows>⟧.refuses) }
 {
     let LineParts {
@@ -97,22 +99,25 @@ pub fn answer_lines<H: Host, D: Disk + Drop>(
     let json_client = JsonClient::new(
         alloc,
         host.writer(served_directory(options)),
-        host.reasons(options.logs),
+        host.reasons(options.log, options.logs),
         &executor,
     );
     let client = Eventful::new(alloc, json_client, host.errors(), events_of(host, options));
-    let edge = Edge::new(reader, client, &clock);
+    let strict = Strict::new(client);
+    let edge = Edge::new(reader, strict, &clock);
     let run = run_lines(&context, edge, (executor, report), room);
     host.give_up(source);
     let Run {
         ended,
-        edge: _,
-        disk,
+        edge,
+        store,
         children,
     } = run;
+    let (_, client, _) = edge.into_parts();
     LinesEnd {
         ended,
-        disk,
+        has_failed: client.has_failed(),
+        store,
         children,
     }
 }

@@ -8,7 +8,7 @@ ghost use Rattle.exec_program.specs.Runs.{RunsOn};
 ghost use Rattle.exec_program.specs.Starts.{site_of};
 ghost use Rattle.exec_program.specs.Upkeeps.{upkeep_of};
 
-use crate::ends::{ended_over, opening_fault, reported};
+use crate::ends::{ended_over, judged, opening_fault, reported};
 use crate::host::Host;
 use crate::limits::BOOK_ROOM;
 use crate::lines::{LineParts, answer_lines};
@@ -81,7 +81,9 @@ pub fn serve_agents<H: Host, D: Disk + ReportsError + Drop>(
     match Executor::open(host.alloc(), disk, agents, own, host.moment()) {
         Ok(opened) => {
             let lines = answer_lines(host, options, parts, opened);
-            let ended = reported(host, options, &lines.disk, lines.ended);
+            let disk = lines.store.into_disk();
+            let ended = reported(host, options, &disk, lines.ended);
+            let ended = judged(options, lines.has_failed, ended);
             let ended = ended_over(host, options, &watch, ended);
             host.report_run(ended);
             ended

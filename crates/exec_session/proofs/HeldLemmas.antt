@@ -3,7 +3,7 @@ use Rattle.std.specs.Global.{Vec}
 use Rattle.std.proofs.Common.{◌≡◌, ℕ, Bool, true, true≢false, List, [], ◌∷◌, Option, Result, Ok, Err, IsErr, refl, sym, ◌∙◌}
 use Rattle.ocf_types.specs.declared.outcome.MetaFault.{MetaFault}
 use Rattle.ocf_types.specs.declared.refusal.Refusal.{Refusal}
-use Rattle.disk_model.specs.Disk.{DiskView}
+use Rattle.store_model.specs.StoreView.{StoreView}
 use Rattle.exec_commands.specs.declared.line.Line.{Line}
 use Rattle.exec_commands.specs.declared.line.Line.TheVariants as line
 use Rattle.exec_commands.specs.declared.reply.LineReply.TheVariants as answer
@@ -38,8 +38,8 @@ found_at_once mode is found.Empty = tt
 found_at_once mode is found.End = tt
 
 -- an open executor replied to a held line with what the source gave
-pub answered_held : {D : Type 0} (sends_so : Sending D) (view : D → DiskView) (source : Source) (rules : Rules)
-    (provider agent : List ℕ) (limit : Option ℕ) (given : Result (Vec ℕ) MetaFault) (p q : SessionView D) → p.executor.is_open ≡ true
+pub answered_held : {S : Type 0} (sends_so : Sending S) (view : S → StoreView) (source : Source) (rules : Rules)
+    (provider agent : List ℕ) (limit : Option ℕ) (given : Result (Vec ℕ) MetaFault) (p q : SessionView S) → p.executor.is_open ≡ true
     → source provider agent limit given → sends_so p q (Answered (answer.Meta given) ∷ [])
     → AnswersSo sends_so view source rules (Ok (line.Meta provider agent limit)) p q
 answered_held sends_so view source rules provider agent limit given p q is_open gives sends_all = record {
@@ -52,7 +52,7 @@ answered_held sends_so view source rules provider agent limit given p q is_open 
   sends_all = sends_all;
 }
 
-pub held_err : {D E : Type 0} (view : D → DiskView) (source : Source) (rules : Rules) (held : Held) (p q : SessionView D) (r : Result Bool E)
+pub held_err : {S E : Type 0} (view : S → StoreView) (source : Source) (rules : Rules) (held : Held) (p q : SessionView S) (r : Result Bool E)
     → IsErr r → AnswersSo (SendsPart rules.form) view source rules (Ok (asks held)) p q → MayBreakOff q.events
     → AnswersHeld view source rules held p q r
 held_err view source rules held p q (Ok done) bad broke cause = let none : ⊥ = cc in absurd none

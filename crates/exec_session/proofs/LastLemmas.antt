@@ -28,12 +28,12 @@ looked_later (line ∷ lines) reads misses reads' misses' es es' le le' more mor
 looked_later [] reads misses reads' misses' es es' le le' more more' (inl missed) = inl (omega (arith, le', more', missed))
 looked_later [] reads misses reads' misses' es es' le le' more more' (inr read) = inr (omega (arith, le, more, read))
 
-module _ {D : Type 0} where
-  pub lasts_same : (p q : SessionView D) → q ≡ p → Lasts p q
+module _ {S : Type 0} where
+  pub lasts_same : (p q : SessionView S) → q ≡ p → Lasts p q
   lasts_same p q same =
-      subst (λ (s : SessionView D). Lasts p s) (sym same) (record { opened = refl; later = []; grows = sym (append-nil p.events) })
+      subst (λ (s : SessionView S). Lasts p s) (sym same) (record { opened = refl; later = []; grows = sym (append-nil p.events) })
 
-  pub lasts_both : (p m q : SessionView D) → Lasts p m → Lasts m q → Lasts p q
+  pub lasts_both : (p m q : SessionView S) → Lasts p m → Lasts m q → Lasts p q
   lasts_both p m q one two = record {
     opened = two.opened ∙ one.opened;
     later = one.later ++ two.later;
@@ -41,16 +41,16 @@ module _ {D : Type 0} where
   }
 
   -- no fewer reads and polls
-  pub lasts_reads : (p q : SessionView D) → Lasts p q → reads_in p.events ≤ reads_in q.events
+  pub lasts_reads : (p q : SessionView S) → Lasts p q → reads_in p.events ≤ reads_in q.events
   lasts_reads p q lasts =
       let same = ap (λ (es : List IoEvent). reads_in es) lasts.grows in omega (arith, same, reads_join p.events lasts.later)
 
-  pub lasts_misses : (p q : SessionView D) → Lasts p q → misses_in p.events ≤ misses_in q.events
+  pub lasts_misses : (p q : SessionView S) → Lasts p q → misses_in p.events ≤ misses_in q.events
   lasts_misses p q lasts =
       let same = ap (λ (es : List IoEvent). misses_in es) lasts.grows in omega (arith, same, misses_join p.events lasts.later)
 
   -- after a read there are more events
-  pub read_longer : (p q : SessionView D) → Lasts p q → reads_in p.events < reads_in q.events → length p.events < length q.events
+  pub read_longer : (p q : SessionView S) → Lasts p q → reads_in p.events < reads_in q.events → length p.events < length q.events
   read_longer p q lasts read = by lasts.later lasts.grows
     where
       by : (later : List IoEvent) → q.events ≡ p.events ++ later → length p.events < length q.events
@@ -60,41 +60,41 @@ module _ {D : Type 0} where
           omega (arith, ap length grows, more)
 
   -- one more event
-  pub longer_event : (p q : SessionView D) (event : IoEvent) → q ≡ following p event → length p.events < length q.events
+  pub longer_event : (p q : SessionView S) (event : IoEvent) → q ≡ following p event → length p.events < length q.events
   longer_event p q event same =
-      subst (λ (s : SessionView D). length p.events < length s.events) (sym same) (omega (arith, length-append p.events (event ∷ [])))
+      subst (λ (s : SessionView S). length p.events < length s.events) (sym same) (omega (arith, length-append p.events (event ∷ [])))
 
-  pub lasts_event : (p q : SessionView D) (event : IoEvent) → q ≡ following p event → Lasts p q
+  pub lasts_event : (p q : SessionView S) (event : IoEvent) → q ≡ following p event → Lasts p q
   lasts_event p q event same = record {
-    opened = ap (λ (s : SessionView D). s.client_view.opened) same;
+    opened = ap (λ (s : SessionView S). s.client_view.opened) same;
     later = event ∷ [];
-    grows = ap (λ (s : SessionView D). s.events) same;
+    grows = ap (λ (s : SessionView S). s.events) same;
   }
 
-  pub lasts_noted : (p q : SessionPosition D) (event : IoEvent) → q ≡ noted p event → Lasts p.at q.at
-  lasts_noted p q event same = lasts_event p.at q.at event (ap (λ (w : SessionPosition D). w.at) same)
+  pub lasts_noted : (p q : SessionPosition S) (event : IoEvent) → q ≡ noted p event → Lasts p.at q.at
+  lasts_noted p q event same = lasts_event p.at q.at event (ap (λ (w : SessionPosition S). w.at) same)
 
   -- one more read
-  pub one_read : (p q : SessionView D) (done : Bool) → q ≡ following p (Read done) → reads_in p.events < reads_in q.events
+  pub one_read : (p q : SessionView S) (done : Bool) → q ≡ following p (Read done) → reads_in p.events < reads_in q.events
   one_read p q done same =
       let one : reads_in (Read done ∷ []) ≡ 1 = refl in
-      let all = ap (λ (s : SessionView D). reads_in s.events) same in
+      let all = ap (λ (s : SessionView S). reads_in s.events) same in
       omega (arith, all, reads_join p.events (Read done ∷ []), one)
 
-  pub read_then : (p m q : SessionView D) → reads_in p.events < reads_in m.events → Lasts m q → reads_in p.events < reads_in q.events
+  pub read_then : (p m q : SessionView S) → reads_in p.events < reads_in m.events → Lasts m q → reads_in p.events < reads_in q.events
   read_then p m q one two = omega (arith, one, lasts_reads m q two)
 
   -- one more poll that found nothing
-  pub one_miss : (p q : SessionPosition D) (millis : ℕ) (ready : Bool) → q ≡ noted p (Polled millis ready) → ready ≡ false
+  pub one_miss : (p q : SessionPosition S) (millis : ℕ) (ready : Bool) → q ≡ noted p (Polled millis ready) → ready ≡ false
       → misses_in p.at.events < misses_in q.at.events
   one_miss p q millis true same is = absurd cc
   one_miss p q millis false same is =
       let one : misses_in (Polled millis false ∷ []) ≡ 1 = refl in
-      let all = ap (λ (w : SessionPosition D). misses_in w.at.events) same in
+      let all = ap (λ (w : SessionPosition S). misses_in w.at.events) same in
       omega (arith, all, misses_join p.at.events (Polled millis false ∷ []), one)
 
-  pub longer_then : (p m q : SessionView D) → length p.events < length m.events → Lasts m q → length p.events < length q.events
+  pub longer_then : (p m q : SessionView S) → length p.events < length m.events → Lasts m q → length p.events < length q.events
   longer_then p m q one two = omega (arith, one, ap length two.grows, length-append m.events two.later)
 
-  pub then_longer : (p m q : SessionView D) → Lasts p m → length m.events < length q.events → length p.events < length q.events
+  pub then_longer : (p m q : SessionView S) → Lasts p m → length m.events < length q.events → length p.events < length q.events
   then_longer p m q one two = omega (arith, ap length one.grows, length-append p.events one.later, two)

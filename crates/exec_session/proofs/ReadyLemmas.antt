@@ -47,12 +47,12 @@ noted_reads refuses Serve left now found.End g reads same =
     subst (λ (h : Found). ReadsInput Serve left now h) (sym same) reads
 
 -- in `run` nothing is sent
-pub ready_none : {D T E : Type 0} (mode : Mode) (form : NoticeForm) (p : SessionPosition D) (x : T) → mode ≡ Run
+pub ready_none : {S T E : Type 0} (mode : Mode) (form : NoticeForm) (p : SessionPosition S) (x : T) → mode ≡ Run
     → Steps {E = E} (SendsReady mode form p.at) (ReadyBreaks mode form p.at) p p (Ok x)
 ready_none Run form p x is = record { keeps = here_keeps p; done = refl; breaks = tt; cause = tt }
 ready_none Serve form p x is = let none : ⊥ = cc in absurd none
 
 -- the executor stays as it was
-pub ready_still : {D : Type 0} (mode : Mode) (form : NoticeForm) (p q : SessionView D) → SendsReady mode form p q → q.executor ≡ p.executor
+pub ready_still : {S : Type 0} (mode : Mode) (form : NoticeForm) (p q : SessionView S) → SendsReady mode form p q → q.executor ≡ p.executor
 ready_still Run form p q same = ap (λ (s : SessionView _). s.executor) same
 ready_still Serve form p q sends_all = sends_all.executor

@@ -6,7 +6,7 @@ use Rattle.std.specs.Prelude.{nat_lt, not, if◌then◌else◌}
 use Rattle.ocf_types.specs.Kinds.{Command}
 use Rattle.ocf_types.specs.declared.reply.TurnEnd.{TurnEnd}
 use Rattle.ocf_types.specs.declared.reply.TurnEnd.TheVariants.{Done}
-use Rattle.disk_model.specs.Disk.{DiskView}
+use Rattle.store_model.specs.StoreView.{StoreView}
 use Rattle.executor.specs.ExecutorView.{ExecutorView}
 use Rattle.exec_trace.specs.declared.event.IoEvent.{IoEvent}
 use Rattle.exec_trace.specs.declared.event.IoEvent.TheVariants.{Polled, Rested}
@@ -14,7 +14,7 @@ use Rattle.exec_session.specs.Answers.{Source}
 use Rattle.exec_session.specs.Breaks.{BreaksOff, OwnTurnBreaks, in_line, in_own_turn}
 use Rattle.exec_session.specs.Held.{asks, held_lines}
 use Rattle.exec_session.specs.Pausing.{IsQuietSince, IsUntilDue, MayPause}
-use Rattle.exec_state.specs.Store.{all_pairs}
+use Rattle.exec_state.specs.StateValue.{all_pairs}
 use Rattle.exec_trace.specs.Events.{last_shown}
 use Rattle.ocf_types.specs.Boot.{any_busy}
 use Rattle.recurring.specs.Monitors.{IsFirstMoment}
@@ -47,7 +47,7 @@ pub turns_serve : (mode : Mode) → mode ≡ Serve → MakesTurns mode
 turns_serve Run is = absurd cc
 turns_serve Serve is = tt
 
-pub open_serves : {D : Type 0} (mode : Mode) (x : ExecutorView D) → mode ≡ Serve → MayGoOn mode x → x.is_open ≡ true
+pub open_serves : {S : Type 0} (mode : Mode) (x : ExecutorView S) → mode ≡ Serve → MayGoOn mode x → x.is_open ≡ true
 open_serves Run x is goes_on = absurd cc
 open_serves Serve x is goes_on = goes_on
 
@@ -64,21 +64,21 @@ session_round Run is most = tt
 session_round Serve is most = absurd cc
 
 -- a round may begin
-pub session_begins : {D : Type 0} (mode : Mode) (s : Midway D) → mode ≡ Run → MayWait mode s → WaitsForThere s → MayBegin mode s
+pub session_begins : {S : Type 0} (mode : Mode) (s : Midway S) → mode ≡ Run → MayWait mode s → WaitsForThere s → MayBegin mode s
 session_begins mode s run waits there = record { stays = record { waits = waits; there = there }; serves = λ serve. absurd cc }
 
-pub serve_begins : {D : Type 0} (mode : Mode) (s : Midway D) → mode ≡ Serve → s.point.at.executor.is_open ≡ true → s.commands ≡ []
+pub serve_begins : {S : Type 0} (mode : Mode) (s : Midway S) → mode ≡ Serve → s.point.at.executor.is_open ≡ true → s.commands ≡ []
     → MayBegin mode s
 serve_begins mode s serve is_open none =
     record { stays = none_stays mode s none (λ run. absurd cc); serves = λ _. (is_open, none) }
 
 -- where a session is, by its fields
-pub position_is : {D : Type 0} (q : SessionPosition D) (s : SessionView D) (left : Option (List ℕ)) → q.at ≡ s → q.left ≡ left → q ≡ session_position s left
-position_is {D} q s left same same' =
-    ap (λ (t : SessionView D). session_position t q.left) same ∙ ap (λ (l : Option (List ℕ)). session_position s l) same'
+pub position_is : {S : Type 0} (q : SessionPosition S) (s : SessionView S) (left : Option (List ℕ)) → q.at ≡ s → q.left ≡ left → q ≡ session_position s left
+position_is {S} q s left same same' =
+    ap (λ (t : SessionView S). session_position t q.left) same ∙ ap (λ (l : Option (List ℕ)). session_position s l) same'
 
 -- at most as long as the wait may be
-pub pause_less : {D : Type 0} (since now : ℕ) (x : ExecutorView D) (es : List IoEvent) (less micros : ℕ) → less ≤ micros
+pub pause_less : {S : Type 0} (since now : ℕ) (x : ExecutorView S) (es : List IoEvent) (less micros : ℕ) → less ≤ micros
     → MayPause since now x es micros → MayPause since now x es less
 pause_less since now x es less micros le (inl (inl short)) = inl (inl (omega (arith, le, short)))
 pause_less since now x es less micros le (inl (inr (long, part))) = inl (inr (omega (arith, le, long), omega (arith, le, part)))
@@ -96,55 +96,55 @@ not_busy true is = absurd cc
 not_busy false is = refl
 
 -- until the first monitor is due, or the longest wait where there is none
-pub due_some : {D : Type 0} (x : ExecutorView D) (es : List IoEvent) (now due micros : ℕ) → any_busy x.state ≡ false → last_shown es ≡ Some now
+pub due_some : {S : Type 0} (x : ExecutorView S) (es : List IoEvent) (now due micros : ℕ) → any_busy x.state ≡ false → last_shown es ≡ Some now
     → micros ≤ 1000 * 1000 → 1000 * now + micros ≤ 1000 * due → IsFirstMoment (all_pairs x.monitors) (Some due) → IsUntilDue x es micros
 due_some x es now due micros idle shown brief until (call, at, least) =
     record { idle = idle; moment = now; shown = shown; brief = brief; before = λ k d lt. omega (arith, until, least k d lt) }
 
-pub due_none : {D : Type 0} (x : ExecutorView D) (es : List IoEvent) (now micros : ℕ) → any_busy x.state ≡ false → last_shown es ≡ Some now
+pub due_none : {S : Type 0} (x : ExecutorView S) (es : List IoEvent) (now micros : ℕ) → any_busy x.state ≡ false → last_shown es ≡ Some now
     → micros ≤ 1000 * 1000 → IsFirstMoment (all_pairs x.monitors) None → IsUntilDue x es micros
 due_none x es now micros idle shown brief none =
     record { idle = idle; moment = now; shown = shown; brief = brief; before = λ k d lt. omega (arith, ap length none, lt) }
 
 -- waits, one after the other
-module _ {D : Type 0} (since now : ℕ) where
-  abbrev Waited : SessionPosition D → SessionPosition D → Type 0
+module _ {S : Type 0} (since now : ℕ) where
+  abbrev Waited : SessionPosition S → SessionPosition S → Type 0
   Waited p q = Waits since now p q
 
-  pub waits_more : (p m q : SessionPosition D) (event : IoEvent) → Waited p m → IsWait since now m.at event → q ≡ noted m event → Waited p q
-  waits_more p m q event waits is same = subst (λ (w : SessionPosition D). Waited p w) (sym same) (more m event waits is)
+  pub waits_more : (p m q : SessionPosition S) (event : IoEvent) → Waited p m → IsWait since now m.at event → q ≡ noted m event → Waited p q
+  waits_more p m q event waits is same = subst (λ (w : SessionPosition S). Waited p w) (sym same) (more m event waits is)
 
-  pub waits_last : (p q : SessionPosition D) → Waited p q → Lasts p.at q.at
+  pub waits_last : (p q : SessionPosition S) → Waited p q → Lasts p.at q.at
   waits_last p _ still = lasts_same p.at p.at refl
   waits_last p _ (more m event waits is) =
       lasts_both p.at m.at (following m.at event) (waits_last p m waits) (lasts_event m.at (following m.at event) event refl)
 
-  pub waits_executor : (p q : SessionPosition D) → Waited p q → q.at.executor ≡ p.at.executor
+  pub waits_executor : (p q : SessionPosition S) → Waited p q → q.at.executor ≡ p.at.executor
   waits_executor p _ still = refl
   waits_executor p _ (more m event waits is) = waits_executor p m waits
 
-  pub waits_once : (p q : SessionPosition D) (event : IoEvent) → IsWait since now p.at event → q ≡ noted p event → Waited p q
+  pub waits_once : (p q : SessionPosition S) (event : IoEvent) → IsWait since now p.at event → q ≡ noted p event → Waited p q
   waits_once p q event is same = waits_more p p q event still is same
 
-  pub waits_none : (p q : SessionPosition D) → q ≡ p → Waited p q
-  waits_none p q same = subst (λ (w : SessionPosition D). Waited p w) (sym same) still
+  pub waits_none : (p q : SessionPosition S) → q ≡ p → Waited p q
+  waits_none p q same = subst (λ (w : SessionPosition S). Waited p w) (sym same) still
 
-  pub waits_rest : (p m q : SessionPosition D) (micros : ℕ) → MayPause since now m.at.executor m.at.events micros → Waited p m
+  pub waits_rest : (p m q : SessionPosition S) (micros : ℕ) → MayPause since now m.at.executor m.at.events micros → Waited p m
       → q ≡ session_position (paused m.at micros) m.left → Waited p q
   waits_rest p m q micros may waits same = by (nat_lt 0 micros) refl
     where
-      at : Bool → SessionPosition D
+      at : Bool → SessionPosition S
       at b = session_position (session_view m.at.executor m.at.client_view (m.at.events ++ (if b then Rested micros ∷ [] else []))) m.left
 
       by : (b : Bool) → nat_lt 0 micros ≡ b → Waited p q
       by true is = waits_more p m q (Rested micros) waits may (same ∙ ap at is)
       by false is =
-          subst (λ (w : SessionPosition D). Waited p w)
+          subst (λ (w : SessionPosition S). Waited p w)
           (sym (same ∙ ap at is
           ∙ ap (λ (es : List IoEvent). session_position (session_view m.at.executor m.at.client_view es) m.left) (append-nil m.at.events))) waits
 
 -- a poll that a wait may make
-pub wait_looked : {D : Type 0} (mode : Mode) (p q : SessionPosition D) (pending : Pending) → PollsOnce p q → MayWait mode (midway p pending)
+pub wait_looked : {S : Type 0} (mode : Mode) (p q : SessionPosition S) (pending : Pending) → PollsOnce p q → MayWait mode (midway p pending)
     → MayWait mode (midway q pending)
 wait_looked mode p q pending (inl same) may =
     subst (λ (w : SessionPosition _). MayWait mode (midway w pending)) (sym same) may
@@ -152,28 +152,28 @@ wait_looked mode p q pending (inr (ready, same)) may =
     subst (λ (w : SessionPosition _). MayWait mode (midway w pending)) (sym same)
     (record { few = may.few; while_open = may.while_open; free = may.free })
 
-pub lasts_looked : {D : Type 0} (p q : SessionPosition D) → PollsOnce p q → Lasts p.at q.at
+pub lasts_looked : {S : Type 0} (p q : SessionPosition S) → PollsOnce p q → Lasts p.at q.at
 lasts_looked p q (inl same) = lasts_same p.at q.at (ap (λ (w : SessionPosition _). w.at) same)
 lasts_looked p q (inr (ready, same)) = lasts_noted p q (Polled 0 ready) same
 
-module _ {D : Type 0} (view : D → DiskView) (source : Source) (rules : Rules) (p : SessionPosition D) (own : OwnTurn) where
-  abbrev At : ℕ → Lines → SessionPosition D → Type 0
+module _ {S : Type 0} (view : S → StoreView) (source : Source) (rules : Rules) (p : SessionPosition S) (own : OwnTurn) where
+  abbrev At : ℕ → Lines → SessionPosition S → Type 0
   At n lines q = Reaches view source rules p own n lines q
 
-  abbrev Come : ℕ → SessionPosition D → List Command → Option Held → List ℕ → Type 0
+  abbrev Come : ℕ → SessionPosition S → List Command → Option Held → List ℕ → Type 0
   Come most point commands held kept =
       HasCome view source rules p own most (record { point = point; commands = commands; held = held; kept = kept })
 
   -- one poll, or none
-  pub looked_once : (most : ℕ) (commands : List Command) (held : Option Held) (kept : List ℕ) (point point' : SessionPosition D)
+  pub looked_once : (most : ℕ) (commands : List Command) (held : Option Held) (kept : List ℕ) (point point' : SessionPosition S)
       → rules.mode ≡ Serve → PollsOnce point point' → Come most point commands held kept → Come most point' commands held kept
   looked_once most commands held kept point point' mode (inl same) come =
-      subst (λ (w : SessionPosition D). Come most w commands held kept) (sym same) come
+      subst (λ (w : SessionPosition S). Come most w commands held kept) (sym same) come
   looked_once most commands held kept point point' mode (inr (ready, same)) come =
       polled view source rules p own most commands held kept point point' (Polled 0 ready) (turns_serve rules.mode mode, refl) same come
 
   -- waits, as steps of a session
-  pub waits_come : (most : ℕ) (commands : List Command) (held : Option Held) (kept : List ℕ) (point : SessionPosition D) (point' : SessionPosition D)
+  pub waits_come : (most : ℕ) (commands : List Command) (held : Option Held) (kept : List ℕ) (point : SessionPosition S) (point' : SessionPosition S)
       → commands ≡ [] → MayRest (held_lines held) → Waits own.since own.now point point' → Come most point commands held kept
       → Come most point' commands held kept
   waits_come most commands held kept point _ none rests still come = come
@@ -182,13 +182,13 @@ module _ {D : Type 0} (view : D → DiskView) (source : Source) (rules : Rules) 
       (waits_come most commands held kept point m none rests waits come)
 
   -- the lines that are unanswered where no command waits
-  none_but_held : (count : ℕ) (commands : List Command) (held : Option Held) (q : SessionPosition D) → commands ≡ []
+  none_but_held : (count : ℕ) (commands : List Command) (held : Option Held) (q : SessionPosition S) → commands ≡ []
       → At count (map of_command commands ++ held_lines held) q → At count (held_lines held) q
   none_but_held count commands held q none reached =
       subst (λ (cs : List Command). At count (map of_command cs ++ held_lines held) q) none reached
 
   -- a line asked for the end of the session
-  pub come_leave : rules.mode ≡ Serve → (most : ℕ) (commands : List Command) (o : Option Held) (kept : List ℕ) (point : SessionPosition D)
+  pub come_leave : rules.mode ≡ Serve → (most : ℕ) (commands : List Command) (o : Option Held) (kept : List ℕ) (point : SessionPosition S)
       → commands ≡ [] → o ≡ Some held.Leave → Come most point commands o kept → ReachesLeave view source rules p point.at
   come_leave mode most commands o kept point none is come = record {
     serves = turns_serve rules.mode mode;
@@ -203,7 +203,7 @@ module _ {D : Type 0} (view : D → DiskView) (source : Source) (rules : Rules) 
 
   -- the line that is held was answered, or broke off
   pub held_answered : rules.mode ≡ Serve → (most : ℕ) → MayTakeAfter rules.mode most → (commands : List Command) (held : Option Held)
-      (h : Held) (kept : List ℕ) (point point' : SessionPosition D) → commands ≡ [] → held ≡ Some h → point'.left ≡ point.left
+      (h : Held) (kept : List ℕ) (point point' : SessionPosition S) → commands ≡ [] → held ≡ Some h → point'.left ≡ point.left
       → Come most point commands held kept → Answers view source rules (Ok (asks h)) point.at point'.at
       → MayGoOn rules.mode point'.at.executor → Come (most + 1) point' commands None kept
   held_answered mode most may commands held h kept point point' none is same come answered goes_on = record {
@@ -227,12 +227,12 @@ module _ {D : Type 0} (view : D → DiskView) (source : Source) (rules : Rules) 
           (none_but_held come.count commands held (session_position point.at come.left) none come.reached)
 
   -- its agent has not answered by now
-  pub held_still : (most : ℕ) (commands : List Command) (held : Option Held) (kept : List ℕ) (point point' : SessionPosition D)
+  pub held_still : (most : ℕ) (commands : List Command) (held : Option Held) (kept : List ℕ) (point point' : SessionPosition S)
       → point'.at ≡ point.at → point'.left ≡ point.left → Come most point commands held kept → Come most point' commands held kept
   held_still most commands held kept point point' same same' come =
-      subst (λ (w : SessionPosition D). Come most w commands held kept) (sym (position_is point' point.at point.left same same')) come
+      subst (λ (w : SessionPosition S). Come most w commands held kept) (sym (position_is point' point.at point.left same same')) come
 
-  pub held_breaks : (most : ℕ) (commands : List Command) (held : Option Held) (h : Held) (kept : List ℕ) (point : SessionPosition D) (s : SessionView D)
+  pub held_breaks : (most : ℕ) (commands : List Command) (held : Option Held) (h : Held) (kept : List ℕ) (point : SessionPosition S) (s : SessionView S)
       → commands ≡ [] → held ≡ Some h → Come most point commands held kept
       → AnswersSo (SendsPart rules.form) view source rules (Ok (asks h)) point.at s × MayBreakOff s.events → BreaksOff view source rules p s
   held_breaks most commands held h kept point s none is come (broke, cause) = record {
@@ -248,10 +248,10 @@ module _ {D : Type 0} (view : D → DiskView) (source : Source) (rules : Rules) 
   }
 
   -- an own turn may be made
-  abbrev pub Turning : Option Held → SessionPosition D → Type 0
+  abbrev pub Turning : Option Held → SessionPosition S → Type 0
   Turning held point = MayRest (held_lines held) × HasPolled own.reads own.misses (own.lines ++ held_lines held) point.at.events
 
-  may_turn : rules.mode ≡ Serve → (most : ℕ) (commands : List Command) (held : Option Held) (kept : List ℕ) (point : SessionPosition D)
+  may_turn : rules.mode ≡ Serve → (most : ℕ) (commands : List Command) (held : Option Held) (kept : List ℕ) (point : SessionPosition S)
       → Turning held point → Come most point commands held kept → MayTurn rules.mode own (held_lines held) point.at
   may_turn mode most commands held kept point (rests, polled) come = record {
     serves = turns_serve rules.mode mode;
@@ -261,12 +261,12 @@ module _ {D : Type 0} (view : D → DiskView) (source : Source) (rules : Rules) 
   }
 
   -- this turn is made, since which nothing has ended or begun
-  abbrev pub Turned : Option Held → SessionPosition D → SessionPosition D → ℕ → ℕ → TurnEnd → Type 0
+  abbrev pub Turned : Option Held → SessionPosition S → SessionPosition S → ℕ → ℕ → TurnEnd → Type 0
   Turned held point point' now since end =
       Turning held point × MakesOwnTurn view rules own.end now point.at point'.at end
       × IsQuietSince point'.at.executor.children.book now own.since since
 
-  one_turned : rules.mode ≡ Serve → (most : ℕ) (commands : List Command) (held : Option Held) (kept : List ℕ) (point point' : SessionPosition D)
+  one_turned : rules.mode ≡ Serve → (most : ℕ) (commands : List Command) (held : Option Held) (kept : List ℕ) (point point' : SessionPosition S)
       (now since : ℕ) (end : TurnEnd) → commands ≡ [] → (come : Come most point commands held kept)
       → Turned held point point' now since end
       → Reaches view source rules p (turned now since end (held_lines held) point'.at) 0 (held_lines held) (session_position point'.at come.left)
@@ -276,7 +276,7 @@ module _ {D : Type 0} (view : D → DiskView) (source : Source) (rules : Rules) 
       (may_turn mode most commands held kept point may come) made quiet
 
   -- it leaves the executor open, or closes it, or breaks off
-  pub turn_made : rules.mode ≡ Serve → (most : ℕ) (commands : List Command) (held : Option Held) (kept : List ℕ) (point point' : SessionPosition D)
+  pub turn_made : rules.mode ≡ Serve → (most : ℕ) (commands : List Command) (held : Option Held) (kept : List ℕ) (point point' : SessionPosition S)
       (now since : ℕ) (end : TurnEnd) → commands ≡ [] → point'.left ≡ point.left → Come most point commands held kept
       → Turned held point point' now since end → point'.at.executor.is_open ≡ true
       → HasCome view source rules p (turned now since end (held_lines held) point'.at) 0
@@ -293,7 +293,7 @@ module _ {D : Type 0} (view : D → DiskView) (source : Source) (rules : Rules) 
     goes_on = go_open rules.mode point'.at.executor is_open;
   }
 
-  pub turn_closes : rules.mode ≡ Serve → (most : ℕ) (commands : List Command) (held : Option Held) (kept : List ℕ) (point point' : SessionPosition D)
+  pub turn_closes : rules.mode ≡ Serve → (most : ℕ) (commands : List Command) (held : Option Held) (kept : List ℕ) (point point' : SessionPosition S)
       (now since : ℕ) (end : TurnEnd) → commands ≡ [] → Come most point commands held kept → Turned held point point' now since end
       → point'.at.executor.is_open ≡ false → ReachesFault view source rules p point'.at
   turn_closes mode most commands held kept point point' now since end none come made closed = record {
@@ -306,8 +306,8 @@ module _ {D : Type 0} (view : D → DiskView) (source : Source) (rules : Rules) 
     is_closed = closed;
   }
 
-  pub turn_breaks : rules.mode ≡ Serve → (most : ℕ) (commands : List Command) (held : Option Held) (kept : List ℕ) (point : SessionPosition D)
-      (s : SessionView D) → commands ≡ [] → Turning held point → Come most point commands held kept
+  pub turn_breaks : rules.mode ≡ Serve → (most : ℕ) (commands : List Command) (held : Option Held) (kept : List ℕ) (point : SessionPosition S)
+      (s : SessionView S) → commands ≡ [] → Turning held point → Come most point commands held kept
       → OwnTurnBreaks view rules own.end point.at s → MayBreakOff s.events → BreaksOff view source rules p s
   turn_breaks mode most commands held kept point s none may come broke cause = record {
     own = own;
@@ -320,7 +320,7 @@ module _ {D : Type 0} (view : D → DiskView) (source : Source) (rules : Rules) 
   }
 
   -- a session that ends does so with more lines allowed, too
-  pub ends_more : (n m : ℕ) (commands : List Command) (held : Option Held) (kept : List ℕ) (point : SessionPosition D) (step : Taken) → n ≤ m
+  pub ends_more : (n m : ℕ) (commands : List Command) (held : Option Held) (kept : List ℕ) (point : SessionPosition S) (step : Taken) → n ≤ m
       → ComesOrEnds view source rules p own n (record { point = point; commands = commands; held = held; kept = kept }) step
       → ComesOrEnds view source rules p own m (record { point = point; commands = commands; held = held; kept = kept }) step
   ends_more n m commands held kept point taken.More le come = come_more view source rules p own n m commands held kept point le come
@@ -329,7 +329,7 @@ module _ {D : Type 0} (view : D → DiskView) (source : Source) (rules : Rules) 
   ends_more n m commands held kept point taken.Leaves le come = come
 
   -- a round that ends the session
-  pub round_ends : (E : Type 0) (quiet : ℕ) (end : TurnEnd) (most : ℕ) (s : Midway D) (step : Taken) → step ≢ taken.More
+  pub round_ends : (E : Type 0) (quiet : ℕ) (end : TurnEnd) (most : ℕ) (s : Midway S) (step : Taken) → step ≢ taken.More
       → ComesOrEnds view source rules p own most s step → GoesRound {E = E} view source rules p quiet end s (Ok step)
   round_ends E quiet end most s taken.More ends come = absurd (ends refl)
   round_ends E quiet end most s taken.End ends come = come
@@ -337,7 +337,7 @@ module _ {D : Type 0} (view : D → DiskView) (source : Source) (rules : Rules) 
   round_ends E quiet end most s taken.Leaves ends come = come
 
   -- a round in `run`
-  pub round_read : {E : Type 0} → rules.mode ≡ Run → (quiet : ℕ) (end : TurnEnd) (most : ℕ) (s : Midway D) (r : Result Taken E)
+  pub round_read : {E : Type 0} → rules.mode ≡ Run → (quiet : ℕ) (end : TurnEnd) (most : ℕ) (s : Midway S) (r : Result Taken E)
       → IsSince own quiet end (held_lines s.held) s.point.at → Comes view source rules p own most s r
       → GoesRound view source rules p quiet end s r
   round_read mode quiet end most s (Ok taken.More) since come =
@@ -372,7 +372,7 @@ looked_none held held' reads misses es is polled =
     subst (λ (o : Option Held). HasPolled reads misses (held_lines o ++ held_lines held') es) (sym is) polled
 
 -- a turn that ended like this is still the last one
-pub since_later : {D : Type 0} (own : OwnTurn) (quiet : ℕ) (end : TurnEnd) (lines lines' : Lines) (q q' : SessionView D) → lines' ≡ lines
+pub since_later : {S : Type 0} (own : OwnTurn) (quiet : ℕ) (end : TurnEnd) (lines lines' : Lines) (q q' : SessionView S) → lines' ≡ lines
     → Lasts q q' → IsSince own quiet end lines q → IsSince own quiet end lines' q'
 since_later own quiet end lines lines' q q' same lasts since = record {
   quiet = since.quiet;
@@ -383,7 +383,7 @@ since_later own quiet end lines lines' q q' same lasts since = record {
 }
 
 -- a poll of this round is after the turn before it
-pub looked_since : {D : Type 0} (own : OwnTurn) (quiet : ℕ) (end : TurnEnd) (before lines : Lines) (q q' : SessionView D)
+pub looked_since : {S : Type 0} (own : OwnTurn) (quiet : ℕ) (end : TurnEnd) (before lines : Lines) (q q' : SessionView S)
     → IsSince own quiet end before q → HasPolled (reads_in q.events) (misses_in q.events) (before ++ lines) q'.events
     → HasPolled own.reads own.misses (own.lines ++ lines) q'.events
 looked_since own quiet end before lines q q' since polled =
@@ -398,17 +398,17 @@ quiet_later own book now quiet since le (inl began) = inl began
 quiet_later own book now quiet since le (inr (runs, later)) = inr (runs, omega (arith, le, later))
 
 -- a round that ends the session, whose last step kept this
-pub round_over : {D E : Type 0} (view : D → DiskView) (source : Source) (rules : Rules) (s t : Stage D) (step : Taken) → step ≢ taken.More
+pub round_over : {S E : Type 0} (view : S → StoreView) (source : Source) (rules : Rules) (s t : Stage S) (step : Taken) → step ≢ taken.More
     → Lasts s.at.point.at t.at.point.at
-    → ((p : SessionPosition D) → HasComeRound view source rules p s.quiet s.end s.at
+    → ((p : SessionPosition S) → HasComeRound view source rules p s.quiet s.end s.at
     → GoesRound {E = E} view source rules p t.quiet t.end t.at (Ok step)) → Rounds {E = E} view source rules s t (Ok step)
 round_over view source rules s t step ends lasts goes =
     record { lasts = lasts; longer = λ is. absurd (ends is); begins = λ is. absurd (ends is); goes = goes }
 
 -- a round that breaks off
-pub round_fails : {D E : Type 0} (view : D → DiskView) (source : Source) (rules : Rules) (s t : Stage D) (r : Result Taken E) → IsErr r
+pub round_fails : {S E : Type 0} (view : S → StoreView) (source : Source) (rules : Rules) (s t : Stage S) (r : Result Taken E) → IsErr r
     → Lasts s.at.point.at t.at.point.at
-    → ((p : SessionPosition D) → HasComeRound view source rules p s.quiet s.end s.at → BreaksOff view source rules p t.at.point.at)
+    → ((p : SessionPosition S) → HasComeRound view source rules p s.quiet s.end s.at → BreaksOff view source rules p t.at.point.at)
     → Rounds view source rules s t r
 round_fails view source rules s t (Ok x) bad lasts breaks = let none : ⊥ = cc in absurd none
 round_fails view source rules s t (Err e) bad lasts breaks = record { lasts = lasts; longer = tt; begins = tt; goes = breaks }
@@ -420,20 +420,20 @@ pub leaves_ends : taken.Leaves ≢ taken.More
 leaves_ends is = cc
 
 -- a round that breaks off
-pub round_err : {D E : Type 0} (view : D → DiskView) (source : Source) (rules : Rules) (p : SessionPosition D) (quiet : ℕ) (end : TurnEnd) (s : Midway D)
+pub round_err : {S E : Type 0} (view : S → StoreView) (source : Source) (rules : Rules) (p : SessionPosition S) (quiet : ℕ) (end : TurnEnd) (s : Midway S)
     (r : Result Taken E) → IsErr r → BreaksOff view source rules p s.point.at → GoesRound view source rules p quiet end s r
 round_err view source rules p quiet end s (Ok x) bad breaks = let none : ⊥ = cc in absurd none
 round_err view source rules p quiet end s (Err e) bad breaks = breaks
 
 -- a round in `serve` begins after a turn
-pub round_begins : {D : Type 0} (view : D → DiskView) (source : Source) (rules : Rules) (p : SessionPosition D) (quiet : ℕ) (end : TurnEnd)
-    (s : Midway D) → rules.mode ≡ Serve → (come : HasComeRound view source rules p quiet end s) → HasCome view source rules p come.own 0 s
+pub round_begins : {S : Type 0} (view : S → StoreView) (source : Source) (rules : Rules) (p : SessionPosition S) (quiet : ℕ) (end : TurnEnd)
+    (s : Midway S) → rules.mode ≡ Serve → (come : HasComeRound view source rules p quiet end s) → HasCome view source rules p come.own 0 s
 round_begins view source rules p quiet end s mode come =
     subst (λ (n : ℕ). HasCome view source rules p come.own n s) (zero_round rules.mode mode come.most come.round) come.come
 
 -- the next round begins after a turn that ended like this
-pub round_again : {D : Type 0} (view : D → DiskView) (source : Source) (rules : Rules) (p : SessionPosition D) (now quiet : ℕ) (end : TurnEnd)
-    (q : SessionView D) (s : Midway D) → Lasts q s.point.at → HasCome view source rules p (turned now quiet end (held_lines s.held) q) 0 s
+pub round_again : {S : Type 0} (view : S → StoreView) (source : Source) (rules : Rules) (p : SessionPosition S) (now quiet : ℕ) (end : TurnEnd)
+    (q : SessionView S) (s : Midway S) → Lasts q s.point.at → HasCome view source rules p (turned now quiet end (held_lines s.held) q) 0 s
     → HasComeRound view source rules p quiet end s
 round_again view source rules p now quiet end q s lasts come = record {
   most = 0;
@@ -450,7 +450,7 @@ round_again view source rules p now quiet end q s lasts come = record {
 }
 
 -- nothing is done yet
-pub first_round : {D : Type 0} (view : D → DiskView) (source : Source) (rules : Rules) (p : SessionPosition D) (pending : Pending) (quiet : ℕ)
+pub first_round : {S : Type 0} (view : S → StoreView) (source : Source) (rules : Rules) (p : SessionPosition S) (pending : Pending) (quiet : ℕ)
     (end : TurnEnd) → IsClear pending → end ≡ Done → p.at.executor.is_open ≡ true
     → MayBegin rules.mode (midway p pending) × HasComeRound view source rules p quiet end (midway p pending)
 first_round view source rules p pending quiet end clear none is_open = (

@@ -7,7 +7,7 @@ use Rattle.std.proofs.KnownBytes.{Consumes-nil}
 use Rattle.ocf_types.specs.Kinds.{Command}
 use Rattle.ocf_types.specs.Limits.{num_max}
 use Rattle.ocf_types.specs.declared.reply.TurnEnd.TheVariants.{Done}
-use Rattle.disk_model.specs.Disk.{DiskView}
+use Rattle.store_model.specs.StoreView.{StoreView}
 use Rattle.executor.specs.ExecutorView.{ExecutorView}
 use Rattle.exec_lines.specs.Buffer.{line_bytes}
 use Rattle.exec_lines.specs.Pieces.{IsMidLine}
@@ -46,11 +46,11 @@ may_serve Run most is le = absurd cc
 may_serve Serve most is le = λ n few. omega (arith, le, few)
 
 -- in `run` a session goes on in any case and makes no turns, and any session goes on while its executor is open
-pub go_session : {D : Type 0} (mode : Mode) (x : ExecutorView D) → mode ≡ Run → MayGoOn mode x
+pub go_session : {S : Type 0} (mode : Mode) (x : ExecutorView S) → mode ≡ Run → MayGoOn mode x
 go_session Run x is = tt
 go_session Serve x is = absurd cc
 
-pub go_open : {D : Type 0} (mode : Mode) (x : ExecutorView D) → x.is_open ≡ true → MayGoOn mode x
+pub go_open : {S : Type 0} (mode : Mode) (x : ExecutorView S) → x.is_open ≡ true → MayGoOn mode x
 go_open Run x is_open = tt
 go_open Serve x is_open = is_open
 
@@ -59,22 +59,22 @@ if_ok P Q (Ok x) to p = to x p
 if_ok P Q (Err e) to p = tt
 
 -- none waits
-pub none_waits : {D : Type 0} (mode : Mode) (s : Midway D) → s.commands ≡ [] → (mode ≡ Run → s.held ≡ None) → MayWait mode s
+pub none_waits : {S : Type 0} (mode : Mode) (s : Midway S) → s.commands ≡ [] → (mode ≡ Run → s.held ≡ None) → MayWait mode s
 none_waits mode s none free = record { few = omega (arith, ap length none); while_open = λ _. none; free = free }
 
 -- then nothing has to be there
-pub none_there : {D : Type 0} (s : Midway D) → s.commands ≡ [] → WaitsForThere s
+pub none_there : {S : Type 0} (s : Midway S) → s.commands ≡ [] → WaitsForThere s
 none_there s none some = absurd (some none)
 
-pub none_stays : {D : Type 0} (mode : Mode) (s : Midway D) → s.commands ≡ [] → (mode ≡ Run → s.held ≡ None) → MayStay mode s
+pub none_stays : {S : Type 0} (mode : Mode) (s : Midway S) → s.commands ≡ [] → (mode ≡ Run → s.held ≡ None) → MayStay mode s
 none_stays mode s none free = record { waits = none_waits mode s none free; there = none_there s none }
 
 -- a poll found input
-pub peeked_there : {D : Type 0} (p q : SessionPosition D) (has_line : Bool) → q ≡ noted p (Peeked has_line) → has_line ≡ true → IsThere q.at.events
+pub peeked_there : {S : Type 0} (p q : SessionPosition S) (has_line : Bool) → q ≡ noted p (Peeked has_line) → has_line ≡ true → IsThere q.at.events
 peeked_there p q has_line same is =
     record { before = p.at.events; last = Peeked has_line; is_last = ap (λ (w : SessionPosition _). w.at.events) same; there = is }
 
-pub looked_there : {D : Type 0} (p q : SessionPosition D) (millis : ℕ) (ready : Bool) → q ≡ noted p (Polled millis ready) → ready ≡ true
+pub looked_there : {S : Type 0} (p q : SessionPosition S) (millis : ℕ) (ready : Bool) → q ≡ noted p (Polled millis ready) → ready ≡ true
     → IsThere q.at.events
 looked_there p q millis ready same is =
     record { before = p.at.events; last = Polled millis ready; is_last = ap (λ (w : SessionPosition _). w.at.events) same; there = is }
@@ -97,7 +97,7 @@ may_read_free commands held events free there =
     (subst (λ (ls : Lines). MayRead ls events) (sym (append-nil (map of_command commands))) (may_read commands events there))
 
 -- the executor is open while commands wait
-pub open_while : {D : Type 0} (mode : Mode) (s : Midway D) → MayWait mode s → s.commands ≢ [] → s.point.at.executor.is_open ≡ true
+pub open_while : {S : Type 0} (mode : Mode) (s : Midway S) → MayWait mode s → s.commands ≢ [] → s.point.at.executor.is_open ≡ true
 open_while mode s may some = by s.point.at.executor.is_open refl
   where
     by : (b : Bool) → s.point.at.executor.is_open ≡ b → s.point.at.executor.is_open ≡ true
@@ -105,7 +105,7 @@ open_while mode s may some = by s.point.at.executor.is_open refl
     by false closed = absurd (some (may.while_open closed))
 
 -- an error of a step is that of a session that broke off
-pub comes_err : {D E : Type 0} (view : D → DiskView) (source : Source) (rules : Rules) (p : SessionPosition D) (own : OwnTurn) (most : ℕ) (s : Midway D)
+pub comes_err : {S E : Type 0} (view : S → StoreView) (source : Source) (rules : Rules) (p : SessionPosition S) (own : OwnTurn) (most : ℕ) (s : Midway S)
     (r : Result Taken E) → IsErr r → BreaksOff view source rules p s.point.at → Comes view source rules p own most s r
 comes_err view source rules p own most s (Ok x) bad breaks = let none : ⊥ = cc in absurd none
 comes_err view source rules p own most s (Err e) bad breaks = breaks
@@ -130,19 +130,19 @@ begins_free : (held : Option Held) (left now : Option (List ℕ)) (kept : List �
 begins_free held left now kept free same none =
     subst (λ (h : Option Held). IsReadTo h left kept now) (sym free) (begins left now kept same none)
 
-module _ {D : Type 0} (view : D → DiskView) (source : Source) (rules : Rules) (p : SessionPosition D) (own : OwnTurn) where
-  abbrev At : ℕ → Lines → SessionPosition D → Type 0
+module _ {S : Type 0} (view : S → StoreView) (source : Source) (rules : Rules) (p : SessionPosition S) (own : OwnTurn) where
+  abbrev At : ℕ → Lines → SessionPosition S → Type 0
   At n lines q = Reaches view source rules p own n lines q
 
-  abbrev Come : ℕ → SessionPosition D → List Command → Option Held → List ℕ → Type 0
+  abbrev Come : ℕ → SessionPosition S → List Command → Option Held → List ℕ → Type 0
   Come most point commands held kept =
       HasCome view source rules p own most (record { point = point; commands = commands; held = held; kept = kept })
 
-  abbrev Finds : ℕ → List Command → Found → SessionPosition D → Type 0
+  abbrev Finds : ℕ → List Command → Found → SessionPosition S → Type 0
   Finds most commands what q = HasFound view source rules p own most commands what q
 
   -- more lines were allowed
-  pub come_more : (n m : ℕ) (commands : List Command) (held : Option Held) (kept : List ℕ) (point : SessionPosition D) → n ≤ m
+  pub come_more : (n m : ℕ) (commands : List Command) (held : Option Held) (kept : List ℕ) (point : SessionPosition S) → n ≤ m
       → Come n point commands held kept → Come m point commands held kept
   come_more n m commands held kept point le come = record {
     count = come.count;
@@ -154,12 +154,12 @@ module _ {D : Type 0} (view : D → DiskView) (source : Source) (rules : Rules) 
   }
 
   -- a poll, and a wait
-  pub polled : (most : ℕ) (commands : List Command) (held : Option Held) (kept : List ℕ) (point point' : SessionPosition D) (event : IoEvent)
+  pub polled : (most : ℕ) (commands : List Command) (held : Option Held) (kept : List ℕ) (point point' : SessionPosition S) (event : IoEvent)
       → IsLook rules.mode (map of_command commands ++ held_lines held) point.at.events event
       → point' ≡ session_position (following point.at event) point.left → Come most point commands held kept
       → Come most point' commands held kept
   polled most commands held kept point point' event is same come =
-      subst (λ (w : SessionPosition D). Come most w commands held kept) (sym same) (record {
+      subst (λ (w : SessionPosition S). Come most w commands held kept) (sym same) (record {
         count = come.count;
         few = come.few;
         left = come.left;
@@ -169,11 +169,11 @@ module _ {D : Type 0} (view : D → DiskView) (source : Source) (rules : Rules) 
         goes_on = come.goes_on;
       })
 
-  pub waited : (most : ℕ) (commands : List Command) (held : Option Held) (kept : List ℕ) (point point' : SessionPosition D) (event : IoEvent)
+  pub waited : (most : ℕ) (commands : List Command) (held : Option Held) (kept : List ℕ) (point point' : SessionPosition S) (event : IoEvent)
       → commands ≡ [] → MayRest (held_lines held) → IsWait own.since own.now point.at event → point' ≡ session_position (following point.at event) point.left
       → Come most point commands held kept → Come most point' commands held kept
   waited most commands held kept point point' event none rests is same come =
-      subst (λ (w : SessionPosition D). Come most w commands held kept) (sym same) (record {
+      subst (λ (w : SessionPosition S). Come most w commands held kept) (sym same) (record {
         count = come.count;
         few = come.few;
         left = come.left;
@@ -185,7 +185,7 @@ module _ {D : Type 0} (view : D → DiskView) (source : Source) (rules : Rules) 
       })
 
   -- the last question failed, or the loops have gone round as often as they can
-  pub event_breaks : (most : ℕ) (commands : List Command) (held : Option Held) (kept : List ℕ) (point : SessionPosition D) (q : SessionView D)
+  pub event_breaks : (most : ℕ) (commands : List Command) (held : Option Held) (kept : List ℕ) (point : SessionPosition S) (q : SessionView S)
       (event : IoEvent) → is_failure event ≡ true → q ≡ following point.at event → Come most point commands held kept
       → BreaksOff view source rules p q
   event_breaks most commands held kept point q event fails same come = record {
@@ -195,10 +195,10 @@ module _ {D : Type 0} (view : D → DiskView) (source : Source) (rules : Rules) 
     last = session_position point.at come.left;
     reached = come.reached;
     breaks = in_event event fails same;
-    cause = inl (record { before = point.at.events; last = event; is_last = ap (λ (s : SessionView D). s.events) same; fails = fails });
+    cause = inl (record { before = point.at.events; last = event; is_last = ap (λ (s : SessionView S). s.events) same; fails = fails });
   }
 
-  pub bound_breaks : (most : ℕ) (commands : List Command) (held : Option Held) (kept : List ℕ) (point : SessionPosition D)
+  pub bound_breaks : (most : ℕ) (commands : List Command) (held : Option Held) (kept : List ℕ) (point : SessionPosition S)
       → num_max ≤ length point.at.events → Come most point commands held kept → BreaksOff view source rules p point.at
   bound_breaks most commands held kept point many come = record {
     own = own;
@@ -211,7 +211,7 @@ module _ {D : Type 0} (view : D → DiskView) (source : Source) (rules : Rules) 
   }
 
   -- a part of the next line was read
-  pub read_part : (most : ℕ) (commands : List Command) (held : Option Held) (kept kept' : List ℕ) (point point' : SessionPosition D)
+  pub read_part : (most : ℕ) (commands : List Command) (held : Option Held) (kept kept' : List ℕ) (point point' : SessionPosition S)
       → held ≡ None → (commands ≢ [] → IsThere point.at.events) → point'.at ≡ following point.at (Read true)
       → (come : Come most point commands held kept) → IsMidLine come.left kept' point'.left → Come most point' commands held kept'
   read_part most commands held kept kept' point point' free there same come mid = record {
@@ -220,14 +220,14 @@ module _ {D : Type 0} (view : D → DiskView) (source : Source) (rules : Rules) 
     left = come.left;
     mid = subst (λ (h : Option Held). IsReadTo h come.left kept' point'.left) (sym free) mid;
     reached =
-        subst (λ (s : SessionView D). At come.count (map of_command commands ++ held_lines held) (session_position s come.left)) (sym same)
+        subst (λ (s : SessionView S). At come.count (map of_command commands ++ held_lines held) (session_position s come.left)) (sym same)
         (looks own come.count (map of_command commands ++ held_lines held) (session_position point.at come.left) (Read true) come.reached
         (refl, may_read_free commands held point.at.events free there));
-    goes_on = subst (λ (s : SessionView D). MayGoOn rules.mode s.executor) (sym same) come.goes_on;
+    goes_on = subst (λ (s : SessionView S). MayGoOn rules.mode s.executor) (sym same) come.goes_on;
   }
 
   -- what comes next was read
-  pub found_next : (most : ℕ) (commands : List Command) (held : Option Held) (kept : List ℕ) (point point' : SessionPosition D) (what : Found)
+  pub found_next : (most : ℕ) (commands : List Command) (held : Option Held) (kept : List ℕ) (point point' : SessionPosition S) (what : Found)
       → held ≡ None → (commands ≢ [] → IsThere point.at.events) → point'.at ≡ following point.at (Read true)
       → (come : Come most point commands held kept) → ReadsInput rules.mode come.left point'.left what → Finds most commands what point'
   found_next most commands held kept point point' what free there same come input = by what input
@@ -238,11 +238,11 @@ module _ {D : Type 0} (view : D → DiskView) (source : Source) (rules : Rules) 
           come.reached
 
       goes_on : MayGoOn rules.mode point'.at.executor
-      goes_on = subst (λ (s : SessionView D). MayGoOn rules.mode s.executor) (sym same) come.goes_on
+      goes_on = subst (λ (s : SessionView S). MayGoOn rules.mode s.executor) (sym same) come.goes_on
 
       looked_at : At come.count (map of_command commands ++ []) (session_position point'.at come.left)
       looked_at =
-          subst (λ (s : SessionView D). At come.count (map of_command commands ++ []) (session_position s come.left)) (sym same)
+          subst (λ (s : SessionView S). At come.count (map of_command commands ++ []) (session_position s come.left)) (sym same)
           (looks own come.count (map of_command commands ++ []) (session_position point.at come.left) (Read true) before
           (refl, may_read_free commands None point.at.events refl there))
 
@@ -253,7 +253,7 @@ module _ {D : Type 0} (view : D → DiskView) (source : Source) (rules : Rules) 
         left = point'.left;
         next = refl;
         reached =
-            subst (λ (s : SessionView D). At come.count (map of_command commands ++ line ∷ []) (session_position s point'.left)) (sym same)
+            subst (λ (s : SessionView S). At come.count (map of_command commands ++ line ∷ []) (session_position s point'.left)) (sym same)
             (reads own come.count commands (session_position point.at come.left) point'.left line
             (subst (λ (ls : Lines). At come.count ls (session_position point.at come.left)) (append-nil (map of_command commands)) before)
             come.goes_on (may_read commands point.at.events there) input);
@@ -277,11 +277,11 @@ module _ {D : Type 0} (view : D → DiskView) (source : Source) (rules : Rules) 
       }
 
   -- then there was a poll
-  pub found_looked : (most : ℕ) (commands : List Command) (what : Found) (q q' : SessionPosition D) (event : IoEvent)
+  pub found_looked : (most : ℕ) (commands : List Command) (what : Found) (q q' : SessionPosition S) (event : IoEvent)
       → IsLook rules.mode (map of_command commands ++ found_lines what) q.at.events event
       → q' ≡ session_position (following q.at event) q.left → Finds most commands what q → Finds most commands what q'
   found_looked most commands what q q' event is same finds =
-      subst (λ (w : SessionPosition D). Finds most commands what w) (sym same) (record {
+      subst (λ (w : SessionPosition S). Finds most commands what w) (sym same) (record {
         count = finds.count;
         few = finds.few;
         left = finds.left;
@@ -292,7 +292,7 @@ module _ {D : Type 0} (view : D → DiskView) (source : Source) (rules : Rules) 
       })
 
   -- the line is held
-  pub found_held : (most : ℕ) (commands : List Command) (held : Option Held) (kept : List ℕ) (h : Held) (what : Found) (q : SessionPosition D)
+  pub found_held : (most : ℕ) (commands : List Command) (held : Option Held) (kept : List ℕ) (h : Held) (what : Found) (q : SessionPosition S)
       → what ≡ found.Line (Ok (asks h)) → held ≡ Some h → kept ≡ [] → Finds most commands what q
       → Come (most + 1) q commands held kept
   found_held most commands held kept h what q is holds none finds =
@@ -310,7 +310,7 @@ module _ {D : Type 0} (view : D → DiskView) (source : Source) (rules : Rules) 
       }
 
   -- the line waits, as it is a command
-  pub one_waits : (most : ℕ) (commands commands' : List Command) (held : Option Held) (kept : List ℕ) (command : Command) (q : SessionPosition D)
+  pub one_waits : (most : ℕ) (commands commands' : List Command) (held : Option Held) (kept : List ℕ) (command : Command) (q : SessionPosition S)
       → held ≡ None → kept ≡ [] → commands' ≡ commands ++ command ∷ [] → Finds most commands (found.Line (of_command command)) q
       → Come (most + 1) q commands' held kept
   one_waits most commands commands' held kept command q free none more finds = record {
@@ -331,11 +331,11 @@ module _ {D : Type 0} (view : D → DiskView) (source : Source) (rules : Rules) 
 
   -- all that wait are answered
   batch_reached : (count most : ℕ) → ((n : ℕ) → n + 1 ≤ most → MayTake rules.mode n) → (commands : List Command) (lines : Lines)
-      (at at' : SessionView D) (left : Option (List ℕ)) → count + length commands ≤ most → (commands ≢ [] → at.executor.is_open ≡ true)
+      (at at' : SessionView S) (left : Option (List ℕ)) → count + length commands ≤ most → (commands ≢ [] → at.executor.is_open ≡ true)
       → At count (map of_command commands ++ lines) (session_position at left) → AnswersAll view rules commands at at'
       → (n : ℕ) × (n ≤ most) × At n lines (session_position at' left)
   batch_reached count most may [] lines at at' left few is_open reached same =
-      (count, omega (arith, few), subst (λ (s : SessionView D). At count lines (session_position s left)) (sym same) reached)
+      (count, omega (arith, few), subst (λ (s : SessionView S). At count lines (session_position s left)) (sym same) reached)
   batch_reached count most may (first ∷ others) lines at at' left few is_open reached answered = (
     count + length others + 1,
     omega (arith, few),
@@ -344,7 +344,7 @@ module _ {D : Type 0} (view : D → DiskView) (source : Source) (rules : Rules) 
   )
 
   -- their answer broke off
-  batch_broken : (count : ℕ) (commands : List Command) (lines : Lines) (at s : SessionView D) (left : Option (List ℕ))
+  batch_broken : (count : ℕ) (commands : List Command) (lines : Lines) (at s : SessionView S) (left : Option (List ℕ))
       → (commands ≢ [] → at.executor.is_open ≡ true) → At count (map of_command commands ++ lines) (session_position at left)
       → BatchBreaks view rules commands at s → MayBreakOff s.events → BreaksOff view source rules p s
   batch_broken count [] lines at s left is_open reached broke cause = absurd broke
@@ -358,13 +358,13 @@ module _ {D : Type 0} (view : D → DiskView) (source : Source) (rules : Rules) 
     cause = cause;
   }
 
-  pub come_batch_breaks : (most : ℕ) (commands : List Command) (held : Option Held) (kept : List ℕ) (point : SessionPosition D) (s : SessionView D)
+  pub come_batch_breaks : (most : ℕ) (commands : List Command) (held : Option Held) (kept : List ℕ) (point : SessionPosition S) (s : SessionView S)
       → (commands ≢ [] → point.at.executor.is_open ≡ true) → Come most point commands held kept
       → BatchBreaks view rules commands point.at s → MayBreakOff s.events → BreaksOff view source rules p s
   come_batch_breaks most commands held kept point s is_open come broke cause =
       batch_broken come.count commands (held_lines held) point.at s come.left is_open come.reached broke cause
 
-  pub found_batch_breaks : (most : ℕ) (commands : List Command) (what : Found) (q : SessionPosition D) (s : SessionView D)
+  pub found_batch_breaks : (most : ℕ) (commands : List Command) (what : Found) (q : SessionPosition S) (s : SessionView S)
       → (commands ≢ [] → q.at.executor.is_open ≡ true) → Finds most commands what q
       → BatchBreaks view rules commands q.at s → MayBreakOff s.events → BreaksOff view source rules p s
   found_batch_breaks most commands what q s is_open finds broke cause =
@@ -372,7 +372,7 @@ module _ {D : Type 0} (view : D → DiskView) (source : Source) (rules : Rules) 
 
   -- the session goes on after it
   pub come_answered : (most : ℕ) → ((n : ℕ) → n + 1 ≤ most → MayTake rules.mode n) → (commands commands' : List Command)
-      (held : Option Held) (kept : List ℕ) (point point' : SessionPosition D) (step : Taken) → (commands ≢ [] → point.at.executor.is_open ≡ true)
+      (held : Option Held) (kept : List ℕ) (point point' : SessionPosition S) (step : Taken) → (commands ≢ [] → point.at.executor.is_open ≡ true)
       → commands' ≡ [] → point'.left ≡ point.left → Come most point commands held kept
       → AnswersAll view rules commands point.at point'.at → IsTaken rules.mode point'.at.executor false step
       → ComesOrEnds view source rules p own most
@@ -409,7 +409,7 @@ module _ {D : Type 0} (view : D → DiskView) (source : Source) (rules : Rules) 
 
   -- the same before the line that was read is answered
   pub found_answered : (most : ℕ) → ((n : ℕ) → n + 1 ≤ most → MayTake rules.mode n) → (commands : List Command) (what : Found)
-      (q q' : SessionPosition D) → (commands ≢ [] → q.at.executor.is_open ≡ true) → q'.left ≡ q.left → Finds most commands what q
+      (q q' : SessionPosition S) → (commands ≢ [] → q.at.executor.is_open ≡ true) → q'.left ≡ q.left → Finds most commands what q
       → AnswersAll view rules commands q.at q'.at → MayGoOn rules.mode q'.at.executor → Finds most [] what q'
   found_answered most may commands what q q' is_open same finds answered goes_on =
       let (n, few, reached) = batch_reached finds.count most may commands (found_lines what) q.at q'.at finds.left finds.few is_open
@@ -424,7 +424,7 @@ module _ {D : Type 0} (view : D → DiskView) (source : Source) (rules : Rules) 
       }
 
   pub found_closed : (most : ℕ) → ((n : ℕ) → n + 1 ≤ most → MayTake rules.mode n) → (commands : List Command) (what : Found)
-      (q q' : SessionPosition D) → (commands ≢ [] → q.at.executor.is_open ≡ true) → Finds most commands what q
+      (q q' : SessionPosition S) → (commands ≢ [] → q.at.executor.is_open ≡ true) → Finds most commands what q
       → AnswersAll view rules commands q.at q'.at → MakesTurns rules.mode → q'.at.executor.is_open ≡ false
       → ReachesFault view source rules p q'.at
   found_closed most may commands what q q' is_open finds answered serves closed =
@@ -442,7 +442,7 @@ module _ {D : Type 0} (view : D → DiskView) (source : Source) (rules : Rules) 
 
   -- a session that does not go on after them ends where it is
   pub step_ends : (most : ℕ) → ((n : ℕ) → n + 1 ≤ most → MayTake rules.mode n) → (commands commands' : List Command) (held : Option Held)
-      (kept : List ℕ) (what : Found) (q q' : SessionPosition D) (step : Taken) → (commands ≢ [] → q.at.executor.is_open ≡ true)
+      (kept : List ℕ) (what : Found) (q q' : SessionPosition S) (step : Taken) → (commands ≢ [] → q.at.executor.is_open ≡ true)
       → Finds most commands what q → AnswersAll view rules commands q.at q'.at → step ≢ taken.More
       → IsTaken rules.mode q'.at.executor false step
       → ComesOrEnds view source rules p own (most + 1)
@@ -455,7 +455,7 @@ module _ {D : Type 0} (view : D → DiskView) (source : Source) (rules : Rules) 
 
   -- the line that was read was answered, or there was no line
   pub found_taken : (E : Type 0) (most : ℕ) → MayTakeAfter rules.mode most → (commands : List Command) (held : Option Held) (kept : List ℕ)
-      (what : Found) (q q' : SessionPosition D) (has_ended : Bool) (step : Taken) → commands ≡ [] → held ≡ None → kept ≡ []
+      (what : Found) (q q' : SessionPosition S) (has_ended : Bool) (step : Taken) → commands ≡ [] → held ≡ None → kept ≡ []
       → q'.left ≡ q.left → Finds most [] what q → TakesFound {E = E} view source rules what q.at q'.at (Ok has_ended)
       → IsTaken rules.mode q'.at.executor has_ended step
       → ComesOrEnds view source rules p own (most + 1)
@@ -500,7 +500,7 @@ module _ {D : Type 0} (view : D → DiskView) (source : Source) (rules : Rules) 
         own = own;
         count = it.count;
         left = it.left;
-        reached = subst (λ (s : SessionView D). At it.count [] (session_position s it.left)) (sym same_at) it.reached;
+        reached = subst (λ (s : SessionView S). At it.count [] (session_position s it.left)) (sym same_at) it.reached;
         end = it.next;
         goes_on = goes_on;
       }
@@ -511,7 +511,7 @@ module _ {D : Type 0} (view : D → DiskView) (source : Source) (rules : Rules) 
         count = it.count;
         lines = [];
         left = it.left;
-        reached = subst (λ (s : SessionView D). At it.count [] (session_position s it.left)) (sym same_at) it.reached;
+        reached = subst (λ (s : SessionView S). At it.count [] (session_position s it.left)) (sym same_at) it.reached;
         is_closed = closed;
       }
 
@@ -522,13 +522,13 @@ module _ {D : Type 0} (view : D → DiskView) (source : Source) (rules : Rules) 
           step (subst (λ (b : Bool). IsTaken rules.mode q'.at.executor b step) not_ended is)
       by found.Empty it (not_ended, same_at) =
           further q.left (it.count + 1) (omega (arith, it.few)) (sym same)
-          (subst (λ (s : SessionView D). At (it.count + 1) [] (session_position s q.left)) (sym same_at)
+          (subst (λ (s : SessionView S). At (it.count + 1) [] (session_position s q.left)) (sym same_at)
           (passes own it.count (session_position q.at it.left) q.left it.reached it.goes_on (may it.count (omega (arith, it.few))) it.next))
           step (subst (λ (b : Bool). IsTaken rules.mode q'.at.executor b step) not_ended is)
       by found.End it (at_end, same_at) =
           ended it same_at step (subst (λ (b : Bool). IsTaken rules.mode q'.at.executor b step) at_end is)
 
-  pub found_breaks : {E : Type 0} (most : ℕ) (what : Found) (q : SessionPosition D) (s : SessionView D) (fault : E) → Finds most [] what q
+  pub found_breaks : {E : Type 0} (most : ℕ) (what : Found) (q : SessionPosition S) (s : SessionView S) (fault : E) → Finds most [] what q
       → TakesFound view source rules what q.at s (Err fault) → BreaksOff view source rules p s
   found_breaks most what q s fault finds broke = by what finds broke
     where
@@ -546,7 +546,7 @@ module _ {D : Type 0} (view : D → DiskView) (source : Source) (rules : Rules) 
       by found.End it none = absurd none
 
 -- nothing is done yet
-pub first_come : {D : Type 0} (view : D → DiskView) (source : Source) (rules : Rules) (p : SessionPosition D) (pending : Pending) → IsClear pending
+pub first_come : {S : Type 0} (view : S → StoreView) (source : Source) (rules : Rules) (p : SessionPosition S) (pending : Pending) → IsClear pending
     → MayGoOn rules.mode p.at.executor → HasCome view source rules p (turned 0 0 Done [] p.at) 0 (midway p pending)
 first_come view source rules p pending clear goes_on = record {
   count = 0;

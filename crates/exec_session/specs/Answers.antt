@@ -8,7 +8,7 @@ use Rattle.ocf_types.specs.declared.reply.ReplyOf.TheVariants.{Refused}
 use Rattle.ocf_types.specs.declared.reply.TidyEnd.{TidyEnd}
 use Rattle.ocf_types.specs.declared.reply.TidyEnd.TheVariants as tidy_end
 use Rattle.ocf_types.specs.declared.reply.TurnEnd.TheVariants as turn_end
-use Rattle.disk_model.specs.Disk.{DiskView}
+use Rattle.store_model.specs.StoreView.{StoreView}
 use Rattle.executor.specs.Commands.{Serves}
 use Rattle.executor.specs.ExecutorView.{ExecutorView}
 use Rattle.executor.specs.TidyCalls.{Tidies}
@@ -24,6 +24,7 @@ use Rattle.exec_commands.specs.declared.reply.LineReply.{LineReply}
 use Rattle.exec_commands.specs.declared.reply.LineReply.TheVariants as answer
 use Rattle.exec_commands.specs.declared.statuses.Statuses.{Statuses}
 use Rattle.resource_status.specs.Statuses.{statuses_of}
+use Rattle.resource_status.specs.declared.reasons.RunReason.{RunReason}
 use Rattle.exec_client.specs.SentItem.{Answered}
 use Rattle.exec_trace.specs.declared.event.IoEvent.TheVariants.{Shown}
 use Rattle.exec_session.specs.Drains.{Drains}
@@ -56,11 +57,11 @@ closed_drain = answer.Drain (Turn turn_end.Closed)
 abbrev pub closed_tidy : LineReply
 closed_tidy = answer.Tidy tidy_end.Closed
 
--- the status of all resources at the executor's state, or that memory was refused for it: only where the executor's allocator refuses
--- growths
-abbrev pub IsStatusReply : {D : Type 0} → ExecutorView D → LineReply → Type 0
+-- the status of all resources at the executor's state, with some reasons for failures, or that memory was refused for it: only where
+-- the executor's allocator refuses growths
+abbrev pub IsStatusReply : {S : Type 0} → ExecutorView S → LineReply → Type 0
 IsStatusReply x reply =
-    ((statuses : Statuses) × (reply ≡ answer.Status statuses) × (statuses_in statuses ≡ statuses_of x.state))
+    ((statuses : Statuses) × (reasons : List RunReason) × (reply ≡ answer.Status statuses) × (statuses_in statuses ≡ statuses_of reasons x.state))
     ⊎ ((reply ≡ refused refusal.Memory) × IsTrue x.refuses)
 
 -- the metadata that were asked for, or why there are none
@@ -83,26 +84,26 @@ IsClosedReply source (Ok (line.Direct direct)) reply = reply ≡ refused refusal
 IsClosedReply source (Err why) reply = reply ≡ refused refusal.Closed
 
 -- a drain from the next clock reading on, for at most this many milliseconds and turns
-abbrev pub DrainsFor : {D : Type 0} → (D → DiskView) → Bool → ℕ → Rules → SessionView D
-    → SessionView D → LineReply → Type 0
+abbrev pub DrainsFor : {S : Type 0} → (S → StoreView) → Bool → ℕ → Rules → SessionView S
+    → SessionView S → LineReply → Type 0
 DrainsFor view ends_idle limit rules p q reply =
     (now : ℕ) × (end : DrainEnd) × (reply ≡ answer.Drain end)
     × Drains view rules (record { ends_idle = ends_idle; until = now + limit; most = rules.most_turns }) now (following p (Shown now)) q end
 
 -- A drain, and then a reply that says how it ended, which is sent like this.
-pub record DrainSent {D : Type 0} (sends_so : Sending D) (view : D → DiskView) (ends_idle : Bool) (limit : ℕ) (rules : Rules)
-    (p q : SessionView D) : Type 0 where
+pub record DrainSent {S : Type 0} (sends_so : Sending S) (view : S → StoreView) (ends_idle : Bool) (limit : ℕ) (rules : Rules)
+    (p q : SessionView S) : Type 0 where
   pub reply : LineReply
-  pub noticed : SessionView D
+  pub noticed : SessionView S
   pub drains : DrainsFor view ends_idle limit rules p noticed reply
   pub sends_all : sends_so noticed q (Answered reply ∷ [])
 
 -- An open executor serves a request: the clock is read, a due tidy is made, and then the request is served. If a disk fault closed the
 -- executor in the tidy, the request is refused for that and nothing else is done.
-pub record ServesNow {D : Type 0} (view : D → DiskView) (rules : Rules) (request : Request)
-    (p q : SessionView D) (reply : LineReply) : Type 0 where
+pub record ServesNow {S : Type 0} (view : S → StoreView) (rules : Rules) (request : Request)
+    (p q : SessionView S) (reply : LineReply) : Type 0 where
   pub now : ℕ
-  pub middle : ExecutorView D
+  pub middle : ExecutorView S
   pub given : Reply
   pub reported : reply ≡ answer.Request given
   pub shown : q ≡ following (moved p q.executor) (Shown now)
@@ -112,13 +113,13 @@ pub record ServesNow {D : Type 0} (view : D → DiskView) (rules : Rules) (reque
   pub closes : q.executor.is_open ≡ false ↔ (given ≡ Refused refusal.Disk)
 
 -- how a tidy ended that was asked for
-abbrev pub TidiesNow : {D : Type 0} → (D → DiskView) → SessionView D → SessionView D → LineReply → Type 0
+abbrev pub TidiesNow : {S : Type 0} → (S → StoreView) → SessionView S → SessionView S → LineReply → Type 0
 TidiesNow view p q reply =
     (end : TidyEnd) × (reply ≡ answer.Tidy end) × Tidies view p.executor q.executor end × (q ≡ moved p q.executor)
 
 -- the reply of an open executor to a line: from the spot at which the line is taken to that at which the reply is sent
-abbrev pub IsOpenReply : {D : Type 0} → (D → DiskView) → Source → Rules → SessionView D
-    → SessionView D → Result Line Refusal → LineReply → Type 0
+abbrev pub IsOpenReply : {S : Type 0} → (S → StoreView) → Source → Rules → SessionView S
+    → SessionView S → Result Line Refusal → LineReply → Type 0
 IsOpenReply view source rules p q (Ok (line.Request request)) reply = ServesNow view rules request p q reply
 IsOpenReply view source rules p q (Ok (line.Drain limit)) reply = DrainsFor view true limit rules p q reply
 IsOpenReply view source rules p q (Ok (line.Watch limit)) reply = DrainsFor view false limit rules p q reply
@@ -132,7 +133,7 @@ IsOpenReply view source rules p q (Ok (line.Direct direct)) reply = (reply ≡ a
 IsOpenReply view source rules p q (Err why) reply = (reply ≡ refused why) × (q ≡ p)
 
 -- the reply of an executor, open or closed
-pub record IsReply {D : Type 0} (view : D → DiskView) (source : Source) (rules : Rules)
-    (p q : SessionView D) (found : Result Line Refusal) (reply : LineReply) : Type 0 where
+pub record IsReply {S : Type 0} (view : S → StoreView) (source : Source) (rules : Rules)
+    (p q : SessionView S) (found : Result Line Refusal) (reply : LineReply) : Type 0 where
   pub while_open : p.executor.is_open ≡ true → IsOpenReply view source rules p q found reply
   pub once_closed : p.executor.is_open ≡ false → IsClosedReply source found reply × (q ≡ p)

@@ -3,7 +3,7 @@ use Rattle.std.specs.Prelude.{◌⊎◌, ℕ, ◌+◌, Bool, true, false, List, 
 use Rattle.ocf_types.specs.Kinds.{Command}
 use Rattle.ocf_types.specs.declared.refusal.Refusal.{Refusal}
 use Rattle.ocf_types.specs.declared.reply.TurnEnd.{TurnEnd}
-use Rattle.disk_model.specs.Disk.{DiskView}
+use Rattle.store_model.specs.StoreView.{StoreView}
 use Rattle.exec_commands.specs.declared.line.Line.{Line}
 use Rattle.exec_commands.specs.declared.line.Line.TheVariants as line
 use Rattle.exec_trace.specs.declared.event.IoEvent.TheVariants.{Shown}
@@ -15,35 +15,35 @@ use Rattle.exec_session.specs.SessionViews.{Pauses, SessionView, SendsPart, foll
 use Rattle.exec_session.specs.Together.{TogetherReceived}
 
 -- a turn at this time broke off in its notices
-abbrev pub TurnBreaks : {D : Type 0} → (D → DiskView) → Rules → ℕ → SessionView D → SessionView D → Type 0
+abbrev pub TurnBreaks : {S : Type 0} → (S → StoreView) → Rules → ℕ → SessionView S → SessionView S → Type 0
 TurnBreaks view rules now p q = (end : TurnEnd) × TurnReceived (SendsPart rules.form) view rules now p q end
 
 -- A drain broke off. `in_turn`: in a turn, and a prefix of its notices was written. `unheard`: after a turn, since nobody read
 -- the output any more. `spent`: its loop came to its end, after `NUM_MAX` turns.
-pub data DrainBreaks {D : Type 0} (view : D → DiskView) (rules : Rules) (t : Terms) (start : ℕ) (p q : SessionView D) : Type 0 where
-  in_turn : (turns now : ℕ) (m : SessionView D) (end : TurnEnd) → GoesOn view rules t start p turns now m
+pub data DrainBreaks {S : Type 0} (view : S → StoreView) (rules : Rules) (t : Terms) (start : ℕ) (p q : SessionView S) : Type 0 where
+  in_turn : (turns now : ℕ) (m : SessionView S) (end : TurnEnd) → GoesOn view rules t start p turns now m
       → TurnReceived (SendsPart rules.form) view rules now m q end → DrainBreaks view rules t start p q
-  unheard : (turns now : ℕ) (m reported : SessionView D) (end : TurnEnd) → GoesOn view rules t start p turns now m
+  unheard : (turns now : ℕ) (m reported : SessionView S) (end : TurnEnd) → GoesOn view rules t start p turns now m
       → MakesTurn view rules now m reported end → Pauses start now false reported q → DrainBreaks view rules t start p q
   spent : (turns now : ℕ) → GoesOn view rules t start p turns now q → DrainBreaks view rules t start p q
 
 -- the same of a drain of at most this many milliseconds from the next clock reading on
-abbrev pub DrainBreaksFor : {D : Type 0} → (D → DiskView) → Bool → ℕ → Rules → SessionView D → SessionView D → Type 0
+abbrev pub DrainBreaksFor : {S : Type 0} → (S → StoreView) → Bool → ℕ → Rules → SessionView S → SessionView S → Type 0
 DrainBreaksFor view ends_idle limit rules p q =
     (now : ℕ) × DrainBreaks view rules (record { ends_idle = ends_idle; until = now + limit; most = rules.most_turns }) now (following p (Shown now)) q
 
 -- the same, or its reply broke off
-abbrev pub DrainEndsEarly : {D : Type 0} → (D → DiskView) → Bool → ℕ → Rules → SessionView D → SessionView D → Type 0
+abbrev pub DrainEndsEarly : {S : Type 0} → (S → StoreView) → Bool → ℕ → Rules → SessionView S → SessionView S → Type 0
 DrainEndsEarly view ends_idle limit rules p q =
     DrainSent (SendsPart rules.form) view ends_idle limit rules p q ⊎ DrainBreaksFor view ends_idle limit rules p q
 
 -- An open executor broke off in answering a line before the reply was sent: only a drain or a watch can.
-abbrev pub ReplyBreaks : {D : Type 0} → (D → DiskView) → Rules → SessionView D → SessionView D → Result Line Refusal → Type 0
+abbrev pub ReplyBreaks : {S : Type 0} → (S → StoreView) → Rules → SessionView S → SessionView S → Result Line Refusal → Type 0
 ReplyBreaks view rules p q (Ok (line.Drain limit)) = DrainBreaksFor view true limit rules p q
 ReplyBreaks view rules p q (Ok (line.Watch limit)) = DrainBreaksFor view false limit rules p q
 ReplyBreaks view rules p q _ = ⊥
 
 -- a group commit was answered, and a prefix of its replies was written
-abbrev pub BatchBreaks : {D : Type 0} → (D → DiskView) → Rules → List Command → SessionView D → SessionView D → Type 0
+abbrev pub BatchBreaks : {S : Type 0} → (S → StoreView) → Rules → List Command → SessionView S → SessionView S → Type 0
 BatchBreaks view rules [] p q = ⊥
 BatchBreaks view rules (first ∷ others) p q = TogetherReceived (SendsPart rules.form) view rules (first ∷ others) p q

@@ -1,7 +1,7 @@
 -- A line that a session in `serve` holds: it asks for metadata, or for the end of the session.
 use Rattle.std.specs.Prelude.{◌≡◌, ⊤, [], ◌∷◌, Option, Some, None, Bool, true, false, Result, Ok, Err}
 use Rattle.ocf_types.specs.declared.refusal.Refusal.{Refusal}
-use Rattle.disk_model.specs.Disk.{DiskView}
+use Rattle.store_model.specs.StoreView.{StoreView}
 use Rattle.exec_commands.specs.declared.line.Line.{Line}
 use Rattle.exec_commands.specs.declared.line.Line.TheVariants as line
 use Rattle.exec_session.specs.Answers.{Source}
@@ -39,7 +39,7 @@ MayTakeAtOnce mode (found.Line line) = MayAnswerAtOnce mode line
 MayTakeAtOnce mode _ = ⊤
 
 -- the held line was answered; or its agent has not answered by now and nothing was done; or its reply broke off
-abbrev pub AnswersHeld : {D E : Type 0} → (D → DiskView) → Source → Rules → Held → SessionView D → SessionView D → Result Bool E → Type 0
+abbrev pub AnswersHeld : {S E : Type 0} → (S → StoreView) → Source → Rules → Held → SessionView S → SessionView S → Result Bool E → Type 0
 AnswersHeld view source rules held p q (Ok true) = Answers view source rules (Ok (asks held)) p q
 AnswersHeld view source rules held p q (Ok false) = q ≡ p
 AnswersHeld view source rules held p q (Err fault) =

@@ -6,7 +6,7 @@ use Rattle.child_model.specs.declared.answer.Answer.{Answer}
 use Rattle.child_model.specs.declared.answer.Answer.TheVariants as asked
 use Rattle.child_model.specs.declared.answer.Entry.{Entry}
 use Rattle.child_model.specs.declared.answer.Poll.TheVariants.{Running}
-use Rattle.exec_state.specs.Store.{all_pairs}
+use Rattle.exec_state.specs.StateValue.{all_pairs}
 use Rattle.executor.specs.ExecutorView.{ExecutorView}
 use Rattle.exec_trace.specs.Events.{last_shown}
 use Rattle.exec_trace.specs.declared.event.IoEvent.{IoEvent}
@@ -34,7 +34,7 @@ abbrev pub IsShort : ℕ → ℕ → ℕ → Type 0
 IsShort since now micros = (micros ≤ short_pause) ⊎ ((micros ≤ longest_pause) × (micros ≤ 10 * (now - since)))
 
 -- Nothing is queued or running, and no monitor is due within this many microseconds from the last clock reading; a second at most.
-pub record IsUntilDue {D : Type 0} (x : ExecutorView D) (events : List IoEvent) (micros : ℕ) : Type 0 where
+pub record IsUntilDue {S : Type 0} (x : ExecutorView S) (events : List IoEvent) (micros : ℕ) : Type 0 where
   pub idle : any_busy x.state ≡ false
   pub moment : ℕ
   pub shown : last_shown events ≡ Some moment
@@ -42,5 +42,5 @@ pub record IsUntilDue {D : Type 0} (x : ExecutorView D) (events : List IoEvent) 
   pub before : All (λ p. 1000 * moment + micros ≤ 1000 * p.0) (all_pairs x.monitors)
 
 -- A wait may take `micros` microseconds after a turn at `now`, where no action has ended or begun since `since`.
-abbrev pub MayPause : {D : Type 0} → ℕ → ℕ → ExecutorView D → List IoEvent → ℕ → Type 0
+abbrev pub MayPause : {S : Type 0} → ℕ → ℕ → ExecutorView S → List IoEvent → ℕ → Type 0
 MayPause since now x events micros = IsShort since now micros ⊎ IsUntilDue x events micros

@@ -3,7 +3,7 @@ use Rattle.std.specs.Prelude.{◌≡◌, ◌≢◌, ◌⊎◌, ℕ, ◌<◌, ⊤
 use Rattle.std.specs.Io.KnownBytes.{IsAtEnd}
 use Rattle.ocf_types.specs.declared.refusal.Refusal.{Refusal}
 use Rattle.ocf_types.specs.declared.refusal.Refusal.TheVariants.{Memory}
-use Rattle.disk_model.specs.Disk.{DiskView}
+use Rattle.store_model.specs.StoreView.{StoreView}
 use Rattle.exec_lines.specs.Lines.{first_line, after_first_line}
 use Rattle.exec_commands.specs.Tags.{IsTaggedAs}
 use Rattle.exec_commands.specs.declared.line.Line.{Line}
@@ -46,13 +46,13 @@ ReadsInput mode old new found.Empty = PassesLine old new
 ReadsInput mode old new (found.Line line) = ReadsLine mode old new line
 
 -- A line that was read is answered: the client is sent the notices of a drain, and then only the reply, which is sent like this.
-pub record AnswersSo {D : Type 0} (sends_so : Sending D) (view : D → DiskView) (source : Source) (rules : Rules)
-    (found : Result Line Refusal) (p q : SessionView D) : Type 0 where
+pub record AnswersSo {S : Type 0} (sends_so : Sending S) (view : S → StoreView) (source : Source) (rules : Rules)
+    (found : Result Line Refusal) (p q : SessionView S) : Type 0 where
   pub reply : LineReply
-  pub noticed : SessionView D
+  pub noticed : SessionView S
   pub answered : IsReply view source rules p noticed found reply
   pub sends_all : sends_so noticed q (Answered reply ∷ [])
 
 -- the client receives all of it
-abbrev pub Answers : {D : Type 0} → (D → DiskView) → Source → Rules → Result Line Refusal → SessionView D → SessionView D → Type 0
+abbrev pub Answers : {S : Type 0} → (S → StoreView) → Source → Rules → Result Line Refusal → SessionView S → SessionView S → Type 0
 Answers view source rules found p q = AnswersSo (SendsAll rules.form) view source rules found p q

@@ -1,7 +1,7 @@
 -- Whole sessions.
 use Rattle.std.specs.Prelude.{◌≡◌, ◌≢◌, ◌⊎◌, ℕ, ◌+◌, ◌*◌, ◌<◌, ⊤, List, [], ◌∷◌, ◌++◌, length, map, true, false, Option, Result, Ok}
 use Rattle.std.specs.Io.KnownBytes.{IsAtEnd}
-use Rattle.disk_model.specs.Disk.{DiskView}
+use Rattle.store_model.specs.StoreView.{StoreView}
 use Rattle.executor.specs.ExecutorView.{ExecutorView}
 use Rattle.ocf_types.specs.Kinds.{Command}
 use Rattle.ocf_types.specs.declared.command.RequestOf.TheVariants as asked
@@ -30,7 +30,7 @@ use Rattle.exec_session.specs.SessionViews.{SessionPosition, SessionView, Sendin
 use Rattle.exec_session.specs.Together.{AnswersTogether}
 
 -- a client of an executor that was just opened, and is open; it was sent nothing yet
-abbrev pub IsNew : {D : Type 0} → ClientView D → ExecutorView D → Type 0
+abbrev pub IsNew : {S : Type 0} → ClientView S → ExecutorView S → Type 0
 IsNew client_view x = (client_view.opened ≡ x) × (client_view.reported ≡ []) × (x.is_open ≡ true)
 
 -- in this mode a session may take a line after this many since its last turn
@@ -44,7 +44,7 @@ MakesTurns Run = ⊥
 MakesTurns Serve = ⊤
 
 -- A session may go on: in `serve` only while its executor is open, as a disk fault ends it.
-abbrev pub MayGoOn : {D : Type 0} → Mode → ExecutorView D → Type 0
+abbrev pub MayGoOn : {S : Type 0} → Mode → ExecutorView S → Type 0
 MayGoOn Run x = ⊤
 MayGoOn Serve x = x.is_open ≡ true
 
@@ -54,15 +54,15 @@ abbrev pub IsNews : TurnEnd → TurnEnd → Type 0
 IsNews before end = (end ≢ before) × (end ≢ Done) × (end ≢ Disk)
 
 -- if the end of an own turn is news, it is sent like this, and else nothing is sent
-pub data NewsSo {D : Type 0} (sends_so : Sending D) (before end : TurnEnd) (p q : SessionView D) : Type 0 where
+pub data NewsSo {S : Type 0} (sends_so : Sending S) (before end : TurnEnd) (p q : SessionView S) : Type 0 where
   news : IsNews before end → sends_so p q (ended end ∷ []) → NewsSo sends_so before end p q
   no_news : (IsNews before end → ⊥) → q ≡ p → NewsSo sends_so before end p q
 
 -- A turn that a session makes by itself after one that ended like this, at this time, the clock reading at its beginning: the client
 -- receives its notices, and its end if that is news.
-pub record MakesOwnTurn {D : Type 0} (view : D → DiskView) (rules : Rules) (before : TurnEnd) (now : ℕ) (p q : SessionView D) (end : TurnEnd)
+pub record MakesOwnTurn {S : Type 0} (view : S → StoreView) (rules : Rules) (before : TurnEnd) (now : ℕ) (p q : SessionView S) (end : TurnEnd)
     : Type 0 where
-  pub noticed : SessionView D
+  pub noticed : SessionView S
   pub made : MakesTurn view rules now (following p (Shown now)) noticed end
   pub reported : NewsSo (SendsAll rules.form) before end noticed q
 
@@ -71,7 +71,7 @@ abbrev pub of_command : Command → Result Line Refusal
 of_command command = Ok (line.Request (asked.Command command))
 
 -- the next line is read: less is left, and the read is one more event
-abbrev pub read_to : {D : Type 0} → SessionPosition D → Option (List ℕ) → SessionPosition D
+abbrev pub read_to : {S : Type 0} → SessionPosition S → Option (List ℕ) → SessionPosition S
 read_to p left = session_position (following p.at (Read true)) left
 
 -- A question that a session asks, after these events and with these lines unanswered, before it has its next line: in `serve` a
@@ -86,7 +86,7 @@ IsLook mode lines events _ = ⊥
 -- A question that a session asks while it waits after a turn at `now`, where no action has ended or begun since `since`: a poll
 -- of the input, as long as a short pause or until the first monitor is due, and a second at most; a pause as long as that; a
 -- clock reading; or whether anybody still reads the output, with the answer that somebody does.
-abbrev pub IsWait : {D : Type 0} → ℕ → ℕ → SessionView D → IoEvent → Type 0
+abbrev pub IsWait : {S : Type 0} → ℕ → ℕ → SessionView S → IoEvent → Type 0
 IsWait since now p (Polled millis ready) = MayPause since now p.executor p.events (millis * 1000)
 IsWait since now p (Rested micros) = MayPause since now p.executor p.events micros
 IsWait since now p (Shown moment) = ⊤
@@ -111,7 +111,7 @@ pub record OwnTurn : Type 0 where
   pub misses : ℕ
 
 -- an own turn that ended here, like this, with these lines unanswered
-abbrev pub turned : {D : Type 0} → ℕ → ℕ → TurnEnd → Lines → SessionView D → OwnTurn
+abbrev pub turned : {S : Type 0} → ℕ → ℕ → TurnEnd → Lines → SessionView S → OwnTurn
 turned now since end lines p = record {
   now = now;
   since = since;
@@ -124,7 +124,7 @@ turned now since end lines p = record {
 -- After the own turn `own`, with these lines unanswered, a session may make another turn: the mode is `serve`, its executor is
 -- open, and each line that was read is answered, except one that asks an agent for metadata. It has also polled for lines since
 -- `own`, unless such a line was unanswered at that turn or is so now.
-pub record MayTurn {D : Type 0} (mode : Mode) (own : OwnTurn) (lines : Lines) (p : SessionView D) : Type 0 where
+pub record MayTurn {S : Type 0} (mode : Mode) (own : OwnTurn) (lines : Lines) (p : SessionView S) : Type 0 where
   pub serves : MakesTurns mode
   pub rests : MayRest lines
   pub is_open : p.executor.is_open ≡ true
@@ -136,34 +136,34 @@ pub record MayTurn {D : Type 0} (mode : Mode) (own : OwnTurn) (lines : Lines) (p
 -- the other may be a group commit. In `serve` it made turns between lines, and polled for lines after each turn before it made
 -- the next one. No command waits for a line that is not there. Each clock reading of an answer or a turn comes after the read
 -- of the last line before it. Only in `run` does a session go on once its executor is closed.
-pub data Reaches {D : Type 0} (view : D → DiskView) (source : Source) (rules : Rules) (p : SessionPosition D)
-    : OwnTurn → ℕ → Lines → SessionPosition D → Type 0 where
+pub data Reaches {S : Type 0} (view : S → StoreView) (source : Source) (rules : Rules) (p : SessionPosition S)
+    : OwnTurn → ℕ → Lines → SessionPosition S → Type 0 where
   here : Reaches view source rules p (turned 0 0 Done [] p.at) 0 [] p
-  looks : (own : OwnTurn) (n : ℕ) (lines : Lines) (m : SessionPosition D) (event : IoEvent) → Reaches view source rules p own n lines m
+  looks : (own : OwnTurn) (n : ℕ) (lines : Lines) (m : SessionPosition S) (event : IoEvent) → Reaches view source rules p own n lines m
       → IsLook rules.mode lines m.at.events event → Reaches view source rules p own n lines (session_position (following m.at event) m.left)
-  waits : (own : OwnTurn) (n : ℕ) (lines : Lines) (m : SessionPosition D) (event : IoEvent) → Reaches view source rules p own n lines m
+  waits : (own : OwnTurn) (n : ℕ) (lines : Lines) (m : SessionPosition S) (event : IoEvent) → Reaches view source rules p own n lines m
       → MayGoOn rules.mode m.at.executor → MayRest lines → IsWait own.since own.now m.at event → Reaches view source rules p own n lines (session_position (following m.at event) m.left)
-  reads : (own : OwnTurn) (n : ℕ) (commands : List Command) (m : SessionPosition D) (left : Option (List ℕ)) (found : Result Line Refusal)
+  reads : (own : OwnTurn) (n : ℕ) (commands : List Command) (m : SessionPosition S) (left : Option (List ℕ)) (found : Result Line Refusal)
       → Reaches view source rules p own n (map of_command commands) m → MayGoOn rules.mode m.at.executor
       → MayRead (map of_command commands) m.at.events → ReadsLine rules.mode m.left left found
       → Reaches view source rules p own n (map of_command commands ++ found ∷ []) (read_to m left)
-  passes : (own : OwnTurn) (n : ℕ) (m : SessionPosition D) (left : Option (List ℕ)) → Reaches view source rules p own n [] m
+  passes : (own : OwnTurn) (n : ℕ) (m : SessionPosition S) (left : Option (List ℕ)) → Reaches view source rules p own n [] m
       → MayGoOn rules.mode m.at.executor → MayTake rules.mode n → PassesLine m.left left
       → Reaches view source rules p own (n + 1) [] (session_position m.at left)
-  answers : (own : OwnTurn) (n : ℕ) (found : Result Line Refusal) (m : SessionPosition D) (q : SessionView D)
+  answers : (own : OwnTurn) (n : ℕ) (found : Result Line Refusal) (m : SessionPosition S) (q : SessionView S)
       → Reaches view source rules p own n (found ∷ []) m → MayGoOn rules.mode m.at.executor → MayTake rules.mode n
       → Answers view source rules found m.at q → Reaches view source rules p own (n + 1) [] (session_position q m.left)
-  batch : (own : OwnTurn) (n : ℕ) (first : Command) (others : List Command) (lines : Lines) (m : SessionPosition D) (q : SessionView D)
+  batch : (own : OwnTurn) (n : ℕ) (first : Command) (others : List Command) (lines : Lines) (m : SessionPosition S) (q : SessionView S)
       → Reaches view source rules p own n (map of_command (first ∷ others) ++ lines) m → m.at.executor.is_open ≡ true
       → MayTake rules.mode (n + length others) → AnswersTogether view rules (first ∷ others) m.at q
       → Reaches view source rules p own (n + length others + 1) lines (session_position q m.left)
-  turn : (own : OwnTurn) (n : ℕ) (lines : Lines) (m : SessionPosition D) (q : SessionView D) (end : TurnEnd) (now since : ℕ)
+  turn : (own : OwnTurn) (n : ℕ) (lines : Lines) (m : SessionPosition S) (q : SessionView S) (end : TurnEnd) (now since : ℕ)
       → Reaches view source rules p own n lines m → MayTurn rules.mode own lines m.at → MakesOwnTurn view rules own.end now m.at q end
       → IsQuietSince q.executor.children.book now own.since since
       → Reaches view source rules p (turned now since end lines q) 0 lines (session_position q m.left)
 
 -- the same up to the end of the input
-pub record ReachesEnd {D : Type 0} (view : D → DiskView) (source : Source) (rules : Rules) (p : SessionPosition D) (q : SessionView D) : Type 0 where
+pub record ReachesEnd {S : Type 0} (view : S → StoreView) (source : Source) (rules : Rules) (p : SessionPosition S) (q : SessionView S) : Type 0 where
   pub own : OwnTurn
   pub count : ℕ
   pub left : Option (List ℕ)
@@ -172,7 +172,7 @@ pub record ReachesEnd {D : Type 0} (view : D → DiskView) (source : Source) (ru
   pub goes_on : MayGoOn rules.mode q.executor
 
 -- the same up to a disk fault that has closed the executor, in `serve`
-pub record ReachesFault {D : Type 0} (view : D → DiskView) (source : Source) (rules : Rules) (p : SessionPosition D) (q : SessionView D) : Type 0 where
+pub record ReachesFault {S : Type 0} (view : S → StoreView) (source : Source) (rules : Rules) (p : SessionPosition S) (q : SessionView S) : Type 0 where
   pub serves : MakesTurns rules.mode
   pub own : OwnTurn
   pub count : ℕ
@@ -182,7 +182,7 @@ pub record ReachesFault {D : Type 0} (view : D → DiskView) (source : Source) (
   pub is_closed : q.executor.is_open ≡ false
 
 -- the same up to a line that asks for the end of the session, in `serve`, and is not answered yet
-pub record ReachesLeave {D : Type 0} (view : D → DiskView) (source : Source) (rules : Rules) (p : SessionPosition D) (q : SessionView D) : Type 0 where
+pub record ReachesLeave {S : Type 0} (view : S → StoreView) (source : Source) (rules : Rules) (p : SessionPosition S) (q : SessionView S) : Type 0 where
   pub serves : MakesTurns rules.mode
   pub own : OwnTurn
   pub count : ℕ
@@ -192,25 +192,25 @@ pub record ReachesLeave {D : Type 0} (view : D → DiskView) (source : Source) (
 
 -- A disk fault ended a session in `serve`: nothing more was done, no line was answered, and the last line that the client received is
 -- that of the fault.
-pub record EndsByFault {D : Type 0} (view : D → DiskView) (source : Source) (rules : Rules) (p : SessionPosition D) (q : SessionView D) : Type 0 where
-  pub last : SessionView D
+pub record EndsByFault {S : Type 0} (view : S → StoreView) (source : Source) (rules : Rules) (p : SessionPosition S) (q : SessionView S) : Type 0 where
+  pub last : SessionView S
   pub fault : ReachesFault view source rules p last
   pub sends_all : SendsAll rules.form last q (ended Disk ∷ [])
 
 -- The last line that was read asked a session in `serve` to end, and it made an orderly end.
-pub record EndsInOrder {D : Type 0} (view : D → DiskView) (source : Source) (rules : Rules) (p : SessionPosition D) (q : SessionView D) : Type 0 where
-  pub last : SessionView D
+pub record EndsInOrder {S : Type 0} (view : S → StoreView) (source : Source) (rules : Rules) (p : SessionPosition S) (q : SessionView S) : Type 0 where
+  pub last : SessionView S
   pub asked : ReachesLeave view source rules p last
   pub leaves : LeavesFrom view rules last q
 
 -- all lines were answered; or, in `serve`, a disk fault ended the session, or a line asked for its end
-abbrev pub Finishes : {D : Type 0} → (D → DiskView) → Source → Rules → SessionPosition D → SessionPosition D → Type 0
+abbrev pub Finishes : {S : Type 0} → (S → StoreView) → Source → Rules → SessionPosition S → SessionPosition S → Type 0
 Finishes view source rules p q =
     ReachesEnd view source rules p q.at
     ⊎ (EndsByFault view source rules p q.at ⊎ EndsInOrder view source rules p q.at)
 
 -- Calls alone lead from one spot to another, with these messages, which are backed by what the calls recorded.
-pub record GoesByCalls {D : Type 0} (view : D → DiskView) (p q : SessionView D) : Type 0 where
+pub record GoesByCalls {S : Type 0} (view : S → StoreView) (p q : SessionView S) : Type 0 where
   pub items : List SentItem
   pub reported : IsSent p.client_view q.client_view items
   pub holds : IsBacked view p.executor q.executor items

@@ -3,7 +3,7 @@ use Rattle.std.specs.Prelude.{◌≡◌, ◌≢◌, ◌⊎◌, ⊤, ℕ, ◌+◌
 use Rattle.std.specs.Io.KnownBytes.{IsAtEnd}
 use Rattle.ocf_types.specs.Kinds.{Command}
 use Rattle.ocf_types.specs.declared.reply.TurnEnd.{TurnEnd}
-use Rattle.disk_model.specs.Disk.{DiskView}
+use Rattle.store_model.specs.StoreView.{StoreView}
 use Rattle.executor.specs.ExecutorView.{ExecutorView}
 use Rattle.exec_lines.specs.Buffer.{line_bytes}
 use Rattle.exec_lines.specs.Pieces.{IsMidLine}
@@ -30,14 +30,14 @@ use Rattle.exec_session.specs.declared.pending.Pending.{Pending}
 
 -- Where a session is between two lines: its position, the commands that wait, the line after them if it is held, and the part of the next
 -- line that was read.
-pub record Midway (D : Type 0) : Type 0 where
-  pub point : SessionPosition D
+pub record Midway (S : Type 0) : Type 0 where
+  pub point : SessionPosition S
   pub commands : List Command
   pub held : Option Held
   pub kept : List ℕ
 
 -- where a session with this pending input is
-abbrev pub midway : {D : Type 0} → SessionPosition D → Pending → Midway D
+abbrev pub midway : {S : Type 0} → SessionPosition S → Pending → Midway S
 midway point pending = record {
   point = point;
   commands = waiting pending.gathered;
@@ -47,22 +47,22 @@ midway point pending = record {
 
 -- The lines that were read may stay unanswered: there is capacity for one more command, none waits once the executor is closed, and in
 -- `run` no line is held.
-pub record MayWait {D : Type 0} (mode : Mode) (s : Midway D) : Type 0 where
+pub record MayWait {S : Type 0} (mode : Mode) (s : Midway S) : Type 0 where
   pub few : length s.commands < most_together
   pub while_open : s.point.at.executor.is_open ≡ false → s.commands ≡ []
   pub free : mode ≡ Run → s.held ≡ None
 
 -- While commands wait, the next line is there.
-abbrev pub WaitsForThere : {D : Type 0} → Midway D → Type 0
+abbrev pub WaitsForThere : {S : Type 0} → Midway S → Type 0
 WaitsForThere s = s.commands ≢ [] → IsThere s.point.at.events
 
 -- nothing of the next line was read, and none is held
-pub record IsBetween {D : Type 0} (s : Midway D) : Type 0 where
+pub record IsBetween {S : Type 0} (s : Midway S) : Type 0 where
   pub buffer : s.kept ≡ []
   pub free : s.held ≡ None
 
 -- the lines that were read may stay unanswered while the next one is read
-pub record MayStay {D : Type 0} (mode : Mode) (s : Midway D) : Type 0 where
+pub record MayStay {S : Type 0} (mode : Mode) (s : Midway S) : Type 0 where
   pub waits : MayWait mode s
   pub there : WaitsForThere s
 
@@ -74,8 +74,8 @@ IsReadTo (Some held) left kept now = (now ≡ left) × (kept ≡ [])
 -- A session has come to `s` from the position `p`, and its last own turn is `own`. The commands that wait and a line that is
 -- held were read and are not answered. Since that turn `count` lines were answered or passed over; these and the commands that
 -- wait are `most` at most.
-pub record HasCome {D : Type 0} (view : D → DiskView) (source : Source) (rules : Rules)
-    (p : SessionPosition D) (own : OwnTurn) (most : ℕ) (s : Midway D) : Type 0 where
+pub record HasCome {S : Type 0} (view : S → StoreView) (source : Source) (rules : Rules)
+    (p : SessionPosition S) (own : OwnTurn) (most : ℕ) (s : Midway S) : Type 0 where
   pub count : ℕ
   pub few : count + length s.commands ≤ most
   pub left : Option (List ℕ)
@@ -85,14 +85,14 @@ pub record HasCome {D : Type 0} (view : D → DiskView) (source : Source) (rules
   pub goes_on : MayGoOn rules.mode s.point.at.executor
 
 -- one poll without a wait, or none
-abbrev pub PollsOnce : {D : Type 0} → SessionPosition D → SessionPosition D → Type 0
+abbrev pub PollsOnce : {S : Type 0} → SessionPosition S → SessionPosition S → Type 0
 PollsOnce p q = (q ≡ p) ⊎ ((ready : Bool) × (q ≡ session_position (following p.at (Polled 0 ready)) p.left))
 
 -- A session waited after a turn at `now`, where no action has ended or begun since `since`: it asked one question after
 -- another, each of them one that `IsWait` allows.
-pub data Waits {D : Type 0} (since now : ℕ) (p : SessionPosition D) : SessionPosition D → Type 0 where
+pub data Waits {S : Type 0} (since now : ℕ) (p : SessionPosition S) : SessionPosition S → Type 0 where
   still : Waits since now p p
-  more : (m : SessionPosition D) (event : IoEvent) → Waits since now p m → IsWait since now m.at event
+  more : (m : SessionPosition S) (event : IoEvent) → Waits since now p m → IsWait since now m.at event
       → Waits since now p (session_position (following m.at event) m.left)
 
 -- the line, if this is one, that is not answered yet
@@ -108,8 +108,8 @@ IsFound found.Empty left now = PassesLine left now
 IsFound found.End left now = IsAtEnd left
 
 -- A session has come so far that these commands wait, and has read what comes next, which is not answered.
-pub record HasFound {D : Type 0} (view : D → DiskView) (source : Source) (rules : Rules)
-    (p : SessionPosition D) (own : OwnTurn) (most : ℕ) (commands : List Command) (found : Found) (q : SessionPosition D) : Type 0 where
+pub record HasFound {S : Type 0} (view : S → StoreView) (source : Source) (rules : Rules)
+    (p : SessionPosition S) (own : OwnTurn) (most : ℕ) (commands : List Command) (found : Found) (q : SessionPosition S) : Type 0 where
   pub count : ℕ
   pub few : count + length commands ≤ most
   pub left : Option (List ℕ)
@@ -118,7 +118,7 @@ pub record HasFound {D : Type 0} (view : D → DiskView) (source : Source) (rule
   pub goes_on : MayGoOn rules.mode q.at.executor
 
 -- What was found was answered, or passed over, or is the end of the input, as the result says; or the answer broke off.
-abbrev pub TakesFound : {D E : Type 0} → (D → DiskView) → Source → Rules → Found → SessionView D → SessionView D → Result Bool E → Type 0
+abbrev pub TakesFound : {S E : Type 0} → (S → StoreView) → Source → Rules → Found → SessionView S → SessionView S → Result Bool E → Type 0
 TakesFound view source rules (found.Line line) p q (Ok has_ended) = (has_ended ≡ false) × Answers view source rules line p q
 TakesFound view source rules found.Empty p q (Ok has_ended) = (has_ended ≡ false) × (q ≡ p)
 TakesFound view source rules found.End p q (Ok has_ended) = (has_ended ≡ true) × (q ≡ p)
@@ -126,14 +126,14 @@ TakesFound view source rules (found.Line line) p q (Err fault) = AnswerBreaks vi
 TakesFound view source rules _ p q (Err fault) = ⊥
 
 -- the session has come this far, or to the end of the input, or to a disk fault, or to the line that asks for its end
-abbrev pub ComesOrEnds : {D : Type 0} → (D → DiskView) → Source → Rules → SessionPosition D → OwnTurn → ℕ → Midway D → Taken → Type 0
+abbrev pub ComesOrEnds : {S : Type 0} → (S → StoreView) → Source → Rules → SessionPosition S → OwnTurn → ℕ → Midway S → Taken → Type 0
 ComesOrEnds view source rules p own most s More = HasCome view source rules p own most s
 ComesOrEnds view source rules p own most s End = ReachesEnd view source rules p s.point.at
 ComesOrEnds view source rules p own most s Closed = ReachesFault view source rules p s.point.at
 ComesOrEnds view source rules p own most s Leaves = ReachesLeave view source rules p s.point.at
 
 -- the same, or it broke off
-abbrev pub Comes : {D E : Type 0} → (D → DiskView) → Source → Rules → SessionPosition D → OwnTurn → ℕ → Midway D → Result Taken E → Type 0
+abbrev pub Comes : {S E : Type 0} → (S → StoreView) → Source → Rules → SessionPosition S → OwnTurn → ℕ → Midway S → Result Taken E → Type 0
 Comes view source rules p own most s (Ok taken) = ComesOrEnds view source rules p own most s taken
 Comes view source rules p own most s (Err fault) = BreaksOff view source rules p s.point.at
 
@@ -144,31 +144,31 @@ MayTakeAfter mode most = (n : ℕ) → n ≤ most → MayTake mode n
 -- A step of a session that has found `found` as the next of its input, and has read no part of the line after it. After the
 -- step the log is no shorter, what was read may stay unanswered, and still no part of a further line was read. A session that
 -- had come to `s` comes further by this step, or ends, or breaks off.
-pub record Takes {D E : Type 0} (view : D → DiskView) (source : Source) (rules : Rules) (found : Found) (s t : Midway D)
+pub record Takes {S E : Type 0} (view : S → StoreView) (source : Source) (rules : Rules) (found : Found) (s t : Midway S)
     (result : Result Taken E) : Type 0 where
   pub lasts : Lasts s.point.at t.point.at
   pub stays : MayStay rules.mode t
   pub between : IsBetween t
-  pub comes : (p : SessionPosition D) (own : OwnTurn) (most : ℕ) → MayTakeAfter rules.mode most
+  pub comes : (p : SessionPosition S) (own : OwnTurn) (most : ℕ) → MayTakeAfter rules.mode most
       → HasFound view source rules p own most s.commands found s.point → Comes view source rules p own (most + 1) t result
 
 -- The lines that are there are taken: the log grows, and a session that has taken no line since its last turn comes further, by as many
 -- lines as there may be between two turns, or ends, or breaks off.
-pub record TakesLines {D E : Type 0} (view : D → DiskView) (source : Source) (rules : Rules) (s t : Midway D) (result : Result Taken E)
+pub record TakesLines {S E : Type 0} (view : S → StoreView) (source : Source) (rules : Rules) (s t : Midway S) (result : Result Taken E)
     : Type 0 where
   pub lasts : Lasts s.point.at t.point.at
-  pub comes : (p : SessionPosition D) (own : OwnTurn) → HasCome view source rules p own 0 s
+  pub comes : (p : SessionPosition S) (own : OwnTurn) → HasCome view source rules p own 0 s
       → Comes view source rules p own lines_a_turn t result
 
 -- whether the input has ended, and whether the session goes on: in `serve` it does not once its executor is closed
-abbrev pub IsTaken : {D : Type 0} → Mode → ExecutorView D → Bool → Taken → Type 0
+abbrev pub IsTaken : {S : Type 0} → Mode → ExecutorView S → Bool → Taken → Type 0
 IsTaken mode x has_ended More = (has_ended ≡ false) × MayGoOn mode x
 IsTaken mode x has_ended End = (has_ended ≡ true) × MayGoOn mode x
 IsTaken mode x has_ended Closed = MakesTurns mode × (x.is_open ≡ false)
 IsTaken mode x has_ended Leaves = ⊥
 
 -- A round may begin: what was read may stay unanswered, and in `serve` no command waits and the executor is open.
-pub record MayBegin {D : Type 0} (mode : Mode) (s : Midway D) : Type 0 where
+pub record MayBegin {S : Type 0} (mode : Mode) (s : Midway S) : Type 0 where
   pub stays : MayStay mode s
   pub serves : mode ≡ Serve → (s.point.at.executor.is_open ≡ true) × (s.commands ≡ [])
 
@@ -179,7 +179,7 @@ IsRound Serve most = most ≡ 0
 
 -- The own turn `own` ended with `end`, with these lines unanswered. Up to it no action had ended or begun since `since`, and
 -- the numbers of reads and of polls that found nothing are no lower now than at its end.
-pub record IsSince {D : Type 0} (own : OwnTurn) (since : ℕ) (end : TurnEnd) (lines : Lines) (p : SessionView D) : Type 0 where
+pub record IsSince {S : Type 0} (own : OwnTurn) (since : ℕ) (end : TurnEnd) (lines : Lines) (p : SessionView S) : Type 0 where
   pub quiet : own.since ≤ since
   pub ended : own.end ≡ end
   pub unanswered : own.lines ≡ lines
@@ -187,8 +187,8 @@ pub record IsSince {D : Type 0} (own : OwnTurn) (since : ℕ) (end : TurnEnd) (l
   pub misses : own.misses ≤ misses_in p.events
 
 -- a session whose last own turn ended like this is at the beginning of a round
-pub record HasComeRound {D : Type 0} (view : D → DiskView) (source : Source) (rules : Rules) (p : SessionPosition D) (quiet : ℕ) (end : TurnEnd)
-    (s : Midway D) : Type 0 where
+pub record HasComeRound {S : Type 0} (view : S → StoreView) (source : Source) (rules : Rules) (p : SessionPosition S) (quiet : ℕ) (end : TurnEnd)
+    (s : Midway S) : Type 0 where
   pub most : ℕ
   pub own : OwnTurn
   pub round : IsRound rules.mode most
@@ -196,7 +196,7 @@ pub record HasComeRound {D : Type 0} (view : D → DiskView) (source : Source) (
   pub come : HasCome view source rules p own most s
 
 -- a round leads to the beginning of the next one, or ends the session, or breaks off
-abbrev pub GoesRound : {D E : Type 0} → (D → DiskView) → Source → Rules → SessionPosition D → ℕ → TurnEnd → Midway D → Result Taken E → Type 0
+abbrev pub GoesRound : {S E : Type 0} → (S → StoreView) → Source → Rules → SessionPosition S → ℕ → TurnEnd → Midway S → Result Taken E → Type 0
 GoesRound view source rules p quiet own s (Ok More) = HasComeRound view source rules p quiet own s
 GoesRound view source rules p quiet own s (Ok End) = ReachesEnd view source rules p s.point.at
 GoesRound view source rules p quiet own s (Ok Closed) = ReachesFault view source rules p s.point.at
@@ -204,21 +204,21 @@ GoesRound view source rules p quiet own s (Ok Leaves) = ReachesLeave view source
 GoesRound view source rules p quiet own s (Err fault) = BreaksOff view source rules p s.point.at
 
 -- where a session is between two rounds: the time since which nothing has ended or begun, and how its last own turn ended
-pub record Stage (D : Type 0) : Type 0 where
-  pub at : Midway D
+pub record Stage (S : Type 0) : Type 0 where
+  pub at : Midway S
   pub quiet : ℕ
   pub end : TurnEnd
 
 -- a stage by its fields
-abbrev pub stage : {D : Type 0} → Midway D → ℕ → TurnEnd → Stage D
+abbrev pub stage : {S : Type 0} → Midway S → ℕ → TurnEnd → Stage S
 stage at quiet end = record { at = at; quiet = quiet; end = end }
 
 -- A round: the log grows, by at least one event where the session goes on, and then a further round may begin; and a session that was at
 -- the beginning of this round comes to that of the next, or ends, or breaks off.
-pub record Rounds {D E : Type 0} (view : D → DiskView) (source : Source) (rules : Rules) (s t : Stage D) (result : Result Taken E)
+pub record Rounds {S E : Type 0} (view : S → StoreView) (source : Source) (rules : Rules) (s t : Stage S) (result : Result Taken E)
     : Type 0 where
   pub lasts : Lasts s.at.point.at t.at.point.at
   pub longer : IfOk result (λ taken. taken ≡ More → length s.at.point.at.events < length t.at.point.at.events)
   pub begins : IfOk result (λ taken. taken ≡ More → MayBegin rules.mode t.at)
-  pub goes : (p : SessionPosition D) → HasComeRound view source rules p s.quiet s.end s.at
+  pub goes : (p : SessionPosition S) → HasComeRound view source rules p s.quiet s.end s.at
       → GoesRound view source rules p t.quiet t.end t.at result

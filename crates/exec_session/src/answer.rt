@@ -30,16 +30,16 @@ use crate::metadata::Metadata;
 use crate::room::{make_room, tidy_timed};
 use crate::worker::Worker;
 use child_model::Children;
-use disk_model::Disk;
 use exec_client::{Client, Message};
 use exec_commands::{Direct, DrainEnd, Line, LineReply};
 use exec_lines::Input;
 use exec_trace::Failed;
-use executor::Executor;
+use executor::On;
 use ocf_types::{AgentType, Provider, Refusal, Reply, Request, TidyEnd, TurnEnd};
-use resource_status::statuses_of;
+use resource_status::{RunReason, statuses_of};
 use std::alloc::Global;
 use std::rt::Clock;
+use store_model::Store;
 
 fn refused(refusal: Refusal) -> LineReply
     ensures { result ≡ refused refusal }
@@ -97,15 +97,15 @@ fn closed_reply<M: Metadata>(context: &SessionContext<M>, line: &Result<Line, Re
 
 // Does what a request asks, at this time in milliseconds since 1970. The caller has made a due tidy before; if that closed the
 // executor, the request is refused with `Disk`, and nothing is done.
-fn request_reply<D: Disk + Drop, C: Children + Drop>(
-    executor: &mut Executor<D, C>,
+fn request_reply<S: Store + Drop, C: Children + Drop>(
+    executor: &mut On<S, C>,
     request: Request,
     now: u64,
 ) -> Reply
-    ensures holds { IsBacked D.view executor.old executor.new (answered result ∷ []) }
+    ensures holds { IsBacked S.view executor.old executor.new (answered result ∷ []) }
     ensures says { MayAnswer executor.new result }
     ensures serves { executor.old.is_open ≡ true
-        → Serves D.view now request executor.old executor.new result }
+        → Serves S.view now request executor.old executor.new result }
     ensures fails { executor.old.is_open ≡ false
         → (result ≡ Refused refusal.Disk) × (executor.new ≡ executor.old) }
     ensures closes { executor.new.is_open ≡ false ↔ (result ≡ Refused refusal.Disk) }
@@ -116,15 +116,16 @@ fn request_reply<D: Disk + Drop, C: Children + Drop>(
     executor.command(now, request)
 }
 
-// The status of each resource, or that there is no memory for it.
-fn status_reply<D: Disk + Drop, C: Children + Drop>(
+// The status of each resource, with these reasons for failures, or that there is no memory for it.
+fn status_reply<S: Store + Drop, C: Children + Drop>(
     alloc: Global,
-    executor: &Executor<D, C>,
+    executor: &On<S, C>,
+    reasons: &[RunReason],
 ) -> LineReply
     ensures status { IsStatusReply executor.now result }
 {
     executor.lemma_known();
-    match statuses_of(alloc, executor.state()) {
+    match statuses_of(alloc, executor.state(), reasons) {
         Ok(statuses) => LineReply::Status(statuses),
         Err(_) => refused(Refusal::Memory),
     }
@@ -132,15 +133,15 @@ fn status_reply<D: Disk + Drop, C: Children + Drop>(
 
 // Does what the commands ask, as one group commit, at this time in milliseconds since 1970. The caller has made a due tidy
 // before; if that closed the executor, each command is refused with `Disk`, and nothing is done.
-fn serve_gathered<D: Disk + Drop, C: Children + Drop>(
-    executor: &mut Executor<D, C>,
+fn serve_gathered<S: Store + Drop, C: Children + Drop>(
+    executor: &mut On<S, C>,
     gathered: &mut Gathered,
     now: u64,
 )
-    ensures holds { IsBacked D.view executor.old executor.new
+    ensures holds { IsBacked S.view executor.old executor.new
         (map answered (replied gathered.new)) }
     ensures says { AllByRecursion (MayAnswer executor.new) (replied gathered.new) }
-    ensures takes { executor.old.is_open ≡ true → TakesCommands D.view now
+    ensures takes { executor.old.is_open ≡ true → TakesCommands S.view now
         (waiting gathered.old) executor.old executor.new (replied gathered.new) }
     ensures fails { executor.old.is_open ≡ false
         → (replied gathered.new ≡ replicate (length (waiting gathered.old)) (Refused refusal.Disk))
@@ -154,10 +155,10 @@ fn serve_gathered<D: Disk + Drop, C: Children + Drop>(
     }
 }
 
-impl<'a, R: Input, D: Disk + Drop, C: Children + Drop, T: Client<D, C>, K: Clock> Worker<
+impl<'a, R: Input, S: Store + Drop, C: Children + Drop, T: Client<S, C>, K: Clock> Worker<
     'a,
     R,
-    D,
+    S,
     C,
     T,
     K,
@@ -166,7 +167,7 @@ impl<'a, R: Input, D: Disk + Drop, C: Children + Drop, T: Client<D, C>, K: Clock
     fn tidy<M>(&mut self, context: &SessionContext<M>) -> TidyEnd
         requires open { self.old.at.executor.is_open ≡ true }
         ensures keeps { Keeps self.old self.new }
-        ensures tidies { TidiesNow D.view self.old.at self.new.at (answer.Tidy result) }
+        ensures tidies { TidiesNow S.view self.old.at self.new.at (answer.Tidy result) }
     {
         tidy_timed(context, self.edge.clock(), &mut self.executor)
     }
@@ -179,9 +180,9 @@ impl<'a, R: Input, D: Disk + Drop, C: Children + Drop, T: Client<D, C>, K: Clock
     ) -> Result<(), Failed>
         requires open { self.old.at.executor.is_open ≡ true }
         ensures answers { Steps
-            (Answers D.view (M.gives context.now.metadata.now) (rules_of context.now)
+            (Answers S.view (M.gives context.now.metadata.now) (rules_of context.now)
             (Ok (line.Request request)) self.old.at)
-            (AnswersSo (SendsPart context.now.form) D.view (M.gives context.now.metadata.now)
+            (AnswersSo (SendsPart context.now.form) S.view (M.gives context.now.metadata.now)
             (rules_of context.now) (Ok (line.Request request)) self.old.at)
             self.old self.new result }
     {
@@ -202,7 +203,7 @@ impl<'a, R: Input, D: Disk + Drop, C: Children + Drop, T: Client<D, C>, K: Clock
     // Tidies the journal, and sends how that ended.
     fn answer_tidy<M: Metadata>(&mut self, context: &SessionContext<M>) -> Result<(), Failed>
         requires open { self.old.at.executor.is_open ≡ true }
-        ensures answers { AnswersLine D.view (M.gives context.now.metadata.now) (rules_of context.now)
+        ensures answers { AnswersLine S.view (M.gives context.now.metadata.now) (rules_of context.now)
             (Ok line.Tidy) self.old self.new result }
     {
         let end = self.tidy(context);
@@ -219,7 +220,7 @@ impl<'a, R: Input, D: Disk + Drop, C: Children + Drop, T: Client<D, C>, K: Clock
     ) -> Result<(), Failed>
         requires open { self.old.at.executor.is_open ≡ true }
         requires runs { context.now.mode ≡ Mode.Run }
-        ensures answers { AnswersLine D.view (M.gives context.now.metadata.now) (rules_of context.now)
+        ensures answers { AnswersLine S.view (M.gives context.now.metadata.now) (rules_of context.now)
             (Ok (line.Meta provider.now agent.now limit)) self.old self.new result }
     {
         self.send_reply(context, &meta_reply(context, provider, agent, limit))
@@ -246,10 +247,11 @@ impl<'a, R: Input, D: Disk + Drop, C: Children + Drop, T: Client<D, C>, K: Clock
     // Sends the status of each resource, or that there is no memory for it.
     fn answer_status<M: Metadata>(&mut self, context: &SessionContext<M>) -> Result<(), Failed>
         requires open { self.old.at.executor.is_open ≡ true }
-        ensures answers { AnswersLine D.view (M.gives context.now.metadata.now) (rules_of context.now)
+        ensures answers { AnswersLine S.view (M.gives context.now.metadata.now) (rules_of context.now)
             (Ok line.Status) self.old self.new result }
     {
-        let reply = status_reply(context.alloc, &self.executor);
+        let reasons = self.edge.failure_reasons(&self.executor);
+        let reply = status_reply(context.alloc, &self.executor, reasons.as_slice());
         self.send_reply(context, &reply)
     }
 
@@ -263,7 +265,7 @@ impl<'a, R: Input, D: Disk + Drop, C: Children + Drop, T: Client<D, C>, K: Clock
     ) -> Result<(), Failed>
         requires open { self.old.at.executor.is_open ≡ true }
         requires at_once { MayAnswerAtOnce context.now.mode line }
-        ensures answers { AnswersLine D.view (M.gives context.now.metadata.now) (rules_of context.now) line
+        ensures answers { AnswersLine S.view (M.gives context.now.metadata.now) (rules_of context.now) line
             self.old self.new result }
     {
         match line {
@@ -294,7 +296,7 @@ impl<'a, R: Input, D: Disk + Drop, C: Children + Drop, T: Client<D, C>, K: Clock
     ) -> Result<(), Failed>
         requires closed { self.old.at.executor.is_open ≡ false }
         requires at_once { MayAnswerAtOnce context.now.mode line.now }
-        ensures answers { AnswersLine D.view (M.gives context.now.metadata.now) (rules_of context.now) line.now
+        ensures answers { AnswersLine S.view (M.gives context.now.metadata.now) (rules_of context.now) line.now
             self.old self.new result }
     {
         self.send_reply(context, &closed_reply(context, line))
@@ -307,7 +309,7 @@ impl<'a, R: Input, D: Disk + Drop, C: Children + Drop, T: Client<D, C>, K: Clock
         line: Result<Line, Refusal>,
     ) -> Result<(), Failed>
         requires at_once { MayAnswerAtOnce context.now.mode line }
-        ensures answers { AnswersLine D.view (M.gives context.now.metadata.now) (rules_of context.now) line
+        ensures answers { AnswersLine S.view (M.gives context.now.metadata.now) (rules_of context.now) line
             self.old self.new result }
     {
         if self.is_open() {
@@ -325,7 +327,7 @@ impl<'a, R: Input, D: Disk + Drop, C: Children + Drop, T: Client<D, C>, K: Clock
     ) -> Result<bool, Failed>
         requires at_once { MayTakeAtOnce context.now.mode found }
         ensures keeps { Keeps self.old self.new }
-        ensures takes { TakesFound D.view (M.gives context.now.metadata.now) (rules_of context.now)
+        ensures takes { TakesFound S.view (M.gives context.now.metadata.now) (rules_of context.now)
             found self.old.at self.new.at result }
     {
         match found {
@@ -348,7 +350,7 @@ impl<'a, R: Input, D: Disk + Drop, C: Children + Drop, T: Client<D, C>, K: Clock
         requires open { self.old.at.executor.is_open ≡ true }
         ensures keeps { Keeps self.old self.new }
         ensures stays { IfOk result (λ _. self.new.at.executor ≡ self.old.at.executor) }
-        ensures answers { AnswersHeld D.view (M.gives context.now.metadata.now) (rules_of context.now)
+        ensures answers { AnswersHeld S.view (M.gives context.now.metadata.now) (rules_of context.now)
             line.now self.old.at self.new.at result }
     {
         let Held::Metadata {
@@ -377,8 +379,8 @@ impl<'a, R: Input, D: Disk + Drop, C: Children + Drop, T: Client<D, C>, K: Clock
     ) -> Result<(), Failed>
         requires open { waiting gathered.old ≢ [] → self.old.at.executor.is_open ≡ true }
         ensures none { waiting gathered.new ≡ [] }
-        ensures answers { Steps (AnswersAll D.view (rules_of context.now) (waiting gathered.old) self.old.at)
-            (BatchBreaks D.view (rules_of context.now) (waiting gathered.old) self.old.at)
+        ensures answers { Steps (AnswersAll S.view (rules_of context.now) (waiting gathered.old) self.old.at)
+            (BatchBreaks S.view (rules_of context.now) (waiting gathered.old) self.old.at)
             self.old self.new result }
     {
         if gathered.is_empty() {

@@ -18,25 +18,25 @@ use crate::metadata::Metadata;
 use crate::pending::Pending;
 use crate::worker::Worker;
 use child_model::Children;
-use disk_model::Disk;
 use exec_client::Client;
 use exec_commands::Line;
 use exec_lines::Input;
 use exec_trace::Failed;
 use ocf_types::{Command, Request};
 use std::rt::Clock;
+use store_model::Store;
 
 /// A worker, with the input that was read and is not answered yet.
 #[derive(Drop)]
-pub struct Desk<'a, R: Input, D: Disk + Drop, C: Children + Drop, T: Client<D, C>, K: Clock> {
-    pub worker: Worker<'a, R, D, C, T, K>,
+pub struct Desk<'a, R: Input, S: Store + Drop, C: Children + Drop, T: Client<S, C>, K: Clock> {
+    pub worker: Worker<'a, R, S, C, T, K>,
     pub pending: Pending,
 }
 
-impl<'a, R: Input, D: Disk + Drop, C: Children + Drop, T: Client<D, C>, K: Clock> Desk<
+impl<'a, R: Input, S: Store + Drop, C: Children + Drop, T: Client<S, C>, K: Clock> Desk<
     'a,
     R,
-    D,
+    S,
     C,
     T,
     K,
@@ -67,11 +67,11 @@ impl<'a, R: Input, D: Disk + Drop, C: Children + Drop, T: Client<D, C>, K: Clock
         ensures goes_on { IfOk result
             (λ taken. taken ≡ More → MayGoOn context.now.mode self.new.worker.at.executor) }
         ensures lasts { Lasts self.old.worker.at self.new.worker.at }
-        ensures takes { (p : SessionPosition D) (own : OwnTurn) (most : ℕ)
+        ensures takes { (p : SessionPosition S) (own : OwnTurn) (most : ℕ)
             → MayTakeAfter context.now.mode most
-            → HasCome D.view (M.gives context.now.metadata.now) (rules_of context.now) p own (most + 1)
+            → HasCome S.view (M.gives context.now.metadata.now) (rules_of context.now) p own (most + 1)
             (midway self.old.worker self.old.pending)
-            → Comes D.view (M.gives context.now.metadata.now) (rules_of context.now) p own (most + 1)
+            → Comes S.view (M.gives context.now.metadata.now) (rules_of context.now) p own (most + 1)
             (midway self.new.worker self.new.pending) result }
         ensures none { waiting self.new.pending.gathered ≡ [] }
     {
@@ -95,11 +95,11 @@ impl<'a, R: Input, D: Disk + Drop, C: Children + Drop, T: Client<D, C>, K: Clock
         ensures there { WaitsForThere (midway self.new.worker self.new.pending) }
         ensures between { IsBetween (midway self.new.worker self.new.pending) }
         ensures lasts { Lasts self.old.worker.at self.new.worker.at }
-        ensures takes { (p : SessionPosition D) (own : OwnTurn) (most : ℕ)
+        ensures takes { (p : SessionPosition S) (own : OwnTurn) (most : ℕ)
             → MayTakeAfter context.now.mode most
-            → HasFound D.view (M.gives context.now.metadata.now) (rules_of context.now) p own most
+            → HasFound S.view (M.gives context.now.metadata.now) (rules_of context.now) p own most
             (waiting self.old.pending.gathered) (found.Line (of_command command)) self.old.worker
-            → Comes D.view (M.gives context.now.metadata.now) (rules_of context.now) p own (most + 1)
+            → Comes S.view (M.gives context.now.metadata.now) (rules_of context.now) p own (most + 1)
             (midway self.new.worker self.new.pending) result }
     {
         self.pending.gathered.push(command);
@@ -118,7 +118,7 @@ impl<'a, R: Input, D: Disk + Drop, C: Children + Drop, T: Client<D, C>, K: Clock
         requires at_once { MayTakeAtOnce context.now.mode found }
         requires waits { MayWait context.now.mode (midway self.old.worker self.old.pending) }
         requires between { IsBetween (midway self.old.worker self.old.pending) }
-        ensures takes { Takes D.view (M.gives context.now.metadata.now) (rules_of context.now) found
+        ensures takes { Takes S.view (M.gives context.now.metadata.now) (rules_of context.now) found
             (midway self.old.worker self.old.pending) (midway self.new.worker self.new.pending) result }
     {
         self.worker
@@ -143,7 +143,7 @@ impl<'a, R: Input, D: Disk + Drop, C: Children + Drop, T: Client<D, C>, K: Clock
         requires waits { MayWait context.now.mode (midway self.old.worker self.old.pending) }
         requires between { IsBetween (midway self.old.worker self.old.pending) }
         requires peeked { has_next ≡ true → IsThere self.old.worker.at.events }
-        ensures takes { Takes D.view (M.gives context.now.metadata.now) (rules_of context.now) found
+        ensures takes { Takes S.view (M.gives context.now.metadata.now) (rules_of context.now) found
             (midway self.old.worker self.old.pending) (midway self.new.worker self.new.pending) result }
     {
         match found {
@@ -168,11 +168,11 @@ impl<'a, R: Input, D: Disk + Drop, C: Children + Drop, T: Client<D, C>, K: Clock
             → WaitsForThere (midway self.new.worker self.new.pending)) }
         ensures lasts { Lasts self.old.worker.at self.new.worker.at }
         ensures reads { reads_in self.old.worker.at.events < reads_in self.new.worker.at.events }
-        ensures takes { (p : SessionPosition D) (own : OwnTurn) (most : ℕ)
+        ensures takes { (p : SessionPosition S) (own : OwnTurn) (most : ℕ)
             → MayTakeAfter context.now.mode most
-            → HasCome D.view (M.gives context.now.metadata.now) (rules_of context.now) p own most
+            → HasCome S.view (M.gives context.now.metadata.now) (rules_of context.now) p own most
             (midway self.old.worker self.old.pending)
-            → Comes D.view (M.gives context.now.metadata.now) (rules_of context.now) p own (most + 1)
+            → Comes S.view (M.gives context.now.metadata.now) (rules_of context.now) p own (most + 1)
             (midway self.new.worker self.new.pending) result }
     {
         let Some(next) = self.worker.read(&mut self.pending.buffer)? else {

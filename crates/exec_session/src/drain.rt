@@ -13,13 +13,13 @@ use crate::context::SessionContext;
 use crate::pause::Pause;
 use crate::worker::Worker;
 use child_model::Children;
-use disk_model::Disk;
 use exec_client::{Client, Message, TurnNotices};
 use exec_commands::{DrainEnd, LineReply};
 use exec_lines::Input;
 use exec_trace::Failed;
 use ocf_types::{NUM_MAX, TurnEnd};
 use std::rt::Clock;
+use store_model::Store;
 
 /// The limits of a drain.
 #[derive(Clone, Copy)]
@@ -53,10 +53,10 @@ impl Terms {
     }
 }
 
-impl<'a, R: Input, D: Disk + Drop, C: Children + Drop, T: Client<D, C>, K: Clock> Worker<
+impl<'a, R: Input, S: Store + Drop, C: Children + Drop, T: Client<S, C>, K: Clock> Worker<
     'a,
     R,
-    D,
+    S,
     C,
     T,
     K,
@@ -71,8 +71,8 @@ impl<'a, R: Input, D: Disk + Drop, C: Children + Drop, T: Client<D, C>, K: Clock
     ) -> Result<DrainEnd, Failed>
         requires open { self.old.at.executor.is_open ≡ true }
         requires shown { last_shown self.old.at.events ≡ Some start }
-        ensures drains { StepsTo (λ end q. Drains D.view (rules_of context.now) terms start self.old.at q end)
-            (DrainBreaks D.view (rules_of context.now) terms start self.old.at) self.old self.new result }
+        ensures drains { StepsTo (λ end q. Drains S.view (rules_of context.now) terms start self.old.at q end)
+            (DrainBreaks S.view (rules_of context.now) terms start self.old.at) self.old self.new result }
     {
         let mut now = start;
         let mut pause = Pause::new(start);
@@ -99,8 +99,8 @@ impl<'a, R: Input, D: Disk + Drop, C: Children + Drop, T: Client<D, C>, K: Clock
     ) -> Result<LineReply, Failed>
         requires open { self.old.at.executor.is_open ≡ true }
         ensures reply { StepsTo
-            (λ reply q. DrainsFor D.view ends_idle limit (rules_of context.now) self.old.at q reply)
-            (DrainBreaksFor D.view ends_idle limit (rules_of context.now) self.old.at)
+            (λ reply q. DrainsFor S.view ends_idle limit (rules_of context.now) self.old.at q reply)
+            (DrainBreaksFor S.view ends_idle limit (rules_of context.now) self.old.at)
             self.old self.new result }
     {
         let start = self.now();
@@ -122,8 +122,8 @@ impl<'a, R: Input, D: Disk + Drop, C: Children + Drop, T: Client<D, C>, K: Clock
     ) -> Result<(), Failed>
         requires open { self.old.at.executor.is_open ≡ true }
         ensures answers { Steps
-            (DrainSent (SendsAll context.now.form) D.view ends_idle limit (rules_of context.now) self.old.at)
-            (DrainEndsEarly D.view ends_idle limit (rules_of context.now) self.old.at)
+            (DrainSent (SendsAll context.now.form) S.view ends_idle limit (rules_of context.now) self.old.at)
+            (DrainEndsEarly S.view ends_idle limit (rules_of context.now) self.old.at)
             self.old self.new result }
     {
         let reply = self.drain_reply(context, ends_idle, limit)?;
@@ -137,8 +137,8 @@ impl<'a, R: Input, D: Disk + Drop, C: Children + Drop, T: Client<D, C>, K: Clock
         pause: &mut Pause,
     ) -> Result<(), Failed>
         requires open { self.old.at.executor.is_open ≡ true }
-        ensures made { Steps (FinishReceived (SendsAll context.now.form) D.view self.old.at)
-            (FinishReceived (SendsPart context.now.form) D.view self.old.at) self.old self.new result }
+        ensures made { Steps (FinishReceived (SendsAll context.now.form) S.view self.old.at)
+            (FinishReceived (SendsPart context.now.form) S.view self.old.at) self.old self.new result }
     {
         let now = self.now();
         pause.before_turn(self.edge.clock(), now);
@@ -153,8 +153,8 @@ impl<'a, R: Input, D: Disk + Drop, C: Children + Drop, T: Client<D, C>, K: Clock
     /// fault closes the executor, it sends the line of that fault instead. It breaks off where nobody reads the output any more.
     pub fn leave<M>(&mut self, context: &SessionContext<M>) -> Result<(), Failed>
         requires open { self.old.at.executor.is_open ≡ true }
-        ensures leaves { Steps (LeavesFrom D.view (rules_of context.now) self.old.at)
-            (LeaveBreaks D.view (rules_of context.now) self.old.at) self.old self.new result }
+        ensures leaves { Steps (LeavesFrom S.view (rules_of context.now) self.old.at)
+            (LeaveBreaks S.view (rules_of context.now) self.old.at) self.old self.new result }
     {
         let mut pause = Pause::new(0);
         for _turns in 0..NUM_MAX {

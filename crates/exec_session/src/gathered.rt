@@ -6,11 +6,11 @@ ghost use Rattle.executor.specs.CommandBatches.{TakesCommands};
 ghost use Rattle.exec_session.specs.Limits.{most_together};
 
 use child_model::Children;
-use disk_model::Disk;
-use executor::Executor;
+use executor::On;
 use growth::{Grows, with_capacity};
 use ocf_types::{Command, Refusal, Reply};
 use std::alloc::{AllocError, Global};
+use store_model::Store;
 
 // The most commands of a group commit.
 const MOST: usize = 64;
@@ -81,12 +81,12 @@ impl Gathered {
     }
 
     /// Has an executor do what the commands ask, as one group commit, at this time in milliseconds since 1970.
-    pub fn take_all<D: Disk + Drop, C: Children + Drop>(
+    pub fn take_all<S: Store + Drop, C: Children + Drop>(
         &mut self,
-        executor: &mut Executor<D, C>,
+        executor: &mut On<S, C>,
         now: u64,
     )
-        ensures takes { TakesCommands D.view now (waiting self.old) executor.old executor.new
+        ensures takes { TakesCommands S.view now (waiting self.old) executor.old executor.new
             (replied self.new) }
         ensures none { waiting self.new ≡ [] }
     {

@@ -3,10 +3,10 @@ ghost use Rattle.std.specs.Prelude.{◌≡◌, ◌≤◌};
 ghost use Rattle.exec_session.specs.Pausing.{IsQuietSince, IsShort, is_quiet, still_runs};
 
 use child_model::{Answer, Children, Entry, Poll};
-use disk_model::Disk;
-use executor::Executor;
+use executor::On;
 use std::rt::Clock;
 use std::time::Instant;
+use store_model::Store;
 
 // The shortest pause that is not 0, in microseconds.
 const SHORTEST: u64 = 20;
@@ -117,10 +117,10 @@ impl Pause {
     }
 
     /// The pause after the last turn, in microseconds.
-    pub fn after_turn<D: Disk + Drop, C: Children + Drop>(
+    pub fn after_turn<S: Store + Drop, C: Children + Drop>(
         &mut self,
         clock: &impl Clock,
-        executor: &Executor<D, C>,
+        executor: &On<S, C>,
     ) -> u64
         ensures moment { self.new.moment ≡ self.old.moment }
         ensures grows { self.old.since ≤ self.new.since }

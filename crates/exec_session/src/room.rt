@@ -1,17 +1,17 @@
 //! Tidies that a session makes by itself.
 ghost use Rattle.std.specs.Prelude.{◌≡◌, ◌≤◌, ◌+◌, ◌/◌, ◌^◌, [], true};
-ghost use Rattle.exec_journal.specs.Tidying.{tidied_tail};
+ghost use Rattle.store_model.specs.Calls.{tail_after};
 ghost use Rattle.executor.specs.TidyCalls.{TidiesWhile};
 ghost use Rattle.exec_client.specs.MaySend.{IsBacked};
 ghost use Rattle.exec_session.specs.Rules.{MakesRoom, is_at_leisure, is_monitor_due, is_tidy_due, rules_of};
 
 use crate::context::SessionContext;
 use child_model::Children;
-use disk_model::Disk;
-use executor::Executor;
+use executor::On;
 use ocf_types::{EVENT_LIMIT, PART_LIMIT, RESERVE, TidyEnd};
 use std::rt::Clock;
 use std::time::Instant;
+use store_model::Store;
 
 // The least gain of a tidy, in bytes: a quarter of a part. One that gains less waits until the tail has grown by that much.
 const WORTHWHILE: u64 = 2_097_152;
@@ -24,16 +24,16 @@ const SECOND_MARK: u64 = PART_LIMIT - RESERVE - 70 * EVENT_LIMIT as u64;
 const PIECE: u64 = 4_096;
 
 // At least as many pieces as a tidy would write, and at most one more.
-fn pieces<D: Disk + Drop, C: Children + Drop>(executor: &Executor<D, C>) -> u64
-    ensures value { result ≡ tidied_tail executor.now.state / 4096 + 1 }
+fn pieces<S: Store + Drop, C: Children + Drop>(executor: &On<S, C>) -> u64
+    ensures value { result ≡ tail_after executor.now.state / 4096 + 1 }
     ensures few { result ≤ 2 ^ 52 }
 {
     executor.tidied_tail() / PIECE + 1
 }
 
 // Whether a monitor is due within this many milliseconds from this time, or was due before.
-fn is_monitor_due<D: Disk + Drop, C: Children + Drop>(
-    executor: &Executor<D, C>,
+fn is_monitor_due<S: Store + Drop, C: Children + Drop>(
+    executor: &On<S, C>,
     now: u64,
     lasts: u64,
 ) -> bool
@@ -46,8 +46,8 @@ fn is_monitor_due<D: Disk + Drop, C: Children + Drop>(
 }
 
 // Whether nothing would have to wait for a tidy of this many milliseconds from this time on.
-fn is_at_leisure<D: Disk + Drop, C: Children + Drop>(
-    executor: &Executor<D, C>,
+fn is_at_leisure<S: Store + Drop, C: Children + Drop>(
+    executor: &On<S, C>,
     now: u64,
     lasts: u64,
 ) -> bool
@@ -58,14 +58,14 @@ fn is_at_leisure<D: Disk + Drop, C: Children + Drop>(
 
 // Whether the tail is past the first mark and a tidy is worthwhile, and either nothing would wait for it or the tail is past the second
 // mark.
-fn is_tidy_due<D: Disk + Drop, C: Children + Drop, M>(
+fn is_tidy_due<S: Store + Drop, C: Children + Drop, M>(
     context: &SessionContext<M>,
-    executor: &Executor<D, C>,
+    executor: &On<S, C>,
     now: u64,
     pace: u64,
 ) -> bool
     requires pace { pace ≤ 1000 }
-    ensures { result ≡ is_tidy_due (rules_of context.now) executor.now now pace }
+    ensures { result ≡ is_tidy_due S.view (rules_of context.now) executor.now now pace }
 {
     let tail = executor.tail();
     if context.tidy_at == 0 || tail <= context.tidy_at {
@@ -85,13 +85,13 @@ fn millis_since(clock: &impl Clock, then: Option<Instant>) -> u64 {
     }
 }
 
-/// Tidies the journal, and records how long a piece of that took.
-pub fn tidy_timed<D: Disk + Drop, C: Children + Drop, K: Clock, M>(
+/// Tidies the store, and records how long a piece of that took.
+pub fn tidy_timed<S: Store + Drop, C: Children + Drop, K: Clock, M>(
     context: &SessionContext<M>,
     clock: &K,
-    executor: &mut Executor<D, C>,
+    executor: &mut On<S, C>,
 ) -> TidyEnd
-    ensures tidies { TidiesWhile executor.old.is_open D.view executor.old executor.new result }
+    ensures tidies { TidiesWhile executor.old.is_open S.view executor.old executor.new result }
 {
     let pieces = pieces(executor);
     let start = Instant::now(clock).ok();
@@ -100,16 +100,16 @@ pub fn tidy_timed<D: Disk + Drop, C: Children + Drop, K: Clock, M>(
     end
 }
 
-/// Tidies the journal if that is due at this time. Whether the executor is open then: a disk fault closes it.
-pub fn make_room<D: Disk + Drop, C: Children + Drop, K: Clock, M>(
+/// Tidies the store if that is due at this time. Whether the executor is open then: a fault of the device closes it.
+pub fn make_room<S: Store + Drop, C: Children + Drop, K: Clock, M>(
     context: &SessionContext<M>,
     clock: &K,
-    executor: &mut Executor<D, C>,
+    executor: &mut On<S, C>,
     now: u64,
 ) -> bool
     requires open { executor.old.is_open ≡ true }
-    ensures holds { IsBacked D.view executor.old executor.new [] }
-    ensures makes { MakesRoom D.view (rules_of context.now) now executor.old executor.new }
+    ensures holds { IsBacked S.view executor.old executor.new [] }
+    ensures makes { MakesRoom S.view (rules_of context.now) now executor.old executor.new }
     ensures value { result ≡ executor.new.is_open }
 {
     let pace = context.pace.each();

@@ -9,7 +9,6 @@ ghost use Rattle.exec_session.specs.Steps.{Sends, Steps};
 use crate::context::{Mode, SessionContext};
 use crate::worker::Worker;
 use child_model::Children;
-use disk_model::Disk;
 use exec_client::{Client, Message};
 use exec_commands::{Counts, LineReply, NoticeForm};
 use exec_lines::Input;
@@ -17,18 +16,19 @@ use exec_trace::Failed;
 use executor::Report;
 use ocf_types::{StateView, TurnEnd};
 use std::rt::Clock;
+use store_model::Store;
 
-impl<'a, R: Input, D: Disk + Drop, C: Children + Drop, T: Client<D, C>, K: Clock> Worker<
+impl<'a, R: Input, S: Store + Drop, C: Children + Drop, T: Client<S, C>, K: Clock> Worker<
     'a,
     R,
-    D,
+    S,
     C,
     T,
     K,
 > {
     /// Sends a message that acknowledges no command and reports no new result; notices in this form.
     pub fn send(&mut self, form: NoticeForm, what: &Message) -> Result<(), Failed>
-        requires holds { IsBacked D.view self.old.at.executor self.old.at.executor
+        requires holds { IsBacked S.view self.old.at.executor self.old.at.executor
             (sent_in what.now) }
         requires says { IsOfView self.old.at.executor what.now }
         ensures sends { Sends form.entry (sent_in what.now) self.old self.new result }

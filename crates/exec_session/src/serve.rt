@@ -15,18 +15,18 @@ use crate::lines::Taken;
 use crate::metadata::Metadata;
 use crate::worker::Worker;
 use child_model::Children;
-use disk_model::Disk;
 use exec_client::Client;
 use exec_lines::Input;
 use exec_trace::Failed;
 use std::rt::Clock;
+use store_model::Store;
 
 // The most reads between two turns, and so the most lines that are answered.
 const READS_A_TURN: u32 = 64;
 
 // Whether a read may be made: no line is held, and input is there.
-fn may_read<R: Input, D: Disk + Drop, C: Children + Drop, T: Client<D, C>, K: Clock>(
-    worker: &mut Worker<'_, R, D, C, T, K>,
+fn may_read<R: Input, S: Store + Drop, C: Children + Drop, T: Client<S, C>, K: Clock>(
+    worker: &mut Worker<'_, R, S, C, T, K>,
     held: &Option<Held>,
 ) -> bool
     ensures free { IsTrue result → held.now ≡ None }
@@ -41,10 +41,10 @@ fn may_read<R: Input, D: Disk + Drop, C: Children + Drop, T: Client<D, C>, K: Cl
     }
 }
 
-impl<'a, R: Input, D: Disk + Drop, C: Children + Drop, T: Client<D, C>, K: Clock> Desk<
+impl<'a, R: Input, S: Store + Drop, C: Children + Drop, T: Client<S, C>, K: Clock> Desk<
     'a,
     R,
-    D,
+    S,
     C,
     T,
     K,
@@ -61,7 +61,7 @@ impl<'a, R: Input, D: Disk + Drop, C: Children + Drop, T: Client<D, C>, K: Clock
         ensures polled { IfOk result (λ taken. taken ≡ More
             → HasPolled (reads_in self.old.worker.at.events) (misses_in self.old.worker.at.events)
             (held_lines self.new.pending.held) self.new.worker.at.events) }
-        ensures takes { TakesLines D.view (M.gives context.now.metadata.now) (rules_of context.now)
+        ensures takes { TakesLines S.view (M.gives context.now.metadata.now) (rules_of context.now)
             (midway self.old.worker self.old.pending) (midway self.new.worker self.new.pending) result }
     {
         for _reads in 0..READS_A_TURN {
@@ -88,7 +88,7 @@ impl<'a, R: Input, D: Disk + Drop, C: Children + Drop, T: Client<D, C>, K: Clock
             (held_lines self.new.pending.held) self.new.worker.at.events) }
         ensures goes_on { IfOk result
             (λ taken. taken ≡ More → MayGoOn context.now.mode self.new.worker.at.executor) }
-        ensures takes { TakesLines D.view (M.gives context.now.metadata.now) (rules_of context.now)
+        ensures takes { TakesLines S.view (M.gives context.now.metadata.now) (rules_of context.now)
             (midway self.old.worker self.old.pending) (midway self.new.worker self.new.pending) result }
         ensures none { IfOk result (λ taken. taken ≡ More → waiting self.new.pending.gathered ≡ []) }
     {
@@ -114,7 +114,7 @@ impl<'a, R: Input, D: Disk + Drop, C: Children + Drop, T: Client<D, C>, K: Clock
             self.new.worker.at.events) }
         ensures goes_on { IfOk result
             (λ taken. taken ≡ More → MayGoOn context.now.mode self.new.worker.at.executor) }
-        ensures takes { TakesLines D.view (M.gives context.now.metadata.now) (rules_of context.now)
+        ensures takes { TakesLines S.view (M.gives context.now.metadata.now) (rules_of context.now)
             (midway self.old.worker self.old.pending) (midway self.new.worker self.new.pending) result }
         ensures none { IfOk result (λ taken. taken ≡ More → waiting self.new.pending.gathered ≡ []) }
     {

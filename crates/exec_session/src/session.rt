@@ -20,39 +20,39 @@ use crate::pending::LineRoom;
 use crate::wait::wait;
 use crate::worker::Worker;
 use child_model::Children;
-use disk_model::Disk;
 use exec_client::Client;
 use exec_faults::Fault;
 use exec_lines::Input;
 use exec_trace::{Edge, Failed};
-use executor::{Executor, Report};
+use executor::{On, Report};
 use ocf_types::{NUM_MAX, TurnEnd};
 use std::rt::Clock;
+use store_model::Store;
 
 /// How a session ended, and what it gives back.
 #[derive(Drop)]
-pub struct Run<'a, R: Input, D: Disk + Drop, C: Children + Drop, T: Client<D, C>, K: Clock> {
+pub struct Run<'a, R: Input, S: Store + Drop, C: Children + Drop, T: Client<S, C>, K: Clock> {
     pub ended: Result<(), Fault>,
     /// The reader and the client, with a log of all that they and the clock were asked.
-    pub edge: Edge<'a, R, D, C, T, K>,
-    pub disk: D,
+    pub edge: Edge<'a, R, S, C, T, K>,
+    pub store: S,
     /// No agent process is left.
     pub children: C,
 }
 
 // A session.
 #[derive(Drop)]
-struct Session<'a, R: Input, D: Disk + Drop, C: Children + Drop, T: Client<D, C>, K: Clock> {
-    desk: Desk<'a, R, D, C, T, K>,
+struct Session<'a, R: Input, S: Store + Drop, C: Children + Drop, T: Client<S, C>, K: Clock> {
+    desk: Desk<'a, R, S, C, T, K>,
     pause: Pause,
     // How the last turn ended that the session made by itself.
     own: TurnEnd,
 }
 
-impl<'a, R: Input, D: Disk + Drop, C: Children + Drop, T: Client<D, C>, K: Clock> Session<
+impl<'a, R: Input, S: Store + Drop, C: Children + Drop, T: Client<S, C>, K: Clock> Session<
     'a,
     R,
-    D,
+    S,
     C,
     T,
     K,
@@ -61,7 +61,7 @@ impl<'a, R: Input, D: Disk + Drop, C: Children + Drop, T: Client<D, C>, K: Clock
     fn serve_round<M: Metadata>(&mut self, context: &SessionContext<'_, M>) -> Result<Taken, Failed>
         requires mode { context.now.mode ≡ Mode.Serve }
         requires begins { MayBegin context.now.mode (midway self.old.desk.worker self.old.desk.pending) }
-        ensures rounds { Rounds D.view (M.gives context.now.metadata.now) (rules_of context.now)
+        ensures rounds { Rounds S.view (M.gives context.now.metadata.now) (rules_of context.now)
             (stage (midway self.old.desk.worker self.old.desk.pending) self.old.pause.since self.old.own)
             (stage (midway self.new.desk.worker self.new.desk.pending) self.new.pause.since self.new.own)
             result }
@@ -92,7 +92,7 @@ impl<'a, R: Input, D: Disk + Drop, C: Children + Drop, T: Client<D, C>, K: Clock
     // One round. In `run` it is one read, and the answer to the line that is complete then.
     fn round<M: Metadata>(&mut self, context: &SessionContext<'_, M>) -> Result<Taken, Failed>
         requires begins { MayBegin context.now.mode (midway self.old.desk.worker self.old.desk.pending) }
-        ensures rounds { Rounds D.view (M.gives context.now.metadata.now) (rules_of context.now)
+        ensures rounds { Rounds S.view (M.gives context.now.metadata.now) (rules_of context.now)
             (stage (midway self.old.desk.worker self.old.desk.pending) self.old.pause.since self.old.own)
             (stage (midway self.new.desk.worker self.new.desk.pending) self.new.pause.since self.new.own)
             result }
@@ -106,10 +106,10 @@ impl<'a, R: Input, D: Disk + Drop, C: Children + Drop, T: Client<D, C>, K: Clock
     // A session that has read nothing and made no turn. Not inlined, so that the values moved here take no stack in the session.
     #[inline(never)]
     fn new(
-        edge: Edge<'a, R, D, C, T, K>,
-        executor: Executor<D, C>,
+        edge: Edge<'a, R, S, C, T, K>,
+        executor: On<S, C>,
         room: LineRoom,
-    ) -> Session<'a, R, D, C, T, K>
+    ) -> Session<'a, R, S, C, T, K>
         requires fresh { IsNew edge.client_view executor }
         ensures point { result.desk.worker ≡ at_of executor edge.entry }
         ensures clear { IsClear result.desk.pending }
@@ -126,14 +126,14 @@ impl<'a, R: Input, D: Disk + Drop, C: Children + Drop, T: Client<D, C>, K: Clock
         }
     }
 
-    // Answers the lines of the input up to its end, round by round. In `serve` a disk fault that closes the executor ends the session,
+    // Answers the lines of the input up to its end, round by round. In `serve` a fault of the device that closes the executor ends the session,
     // with the line of that fault; and once a line asks for it the session makes an orderly end.
     fn answer_all<M: Metadata>(&mut self, context: &SessionContext<'_, M>) -> Result<(), Failed>
         requires clear { IsClear self.old.desk.pending }
         requires none { self.old.own ≡ Done }
         requires open { self.old.desk.worker.at.executor.is_open ≡ true }
         ensures lasts { Lasts self.old.desk.worker.at self.new.desk.worker.at }
-        ensures ends { EndsOrBreaks D.view (M.gives context.now.metadata.now) (rules_of context.now)
+        ensures ends { EndsOrBreaks S.view (M.gives context.now.metadata.now) (rules_of context.now)
             self.old.desk.worker self.new.desk.worker result }
     {
         for _rounds in 0..NUM_MAX {
@@ -158,9 +158,9 @@ impl<'a, R: Input, D: Disk + Drop, C: Children + Drop, T: Client<D, C>, K: Clock
         requires open { self.old.desk.worker.at.executor.is_open ≡ true }
         requires opening_report { IsReportOf self.old.desk.worker.at.executor report.now }
         ensures lasts { Lasts self.old.desk.worker.at self.new.desk.worker.at }
-        ensures runs { OnOk result (Runs D.view (M.gives context.now.metadata.now) (rules_of context.now)
+        ensures runs { OnOk result (Runs S.view (M.gives context.now.metadata.now) (rules_of context.now)
             report.now self.old.desk.worker self.new.desk.worker) }
-        ensures breaks { OnErr result (SessionBreaks D.view (M.gives context.now.metadata.now)
+        ensures breaks { OnErr result (SessionBreaks S.view (M.gives context.now.metadata.now)
             (rules_of context.now) report.now self.old.desk.worker self.new.desk.worker.at) }
     {
         self.desk.worker.send_report(context, report)?;
@@ -180,7 +180,7 @@ impl<'a, R: Input, D: Disk + Drop, C: Children + Drop, T: Client<D, C>, K: Clock
         requires open { self.old.desk.worker.at.executor.is_open ≡ true }
         requires opening_report { IsReportOf self.old.desk.worker.at.executor report.now }
         ensures lasts { Lasts self.old.desk.worker.at self.new.desk.worker.at }
-        ensures ends { EndsAs D.view (M.gives context.now.metadata.now) (rules_of context.now) report.now
+        ensures ends { EndsAs S.view (M.gives context.now.metadata.now) (rules_of context.now) report.now
             self.old.desk.worker self.new.desk.worker result }
         ensures memory { IfErr result (HasCause T.refuses) }
     {
@@ -205,23 +205,23 @@ impl<'a, R: Input, D: Disk + Drop, C: Children + Drop, T: Client<D, C>, K: Clock
 pub fn run_lines<
     'a,
     R: Input,
-    D: Disk + Drop,
+    S: Store + Drop,
     C: Children + Drop,
-    T: Client<D, C>,
+    T: Client<S, C>,
     K: Clock,
     M: Metadata,
 >(
     context: &SessionContext<'_, M>,
-    edge: Edge<'a, R, D, C, T, K>,
-    opened: (Executor<D, C>, Report),
+    edge: Edge<'a, R, S, C, T, K>,
+    opened: (On<S, C>, Report),
     room: LineRoom,
-) -> Run<'a, R, D, C, T, K>
+) -> Run<'a, R, S, C, T, K>
     requires fresh { IsNew edge.client_view opened.0 }
     requires opening_report { IsReportOf opened.0 opened.1 }
-    ensures ends { Ended D.view C.view (M.gives context.now.metadata.now) (rules_of context.now) opened.1
+    ensures ends { Ended S.view C.view (M.gives context.now.metadata.now) (rules_of context.now) opened.1
         (at_of opened.0 edge.entry)
-        result.edge result.ended result.disk result.children }
-    ensures reported { ClosesByCalls D.view opened.0 result.edge.client_view result.disk
+        result.edge result.ended result.store result.children }
+    ensures reported { ClosesByCalls S.view opened.0 result.edge.client_view result.store
         (C.view result.children) }
     ensures none_lives { (C.view result.children).live ≡ [] }
     ensures none_given_up { (C.view result.children).given_up ≡ [] }
@@ -232,11 +232,11 @@ pub fn run_lines<
     let ended = session.answer_lines(context, &report);
     let (edge, mut executor) = session.desk.worker.into_parts();
     executor.abandon();
-    let (disk, children) = executor.close();
+    let (store, children) = executor.into_store();
     Run {
         ended,
         edge,
-        disk,
+        store,
         children,
     }
 }

@@ -14,12 +14,12 @@ use crate::pause::Pause;
 use crate::room::make_room;
 use crate::worker::Worker;
 use child_model::Children;
-use disk_model::Disk;
 use exec_client::{Client, Message, TurnNotices};
 use exec_lines::Input;
 use exec_trace::Failed;
 use ocf_types::TurnEnd;
 use std::rt::Clock;
+use store_model::Store;
 
 // Whether the end of an own turn is news.
 fn is_news(before: TurnEnd, end: TurnEnd) -> bool
@@ -29,10 +29,10 @@ fn is_news(before: TurnEnd, end: TurnEnd) -> bool
     end != before && end != TurnEnd::Done && end != TurnEnd::Disk
 }
 
-impl<'a, R: Input, D: Disk + Drop, C: Children + Drop, T: Client<D, C>, K: Clock> Worker<
+impl<'a, R: Input, S: Store + Drop, C: Children + Drop, T: Client<S, C>, K: Clock> Worker<
     'a,
     R,
-    D,
+    S,
     C,
     T,
     K,
@@ -42,8 +42,8 @@ impl<'a, R: Input, D: Disk + Drop, C: Children + Drop, T: Client<D, C>, K: Clock
     pub fn make_turn<M>(&mut self, context: &SessionContext<M>, now: u64) -> Result<TurnEnd, Failed>
         requires open { self.old.at.executor.is_open ≡ true }
         requires shown { last_shown self.old.at.events ≡ Some now }
-        ensures made { StepsTo (λ end q. MakesTurn D.view (rules_of context.now) now self.old.at q end)
-            (TurnBreaks D.view (rules_of context.now) now self.old.at) self.old self.new result }
+        ensures made { StepsTo (λ end q. MakesTurn S.view (rules_of context.now) now self.old.at q end)
+            (TurnBreaks S.view (rules_of context.now) now self.old.at) self.old self.new result }
     {
         self.executor.clear_book();
         if !make_room(context, self.edge.clock(), &mut self.executor, now) {
@@ -83,9 +83,9 @@ impl<'a, R: Input, D: Disk + Drop, C: Children + Drop, T: Client<D, C>, K: Clock
         requires open { self.old.at.executor.is_open ≡ true }
         ensures longer { length self.old.at.events < length self.new.at.events }
         ensures since { pause.new.since ≡ pause.old.since }
-        ensures made { StepsTo (λ end q. MakesOwnTurn D.view (rules_of context.now) before
+        ensures made { StepsTo (λ end q. MakesOwnTurn S.view (rules_of context.now) before
             pause.new.moment self.old.at q end)
-            (OwnTurnBreaks D.view (rules_of context.now) before self.old.at) self.old self.new result }
+            (OwnTurnBreaks S.view (rules_of context.now) before self.old.at) self.old self.new result }
     {
         let now = self.now();
         pause.before_turn(self.clock(), now);

@@ -8,10 +8,10 @@ ghost use Rattle.exec_trace.specs.declared.event.IoEvent.TheVariants.{Asked};
 use crate::pause::Pause;
 use crate::worker::Worker;
 use child_model::Children;
-use disk_model::Disk;
 use exec_client::Client;
 use exec_lines::Input;
 use std::rt::Clock;
+use store_model::Store;
 
 // The longest wait while nothing is queued or running, in milliseconds.
 const LONGEST_WAIT: u32 = 1_000;
@@ -19,8 +19,8 @@ const LONGEST_WAIT: u32 = 1_000;
 // How long to wait for input after a turn, in microseconds: 0 if an action ended or began in it; while nothing is queued or
 // running, until the next monitor is due, and a second at most; else, and if a monitor is due already, a short pause.
 #[tactic(auto, using(crate::proofs::RoundLemmas::waits_none, crate::proofs::RoundLemmas::waits_once))]
-fn wait_micros<R: Input, D: Disk + Drop, C: Children + Drop, T: Client<D, C>, K: Clock>(
-    worker: &mut Worker<'_, R, D, C, T, K>,
+fn wait_micros<R: Input, S: Store + Drop, C: Children + Drop, T: Client<S, C>, K: Clock>(
+    worker: &mut Worker<'_, R, S, C, T, K>,
     pause: &mut Pause,
 ) -> u64
     ensures moment { pause.new.moment ≡ pause.old.moment }
@@ -51,8 +51,8 @@ fn look_millis(micros: u64) -> u32
 
 // Waits until a line is there, an action may have ended, or a monitor is due.
 #[tactic(auto, using(crate::proofs::RoundLemmas::waits_more, crate::proofs::RoundLemmas::waits_rest))]
-fn wait_for_line<R: Input, D: Disk + Drop, C: Children + Drop, T: Client<D, C>, K: Clock>(
-    worker: &mut Worker<'_, R, D, C, T, K>,
+fn wait_for_line<R: Input, S: Store + Drop, C: Children + Drop, T: Client<S, C>, K: Clock>(
+    worker: &mut Worker<'_, R, S, C, T, K>,
     pause: &mut Pause,
 )
     ensures moment { pause.new.moment ≡ pause.old.moment }
@@ -71,15 +71,15 @@ fn wait_for_line<R: Input, D: Disk + Drop, C: Children + Drop, T: Client<D, C>, 
 /// Waits until a line is there, an action may have ended, or a monitor is due, a second at most. While a line is held, it does
 /// not poll for lines, and pauses only as long as between two turns of a watch; it does not wait at all right after the line
 /// came, so that its agent is asked for metadata at once. Gives whether anybody may still read the output.
-pub fn wait<R: Input, D: Disk + Drop, C: Children + Drop, T: Client<D, C>, K: Clock>(
-    worker: &mut Worker<'_, R, D, C, T, K>,
+pub fn wait<R: Input, S: Store + Drop, C: Children + Drop, T: Client<S, C>, K: Clock>(
+    worker: &mut Worker<'_, R, S, C, T, K>,
     pause: &mut Pause,
     holds: bool,
 ) -> bool
     ensures moment { pause.new.moment ≡ pause.old.moment }
     ensures quiet { IsQuietSince worker.old.at.executor.children.book pause.old.moment pause.old.since
         pause.new.since }
-    ensures waits { (m : SessionPosition D) × Waits pause.new.since pause.new.moment worker.old m
+    ensures waits { (m : SessionPosition S) × Waits pause.new.since pause.new.moment worker.old m
         × (worker.new ≡ noted m (Asked result)) }
 {
     pause.holds(holds);

@@ -3,7 +3,7 @@ ghost use Rattle.std.specs.Prelude.{◌≡◌, ◌≤◌, ℕ, List, Option, Mat
 ghost use Rattle.ocf_types.specs.Boot.{any_busy};
 ghost use Rattle.ocf_types.specs.Numbers.{IsMoment};
 ghost use Rattle.recurring.specs.Monitors.{IsFirstMoment};
-ghost use Rattle.exec_state.specs.Store.{all_pairs};
+ghost use Rattle.exec_state.specs.StateValue.{all_pairs};
 ghost use Rattle.exec_turn.specs.Actives.{any_running};
 ghost use Rattle.exec_client.specs.MaySend.{AllBacked};
 ghost use Rattle.exec_lines.specs.Buffer.{line_bytes};
@@ -18,50 +18,50 @@ use crate::context::Mode;
 use crate::lines::Found;
 use crate::pause::Pause;
 use child_model::Children;
-use disk_model::Disk;
 use exec_client::Client;
 use exec_commands::Tag;
 use exec_lines::{Input, LineBuffer, Next};
 use exec_trace::{Edge, Failed};
-use executor::Executor;
+use executor::On;
 use std::marker::Model;
 use std::rt::Clock;
+use store_model::Store;
 
 /// The executor of a session, with its reader, its client and its clock. Its invariant: all that the client was sent since the opening is
 /// backed by what the executor recorded.
 #[derive(Drop)]
-pub struct Worker<'a, R: Input, D: Disk + Drop, C: Children + Drop, T: Client<D, C>, K: Clock> {
-    pub(crate) edge: Edge<'a, R, D, C, T, K>,
-    pub(crate) executor: Executor<D, C>,
+pub struct Worker<'a, R: Input, S: Store + Drop, C: Children + Drop, T: Client<S, C>, K: Clock> {
+    pub(crate) edge: Edge<'a, R, S, C, T, K>,
+    pub(crate) executor: On<S, C>,
 }
 
-impl<'a, R: Input, D: Disk + Drop, C: Children + Drop, T: Client<D, C>, K: Clock> Model
-    for Worker<'a, R, D, C, T, K> {
+impl<'a, R: Input, S: Store + Drop, C: Children + Drop, T: Client<S, C>, K: Clock> Model
+    for Worker<'a, R, S, C, T, K> {
     ghost use Rattle.exec_client.specs.MaySend.{AllBacked};
     ghost use Rattle.exec_session.specs.SessionViews.{SessionPosition, at_of};
     ghost use Rattle.serde_json.specs.contracts.value.Value as json_value;
     ghost use Rattle.std.specs.Coded.{codes};
 
-    ghost Value = { SessionPosition D };
+    ghost Value = { SessionPosition S };
 
     ghost coded = { Prim.hlevel (codes, json_value.the_row.coded) };
 
     ghost view = { λ w. at_of w.executor w.edge };
 
-    ghost invariant = { λ w. AllBacked D.view w.edge.client_view w.executor };
+    ghost invariant = { λ w. AllBacked S.view w.edge.client_view w.executor };
 }
 
-impl<'a, R: Input, D: Disk + Drop, C: Children + Drop, T: Client<D, C>, K: Clock> Worker<
+impl<'a, R: Input, S: Store + Drop, C: Children + Drop, T: Client<S, C>, K: Clock> Worker<
     'a,
     R,
-    D,
+    S,
     C,
     T,
     K,
 > {
     /// An executor that was just opened, and a client that was sent nothing yet.
     #[tactic(auto, using(crate::proofs::SendLemmas::new_holds))]
-    pub fn new(edge: Edge<'a, R, D, C, T, K>, executor: Executor<D, C>) -> Worker<'a, R, D, C, T, K>
+    pub fn new(edge: Edge<'a, R, S, C, T, K>, executor: On<S, C>) -> Worker<'a, R, S, C, T, K>
         requires fresh { IsNew edge.client_view executor }
         ensures { result ≡ at_of executor edge.entry }
     {
@@ -69,9 +69,9 @@ impl<'a, R: Input, D: Disk + Drop, C: Children + Drop, T: Client<D, C>, K: Clock
     }
 
     /// The edge and the executor.
-    pub fn into_parts(self) -> (Edge<'a, R, D, C, T, K>, Executor<D, C>)
+    pub fn into_parts(self) -> (Edge<'a, R, S, C, T, K>, On<S, C>)
         ensures parts { at_of result.1 result.0 ≡ self.entry }
-        ensures holds { AllBacked D.view result.0.client_view result.1 }
+        ensures holds { AllBacked S.view result.0.client_view result.1 }
     {
         let Worker { edge, executor } = self;
         (edge, executor)

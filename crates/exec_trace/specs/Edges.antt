@@ -6,13 +6,13 @@ use Rattle.exec_trace.specs.declared.event.IoEvent.TheVariants.{Rested}
 
 -- what the reader has left, where that is known; what the client has received; and all that they and the clock were asked, with the
 -- answers
-pub record EdgeView (D : Type 0) : Type 0 where
+pub record EdgeView (S : Type 0) : Type 0 where
   pub left : Option (List ℕ)
-  pub client_view : ClientView D
+  pub client_view : ClientView S
   pub events : List IoEvent
 
 -- the view after one more event
-abbrev pub noting : {D : Type 0} → EdgeView D → IoEvent → EdgeView D
+abbrev pub noting : {S : Type 0} → EdgeView S → IoEvent → EdgeView S
 noting e event = record { left = e.left; client_view = e.client_view; events = e.events ++ event ∷ [] }
 
 -- the events of a pause of this many microseconds: a pause of 0 has none
@@ -20,5 +20,5 @@ abbrev pub rest_events : ℕ → List IoEvent
 rest_events micros = if nat_lt 0 micros then Rested micros ∷ [] else []
 
 -- the view after such a pause
-abbrev pub rested : {D : Type 0} → EdgeView D → ℕ → EdgeView D
+abbrev pub rested : {S : Type 0} → EdgeView S → ℕ → EdgeView S
 rested e micros = record { left = e.left; client_view = e.client_view; events = e.events ++ rest_events micros }

@@ -1,5 +1,5 @@
 //! The reader, the client and the clock of a session.
-ghost use Rattle.std.specs.Prelude.{◌≡◌, [], ◌∷◌, ◌++◌, ◌≤◌, Bool, true, false, is_ok, IfOk, IsTrue, List, MatchOption, OnErr, OnOk, Option, ℕ};
+ghost use Rattle.std.specs.Prelude.{◌≡◌, [], ◌∷◌, ◌++◌, is_ok, IfOk, IsTrue, List, MatchOption, OnErr, OnOk, Option, ℕ};
 ghost use Rattle.ocf_types.specs.Numbers.{IsMoment};
 ghost use Rattle.exec_lines.specs.Buffer.{line_bytes};
 ghost use Rattle.exec_lines.specs.Pieces.{IsMidLine, IsNext};
@@ -12,40 +12,41 @@ ghost use Rattle.exec_trace.specs.declared.event.IoEvent.TheVariants.{Asked, Pol
 use crate::event::IoEvent;
 use crate::failed::Failed;
 use child_model::Children;
-use disk_model::Disk;
 use exec_client::{Client, Message};
 use exec_commands::{NoticeForm, Tag};
 use exec_lines::{Input, LineBuffer, Next, gather_line, moment_now};
 use exec_messages::IoFault;
-use executor::Executor;
+use executor::On;
 use past::Past;
+use resource_status::RunReason;
 use std::alloc::AllocError;
 use std::marker::{Model, PhantomData};
 use std::rt::Clock;
 use std::thread::sleep;
 use std::time::Duration;
+use store_model::Store;
 
 /// The reader, the client and the clock of a session, with a log of all that they were asked. Nothing else asks them.
 #[derive(Drop)]
-pub struct Edge<'a, R: Input, D: Disk + Drop, C: Children + Drop, T: Client<D, C>, K: Clock> {
+pub struct Edge<'a, R: Input, S: Store + Drop, C: Children + Drop, T: Client<S, C>, K: Clock> {
     reader: R,
     client: T,
     clock: &'a K,
     past: Past<IoEvent>,
     // The last failure of the reader or the client.
     fault: IoFault,
-    of: PhantomData<(D, C)>,
+    of: PhantomData<(S, C)>,
 }
 
-impl<'a, R: Input, D: Disk + Drop, C: Children + Drop, T: Client<D, C>, K: Clock> Model
-    for Edge<'a, R, D, C, T, K> {
+impl<'a, R: Input, S: Store + Drop, C: Children + Drop, T: Client<S, C>, K: Clock> Model
+    for Edge<'a, R, S, C, T, K> {
     ghost use Rattle.std.specs.Prelude.{◌≡◌, IsTrue};
     ghost use Rattle.exec_messages.specs.declared.send.IoFault.TheVariants.{Memory};
     ghost use Rattle.exec_trace.specs.Edges.{EdgeView};
     ghost use Rattle.std.specs.Coded.{codes};
     ghost use Rattle.serde_json.specs.contracts.value.Value as json_value;
 
-    ghost Value = { EdgeView D };
+    ghost Value = { EdgeView S };
 
     ghost coded = { Prim.hlevel (codes, json_value.the_row.coded) };
 
@@ -54,16 +55,16 @@ impl<'a, R: Input, D: Disk + Drop, C: Children + Drop, T: Client<D, C>, K: Clock
     ghost invariant = { λ e. e.fault ≡ Memory → IsTrue T.refuses };
 }
 
-impl<'a, R: Input, D: Disk + Drop, C: Children + Drop, T: Client<D, C>, K: Clock> Edge<
+impl<'a, R: Input, S: Store + Drop, C: Children + Drop, T: Client<S, C>, K: Clock> Edge<
     'a,
     R,
-    D,
+    S,
     C,
     T,
     K,
 > {
     /// Nothing was asked yet.
-    pub fn new(reader: R, client: T, clock: &'a K) -> Edge<'a, R, D, C, T, K>
+    pub fn new(reader: R, client: T, clock: &'a K) -> Edge<'a, R, S, C, T, K>
         ensures { result ≡ record { left = R.remaining reader; client_view = T.client_view client; events = [] } }
     {
         Edge {
@@ -145,11 +146,11 @@ impl<'a, R: Input, D: Disk + Drop, C: Children + Drop, T: Client<D, C>, K: Clock
     /// of the next.
     pub fn send(
         &mut self,
-        executor: &Executor<D, C>,
+        executor: &On<S, C>,
         form: NoticeForm,
         what: &Message,
     ) -> Result<(), Failed>
-        requires may_send { MaySend D.view self.old.client_view executor.now what.now }
+        requires may_send { MaySend S.view self.old.client_view executor.now what.now }
         ensures reported { IsSent self.old.client_view self.new.client_view (sent_in what.now) }
         ensures receives { OnOk result (Receives form.entry self.old.client_view self.new.client_view (sent_in what.now)) }
         ensures breaks { OnErr result (ReceivesPart form.entry self.old.client_view self.new.client_view (sent_in what.now)) }
@@ -176,6 +177,11 @@ impl<'a, R: Input, D: Disk + Drop, C: Children + Drop, T: Client<D, C>, K: Clock
         ensures memory { OnErr result (IsTrue T.refuses) }
     {
         self.client.note_tag(tag)
+    }
+
+    /// The reasons that agents gave for the last failures of resources, as far as the client knows them. This asks nobody, so it is no event.
+    pub fn failure_reasons(&self, executor: &On<S, C>) -> Vec<RunReason> {
+        self.client.failure_reasons(executor)
     }
 
     /// Whether the client's last failure was lack of memory.

@@ -177,9 +177,9 @@ impl<'a> Host for SystemHost<'a> {
     }
 
     // TRUSTED: they are those of these logs.
-    fn reasons(&self, logs: Option<&str>) -> LogReasons {
+    fn reasons(&self, log: Option<&str>, logs: Option<&str>) -> LogReasons {
         let rt = self.system.host();
-        LogReasons::new(*rt, logs)
+        LogReasons::new(*rt, log, logs)
     }
 
     fn is_marked(&self) -> bool {

@@ -8,9 +8,9 @@ use Rattle.serde_json.specs.Written.{has_float}
 use Rattle.ocf_types.specs.Resource.{Resource}
 use Rattle.ocf_types.specs.declared.operation.Ended.{Ended}
 use Rattle.ocf_types.specs.declared.operation.Running.{Running}
-use Rattle.resource_condition.specs.Conditions.{known_of}
+use Rattle.resource_condition.specs.Conditions.{since_of}
 use Rattle.resource_status.specs.Statuses.{doing_data, failure_data, reason_data, resource_data, since_data}
-use Rattle.resource_condition.specs.declared.condition.Known.{Known}
+use Rattle.resource_condition.specs.declared.condition.Since.{Since}
 
 pub reason_no_float : (reason : Option (List ℕ)) → has_float (reason_data reason) ≡ false
 reason_no_float None = refl
@@ -24,13 +24,13 @@ doing_no_float : (r : Option Running) → has_float (doing_data r) ≡ false
 doing_no_float None = refl
 doing_no_float (Some x) = refl
 
-since_no_float : (k : Option Known) → has_float (since_data k) ≡ false
+since_no_float : (k : Option Since) → has_float (since_data k) ≡ false
 since_no_float None = refl
 since_no_float (Some k) = refl
 
 pub resource_has_no_float : (reason : Option (List ℕ)) (e : List ℕ × Resource) → has_float (resource_data reason e) ≡ false
 resource_has_no_float reason e =
-    rw (failure_no_float reason e.1.history.failed, doing_no_float e.1.history.running, since_no_float (known_of e.1.history.ended)) refl
+    rw (failure_no_float reason e.1.history.failed, doing_no_float e.1.history.running, since_no_float (since_of e.1.history)) refl
 
 -- the values of resources, and one more
 pub status_more : (xs ys : List Value) (v : Value) (d : Data) → ys ≡ xs ++ v ∷ [] → view v ≡ d → map view ys ≡ map view xs ++ d ∷ []

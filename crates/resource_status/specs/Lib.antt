@@ -1,3 +1,4 @@
 pub mod Meanings
+pub mod Reasons
 pub mod Results
 pub mod Statuses

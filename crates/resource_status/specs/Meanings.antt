@@ -1,12 +1,12 @@
 -- What a result means, in words, and whether it is good, notable or bad.
-use Rattle.std.specs.Prelude.{ℕ, List, codes, unwrap_or}
+use Rattle.std.specs.Prelude.{◌≡◌, ℕ, List, MatchOption, codes, unwrap_or}
 use Rattle.ocf_types.specs.declared.action.Action.{Action}
 use Rattle.ocf_types.specs.declared.action.Action.TheVariants.{Monitor}
 use Rattle.ocf_types.specs.declared.outcome.Outcome.{Outcome}
 use Rattle.ocf_types.specs.declared.outcome.Outcome.TheVariants.{Run, Cancelled}
 use Rattle.ocf_types.specs.declared.outcome.RunEnd.TheVariants.{Done}
 use Rattle.ocf_types.specs.Outcomes.{outcome_row}
-use Rattle.ocf_codes.specs.ExitCodes.{code_read}
+use Rattle.ocf_codes.specs.ExitCodes.{code_read, IsPlainText}
 use Rattle.ocf_codes.specs.declared.exit_code.Code.{Code}
 use Rattle.ocf_codes.specs.declared.exit_code.Code.TheVariants as code
 use Rattle.resource_status.specs.declared.meanings.Tone.{Tone}
@@ -33,25 +33,9 @@ code_meaning action (code.Other n) = codes "failed with a code of the agent's ow
 abbrev pub meaning : Action → Outcome → List ℕ
 meaning action o = unwrap_or (outcome_row o).meaning (code_meaning action (code_read (outcome_row o).code))
 
--- what an unexpected exit code means, in the words of crm_mon(8) where it has some
-abbrev pub unexpected_meaning : Code → List ℕ
-unexpected_meaning code.Success = codes "running"
-unexpected_meaning code.Generic = codes "error"
-unexpected_meaning code.Args = codes "invalid parameter"
-unexpected_meaning code.Unimplemented = codes "unimplemented feature"
-unexpected_meaning code.Perm = codes "insufficient privileges"
-unexpected_meaning code.Installed = codes "not installed"
-unexpected_meaning code.Configured = codes "not configured"
-unexpected_meaning code.NotRunning = codes "not running"
-unexpected_meaning code.RunningPromoted = codes "promoted"
-unexpected_meaning code.FailedPromoted = codes "promoted (failed)"
-unexpected_meaning code.Degraded = codes "degraded"
-unexpected_meaning code.DegradedPromoted = codes "promoted (degraded)"
-unexpected_meaning (code.Other n) = codes "a code of the agent's own"
-
--- what a failure means
-abbrev pub failure_meaning : Outcome → List ℕ
-failure_meaning o = unwrap_or (outcome_row o).meaning (unexpected_meaning (code_read (outcome_row o).code))
+-- what a failure means: the meaning of an outcome that has no exit code, or words for the exit code
+abbrev pub IsFailureMeaning : Outcome → List ℕ → Type 0
+IsFailureMeaning o text = MatchOption (outcome_row o).meaning (IsPlainText text) (λ meaning. text ≡ meaning)
 
 -- whether an exit code is good, notable or bad
 abbrev pub code_tone : Code → Tone

@@ -96,7 +96,7 @@ fn ended_in_way<R: Input + Drop, W: Output>(
             };
             let edge = Edge::new(reader, client, &Standing);
             let run = run_lines(&context, edge, (executor, report), room);
-            Some((run.ended, run.disk))
+            Some((run.ended, run.store.into_disk()))
         }
         Err(_) => None,
     }

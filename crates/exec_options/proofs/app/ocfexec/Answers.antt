@@ -1,12 +1,12 @@
 use Rattle.std.proofs.Common.{codes}
 use Rattle.std.proofs.lemmas.Result.{IfOk-weaker}
-use Rattle.exec_options.specs.App.{session_app, query_app, status_app, log_app, once_app}
+use Rattle.exec_options.specs.App.{run_app, session_app, query_app, status_app, log_app, once_app}
 use Rattle.exec_options.proofs.AppLemmas.{app-sub}
 use Rattle.exec_options.proofs.app.ocfexec.Goals as goal
 
 pub returns : goal.returns
 returns c =
-    let with_run = app-sub _ _ c.in_ok-with_run.with_run _ (session_app (codes "run")) c.in_ok-with_run.ensures c.in_ok-run.ensures.local c.in_ok-run.ensures.app
+    let with_run = app-sub _ _ c.in_ok-with_run.with_run _ run_app c.in_ok-with_run.ensures c.in_ok-run.ensures.local c.in_ok-run.ensures.app
     c.top.ensures.app in
     let with_serve = app-sub _ _ c.in_ok-with_serve.with_serve _ (session_app (codes "serve")) c.in_ok-with_serve.ensures c.in_ok-serve.ensures.local c.in_ok-serve.ensures.app
     with_run in

@@ -1,7 +1,7 @@
 use Rattle.std.proofs.Common.{◌∙◌, ℕ, List, Option, Result, Err, inl, inr, ap, subst}
 use Rattle.exec_faults.specs.declared.fault.Fault.{Fault}
 use Rattle.exec_program.specs.Requests.{WatchPaths}
-use Rattle.exec_program.specs.Runs.{EndsBy}
+use Rattle.exec_program.specs.Runs.{EndsBy, judged}
 use Rattle.exec_program.proofs.SessionLemmas.{allows_agents, allows_reader}
 use Rattle.exec_program.proofs.run.serve_agents.Goals as goal
 
@@ -32,7 +32,8 @@ returns-in-Ok-open-clause-runs g c = inl (record {
   executor = c.in-Ok-open.opened.0;
   report = c.in-Ok-open.opened.1;
   ran = c.answer_lines-lines.result.ended;
-  last_disk = c.answer_lines-lines.result.disk;
+  failed = c.answer_lines-lines.result.has_failed;
+  last_store = c.answer_lines-lines.result.store;
   last_agents = c.answer_lines-lines.result.children;
   holds = record { looked_after = c.in-Ok.ensures.agents; fresh = c.in-Ok.ensures.fresh; shown = c.moment.ensures };
   opened = c.in-Ok-open.ensures.opened;
@@ -41,7 +42,8 @@ returns-in-Ok-open-clause-runs g c = inl (record {
   watches = subst (λ (x : Option (List ℕ)). (g.H.Host.asked c.args.host.now).watch x c.watch-watch.result) c.served_directory.ensures c.watch-watch.ensures;
   lines = c.answer_lines-lines.ensures.runs;
   ends = subst (λ (r : Result Unit Fault). EndsBy (g.H.Host.asked c.args.host.now) c.args.options c.watch-watch.result r c.ended_over-ended.result)
-      c.reported-ended.ensures c.ended_over-ended.ensures.ends;
+      (c.judged-ended.ensures.judged ∙ ap (judged c.args.options c.answer_lines-lines.result.has_failed) c.reported-ended.ensures)
+      c.ended_over-ended.ensures.ends;
 })
 
 pub returns-in-Err-clause-runs : goal.returns-in-Err-clause-runs

@@ -4,5 +4,5 @@ use Rattle.exec_session.proofs.answer.status_reply.Goals as goal
 
 pub returns-in-Ok : goal.returns-in-Ok
 returns-in-Ok g c = record {
-  status = inl (c.in-Ok.statuses, refl, c.in-Ok.ensures.statuses ∙ ap statuses_of c.state.ensures.state);
+  status = inl (c.in-Ok.statuses, c.args.reasons.now, refl, c.in-Ok.ensures.statuses ∙ ap (statuses_of c.args.reasons.now) c.state.ensures.state);
 }

@@ -1,5 +1,5 @@
 use Rattle.std.proofs.Common.{subst}
-use Rattle.exec_state.specs.Store.{all_pairs}
+use Rattle.exec_state.specs.StateValue.{all_pairs}
 use Rattle.recurring.specs.Monitors.{IsFirstMoment}
 use Rattle.exec_session.proofs.RoomLemmas.{first_within}
 use Rattle.exec_session.proofs.room.is_monitor_due.Goals as goal

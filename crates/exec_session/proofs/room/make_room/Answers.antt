@@ -6,7 +6,7 @@ use Rattle.exec_session.proofs.room.make_room.Goals as goal
 
 pub returns-then-not-is_tidy_due-clause-holds : goal.returns-then-not-is_tidy_due-clause-holds
 returns-then-not-is_tidy_due-clause-holds g c =
-    none_holds g.D.Disk.view c.args.executor.now c.args.executor.now [] refl nothing
+    none_holds g.S.Store.view c.args.executor.now c.args.executor.now [] refl nothing
 
 pub returns-then-not-is_tidy_due-clause-makes : goal.returns-then-not-is_tidy_due-clause-makes
 returns-then-not-is_tidy_due-clause-makes g c =
@@ -19,7 +19,7 @@ returns-then-not-is_tidy_due-clause-makes g c =
 
 pub returns-clause-holds : goal.returns-clause-holds
 returns-clause-holds g c =
-    tidied_holds g.D.Disk.view c.args.executor.now c.tidy_timed.new.executor c.tidy_timed.result c.tidy_timed.ensures.tidies
+    tidied_holds g.S.Store.view c.args.executor.now c.tidy_timed.new.executor c.tidy_timed.result c.tidy_timed.ensures.tidies
 
 pub returns-clause-makes : goal.returns-clause-makes
 returns-clause-makes g c =
@@ -29,7 +29,7 @@ returns-clause-makes g c =
       some_time = c.each-pace.ensures.least;
       made = λ _. (
         c.tidy_timed.result,
-        subst (λ b. TidiesWhile b g.D.Disk.view c.args.executor.now new c.tidy_timed.result) c.requires.open c.tidy_timed.ensures.tidies,
+        subst (λ b. TidiesWhile b g.S.Store.view c.args.executor.now new c.tidy_timed.result) c.requires.open c.tidy_timed.ensures.tidies,
       );
       none = λ undue. absurd (true≢false (sym due ∙ undue));
     }

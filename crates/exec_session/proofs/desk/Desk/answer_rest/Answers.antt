@@ -9,7 +9,7 @@ pub returns-clause-takes : goal.returns-clause-takes
 returns-clause-takes g c = λ p own most may come.
     let old = c.args.self.now in
     let new = c.answer_gathered.new in
-    come_answered g.D.Disk.view (g.M.Metadata.gives c.args.context.now.metadata.now) (rules_of c.args.context.now) p own (most + 1)
+    come_answered g.S.Store.view (g.M.Metadata.gives c.args.context.now.metadata.now) (rules_of c.args.context.now) p own (most + 1)
     (λ n few. may n (omega (arith, few))) (waiting old.pending.gathered) (waiting new.gathered) old.pending.held
     (line_bytes old.pending.buffer) old.worker new.self c.next_step.result c.requires.«open» c.in_ok-answer_gathered.ensures.none
     c.in_ok-answer_gathered.ensures.answers.keeps.1 come c.in_ok-answer_gathered.ensures.answers.done c.next_step.ensures
@@ -18,7 +18,7 @@ pub returns-in_err-answer_gathered-clause-takes : goal.returns-in_err-answer_gat
 returns-in_err-answer_gathered-clause-takes g c = λ p own most may come.
     let old = c.args.self.now in
     comes_err _ _ _ _ own _ _ c.from_residual.result c.from_residual.ensures.0
-    (come_batch_breaks g.D.Disk.view (g.M.Metadata.gives c.args.context.now.metadata.now) (rules_of c.args.context.now) p own (most + 1)
+    (come_batch_breaks g.S.Store.view (g.M.Metadata.gives c.args.context.now.metadata.now) (rules_of c.args.context.now) p own (most + 1)
     (waiting old.pending.gathered) old.pending.held (line_bytes old.pending.buffer) old.worker c.answer_gathered.new.self.at
     c.requires.«open» come c.in_err-answer_gathered.ensures.answers.breaks c.in_err-answer_gathered.ensures.answers.cause)
 

@@ -28,7 +28,7 @@ returns-then-answered-clause-takes g c = record {
   lasts = c.in_ok-answered.ensures.keeps.0;
   comes =
       λ p own come.
-      let view = g.D.Disk.view in
+      let view = g.S.Store.view in
       let source = g.M.Metadata.gives c.args.context.now.metadata.now in
       let rules = rules_of c.args.context.now in
       let it = c.args.self.now in
@@ -49,7 +49,7 @@ returns-else-answered-clause-takes g c = record {
   lasts = c.in_ok-answered.ensures.keeps.0;
   comes =
       λ p own come.
-      let view = g.D.Disk.view in
+      let view = g.S.Store.view in
       let source = g.M.Metadata.gives c.args.context.now.metadata.now in
       let rules = rules_of c.args.context.now in
       let it = c.args.self.now in
@@ -69,7 +69,7 @@ returns-in_err-answered-clause-takes g c = record {
       λ p own come.
       let it = c.args.self.now in
       comes_err _ _ _ _ own _ _ c.from_residual.result c.from_residual.ensures.0
-      (held_breaks g.D.Disk.view (g.M.Metadata.gives c.args.context.now.metadata.now) (rules_of c.args.context.now) p own 0
+      (held_breaks g.S.Store.view (g.M.Metadata.gives c.args.context.now.metadata.now) (rules_of c.args.context.now) p own 0
       (waiting it.pending.gathered) it.pending.held c.in-Some.line (line_bytes it.pending.buffer) it.worker c.answer_held.new.self.at
       c.requires.none c.in-Some.is come c.in_err-answered.ensures.answers);
 }

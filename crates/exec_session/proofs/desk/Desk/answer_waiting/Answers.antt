@@ -37,7 +37,7 @@ returns-clause-takes g c = record {
       let it = c.take_waiting.new.self in
       let more : c.in_ok-waited.waited ≡ More = search (rules, c.ne.ensures, c.if-ne.false) in
       c.answer_rest.ensures.takes p own 63 (may_serve c.args.context.now.mode 63 c.requires.mode (omega arith))
-      (subst (ComesOrEnds g.D.Disk.view (g.M.Metadata.gives c.args.context.now.metadata.now) (rules_of c.args.context.now) p own 64
+      (subst (ComesOrEnds g.S.Store.view (g.M.Metadata.gives c.args.context.now.metadata.now) (rules_of c.args.context.now) p own 64
       (midway it.worker it.pending)) more (c.in_ok-waited.ensures.takes.comes p own come));
 }
 

@@ -9,7 +9,7 @@ use Rattle.exec_session.proofs.desk.Desk.take_command.Goals as goal
 pub returns-then-not-is_full-clause-takes : goal.returns-then-not-is_full-clause-takes
 returns-then-not-is_full-clause-takes g c = λ p own most may finds.
     let old = c.args.self.now in
-    one_waits g.D.Disk.view (g.M.Metadata.gives c.args.context.now.metadata.now) (rules_of c.args.context.now) p own most
+    one_waits g.S.Store.view (g.M.Metadata.gives c.args.context.now.metadata.now) (rules_of c.args.context.now) p own most
     (waiting old.pending.gathered) (waiting c.push.new.self) old.pending.held (line_bytes old.pending.buffer) c.args.command old.worker
     c.requires.between.free c.requires.between.buffer c.push.ensures finds
 
@@ -17,7 +17,7 @@ pub returns-clause-takes : goal.returns-clause-takes
 returns-clause-takes g c = λ p own most may finds.
     let old = c.args.self.now in
     c.answer_rest.ensures.takes p own most may
-    (one_waits g.D.Disk.view (g.M.Metadata.gives c.args.context.now.metadata.now) (rules_of c.args.context.now) p own most
+    (one_waits g.S.Store.view (g.M.Metadata.gives c.args.context.now.metadata.now) (rules_of c.args.context.now) p own most
     (waiting old.pending.gathered) (waiting c.push.new.self) old.pending.held (line_bytes old.pending.buffer) c.args.command old.worker
     c.requires.between.free c.requires.between.buffer c.push.ensures finds)
 

@@ -18,7 +18,7 @@ returns-then-ne g c = record {
         between = record { buffer = c.requires.between.buffer; free = c.requires.between.free };
         comes =
             λ p own most may finds.
-            let view = g.D.Disk.view in
+            let view = g.S.Store.view in
             let source = g.M.Metadata.gives c.args.context.now.metadata.now in
             let held = rules_of c.args.context.now in
             let old = c.args.self.now in
@@ -40,7 +40,7 @@ returns g c = record {
         between = record { buffer = c.requires.between.buffer; free = c.requires.between.free };
         comes =
             λ p own most may finds.
-            let view = g.D.Disk.view in
+            let view = g.S.Store.view in
             let source = g.M.Metadata.gives c.args.context.now.metadata.now in
             let held = rules_of c.args.context.now in
             let old = c.args.self.now in
@@ -68,7 +68,7 @@ returns-in_err-answer_gathered g c = record {
             λ p own most may finds.
             let old = c.args.self.now in
             comes_err _ _ _ _ own _ _ c.from_residual.result c.from_residual.ensures.0
-            (found_batch_breaks g.D.Disk.view (g.M.Metadata.gives c.args.context.now.metadata.now) (rules_of c.args.context.now) p own most
+            (found_batch_breaks g.S.Store.view (g.M.Metadata.gives c.args.context.now.metadata.now) (rules_of c.args.context.now) p own most
             (waiting old.pending.gathered) c.args.found old.worker c.answer_gathered.new.self.at
             (open_while c.args.context.now.mode (midway old.worker old.pending) c.requires.waits) finds
             c.in_err-answer_gathered.ensures.answers.breaks c.in_err-answer_gathered.ensures.answers.cause);
@@ -85,7 +85,7 @@ returns-in_err-has_ended g c = record {
         between = record { buffer = c.requires.between.buffer; free = c.requires.between.free };
         comes =
             λ p own most may finds.
-            let view = g.D.Disk.view in
+            let view = g.S.Store.view in
             let source = g.M.Metadata.gives c.args.context.now.metadata.now in
             let held = rules_of c.args.context.now in
             let old = c.args.self.now in

@@ -14,7 +14,7 @@ use Rattle.exec_session.proofs.desk.Desk.take_read.Goals as goal
 
 pub returns-in_default-clause-takes : goal.returns-in_default-clause-takes
 returns-in_default-clause-takes g c = λ p own most may come.
-    let view = g.D.Disk.view in
+    let view = g.S.Store.view in
     let source = g.M.Metadata.gives c.args.context.now.metadata.now in
     let rules = rules_of c.args.context.now in
     let old = c.args.self.now in
@@ -31,7 +31,7 @@ returns-in_default-clause-takes g c = λ p own most may come.
 
 pub returns-in-Ok-clause-takes : goal.returns-in-Ok-clause-takes
 returns-in-Ok-clause-takes g c = λ p own most may come.
-    let view = g.D.Disk.view in
+    let view = g.S.Store.view in
     let source = g.M.Metadata.gives c.args.context.now.metadata.now in
     let rules = rules_of c.args.context.now in
     let old = c.args.self.now in
@@ -54,7 +54,7 @@ returns-in-Ok-clause-takes g c = λ p own most may come.
 
 pub returns-clause-takes : goal.returns-clause-takes
 returns-clause-takes g c = λ p own most may come.
-    let view = g.D.Disk.view in
+    let view = g.S.Store.view in
     let source = g.M.Metadata.gives c.args.context.now.metadata.now in
     let rules = rules_of c.args.context.now in
     let old = c.args.self.now in
@@ -84,7 +84,7 @@ pub returns-in_err-next-clause-takes : goal.returns-in_err-next-clause-takes
 returns-in_err-next-clause-takes g c = λ p own most may come.
     let old = c.args.self.now in
     comes_err _ _ _ _ own _ _ c.from_residual.result c.from_residual.ensures.0
-    (event_breaks g.D.Disk.view (g.M.Metadata.gives c.args.context.now.metadata.now) (rules_of c.args.context.now) p own most
+    (event_breaks g.S.Store.view (g.M.Metadata.gives c.args.context.now.metadata.now) (rules_of c.args.context.now) p own most
     (waiting old.pending.gathered) old.pending.held (line_bytes old.pending.buffer) old.worker c.read.new.self.at (Read false) refl
     c.in_err-next.ensures.noted come)
 

@@ -72,7 +72,7 @@ loop-reads-preserved g c =
             c.in_ok-taken.ensures.reads,
           );
       come = λ p own come.
-          subst (ComesOrEnds g.D.Disk.view (g.M.Metadata.gives c.args.context.now.metadata.now) (rules_of c.args.context.now) p own (n + 1)
+          subst (ComesOrEnds g.S.Store.view (g.M.Metadata.gives c.args.context.now.metadata.now) (rules_of c.args.context.now) p own (n + 1)
           (midway new.worker new.pending)) more
           (c.in_ok-taken.ensures.takes p own n
           (may_serve c.args.context.now.mode n c.loop-reads.invariant.mode (omega (arith, c.loop-reads-test.true)))
@@ -105,7 +105,7 @@ returns-then-ne-clause-takes g c = record {
       let it = c.loop-reads.self in
       let new = c.take_read.new.self in
       let n = c.loop-reads._reads in
-      ends_more g.D.Disk.view (g.M.Metadata.gives c.args.context.now.metadata.now) (rules_of c.args.context.now) p own (n + 1) 64
+      ends_more g.S.Store.view (g.M.Metadata.gives c.args.context.now.metadata.now) (rules_of c.args.context.now) p own (n + 1) 64
       (waiting new.pending.gathered) new.pending.held (line_bytes new.pending.buffer) new.worker c.in_ok-taken.taken
       (omega (arith, c.loop-reads-test.true))
       (c.in_ok-taken.ensures.takes p own n

@@ -13,9 +13,9 @@ invariant-loop-reads g l = record {
   waits : MayWait l.context.mode (midway l.self.worker l.self.pending);
   lasts : Lasts l.fn.self.worker.at l.self.worker.at;
   reads : reads_in l.fn.self.worker.at.events + l._reads ≤ reads_in l.self.worker.at.events;
-  come : (p : SessionPosition g.row.D.Denot) (own : OwnTurn)
-      → HasCome g.D.Disk.view (g.M.Metadata.gives l.context.metadata.now) (rules_of l.context) p own 0
+  come : (p : SessionPosition g.row.S.Denot) (own : OwnTurn)
+      → HasCome g.S.Store.view (g.M.Metadata.gives l.context.metadata.now) (rules_of l.context) p own 0
       (midway l.fn.self.worker l.fn.self.pending)
-      → HasCome g.D.Disk.view (g.M.Metadata.gives l.context.metadata.now) (rules_of l.context) p own l._reads
+      → HasCome g.S.Store.view (g.M.Metadata.gives l.context.metadata.now) (rules_of l.context) p own l._reads
       (midway l.self.worker l.self.pending);
 }

@@ -14,7 +14,7 @@ use Rattle.exec_session.proofs.session.Session.answer_all.Goals as goal
 pub loop-rounds-init : goal.loop-rounds-init
 loop-rounds-init g c =
     let old = c.args.self.now in
-    let (begins, come) = first_round g.D.Disk.view (g.M.Metadata.gives c.args.context.now.metadata.now) (rules_of c.args.context.now)
+    let (begins, come) = first_round g.S.Store.view (g.M.Metadata.gives c.args.context.now.metadata.now) (rules_of c.args.context.now)
     old.desk.worker old.desk.pending old.pause.since old.own c.requires.clear c.requires.none c.requires.«open» in record {
       begins = begins;
       lasts = lasts_same old.desk.worker.at old.desk.worker.at refl;
@@ -25,13 +25,13 @@ loop-rounds-init g c =
 pub returns-in-End-clause-ends : goal.returns-in-End-clause-ends
 returns-in-End-clause-ends g c =
     let new = c.round.new.self in
-    inl (subst (λ (t : Taken). GoesRound {E = Failed} g.D.Disk.view (g.M.Metadata.gives c.args.context.now.metadata.now) (rules_of c.args.context.now)
+    inl (subst (λ (t : Taken). GoesRound {E = Failed} g.S.Store.view (g.M.Metadata.gives c.args.context.now.metadata.now) (rules_of c.args.context.now)
     c.args.self.now.desk.worker new.pause.since new.own (midway new.desk.worker new.desk.pending) (Ok t)) c.in-End.is
     (c.in_ok-round.ensures.rounds.goes c.args.self.now.desk.worker c.loop-rounds.invariant.come))
 
 pub returns-in-Closed-clause-ends : goal.returns-in-Closed-clause-ends
 returns-in-Closed-clause-ends g c =
-    let view = g.D.Disk.view in
+    let view = g.S.Store.view in
     let source = g.M.Metadata.gives c.args.context.now.metadata.now in
     let rules = rules_of c.args.context.now in
     let p = c.args.self.now.desk.worker in
@@ -52,14 +52,14 @@ returns-in-Closed-clause-lasts g c =
 pub leave-requires : goal.leave-requires
 leave-requires g c =
     let new = c.round.new.self in
-    let leaves = subst (λ (t : Taken). GoesRound {E = Failed} g.D.Disk.view (g.M.Metadata.gives c.args.context.now.metadata.now)
+    let leaves = subst (λ (t : Taken). GoesRound {E = Failed} g.S.Store.view (g.M.Metadata.gives c.args.context.now.metadata.now)
     (rules_of c.args.context.now) c.args.self.now.desk.worker new.pause.since new.own (midway new.desk.worker new.desk.pending) (Ok t)) c.in-Leaves.is
     (c.in_ok-round.ensures.rounds.goes c.args.self.now.desk.worker c.loop-rounds.invariant.come) in
     record { «open» = leaves.is_open }
 
 pub returns-in-Leaves-clause-ends : goal.returns-in-Leaves-clause-ends
 returns-in-Leaves-clause-ends g c =
-    let view = g.D.Disk.view in
+    let view = g.S.Store.view in
     let source = g.M.Metadata.gives c.args.context.now.metadata.now in
     let rules = rules_of c.args.context.now in
     let p = c.args.self.now.desk.worker in
@@ -93,7 +93,7 @@ loop-rounds-preserved g c =
           c.loop-rounds.invariant.lasts c.in_ok-round.ensures.rounds.lasts;
       many = omega (arith, longer, c.loop-rounds.invariant.many);
       come =
-          subst (λ (t : Taken). GoesRound {E = Failed} g.D.Disk.view (g.M.Metadata.gives c.args.context.now.metadata.now) (rules_of c.args.context.now)
+          subst (λ (t : Taken). GoesRound {E = Failed} g.S.Store.view (g.M.Metadata.gives c.args.context.now.metadata.now) (rules_of c.args.context.now)
           c.args.self.now.desk.worker new.pause.since new.own (midway new.desk.worker new.desk.pending) (Ok t)) c.in-More.is
           (c.in_ok-round.ensures.rounds.goes c.args.self.now.desk.worker c.loop-rounds.invariant.come);
     }
@@ -112,6 +112,6 @@ pub returns-clause-ends : goal.returns-clause-ends
 returns-clause-ends g c =
     let it = c.loop-rounds.self in
     let come = c.loop-rounds.invariant.come in
-    bound_breaks g.D.Disk.view (g.M.Metadata.gives c.args.context.now.metadata.now) (rules_of c.args.context.now)
+    bound_breaks g.S.Store.view (g.M.Metadata.gives c.args.context.now.metadata.now) (rules_of c.args.context.now)
     c.args.self.now.desk.worker come.own come.most (waiting it.desk.pending.gathered) it.desk.pending.held
     (line_bytes it.desk.pending.buffer) it.desk.worker (omega (arith, c.loop-rounds.auto, c.loop-rounds.invariant.many)) come.come

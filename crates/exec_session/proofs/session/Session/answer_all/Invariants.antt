@@ -9,6 +9,6 @@ invariant-loop-rounds g l = record {
   begins : MayBegin l.context.mode (midway l.self.desk.worker l.self.desk.pending);
   lasts : Lasts l.fn.self.desk.worker.at l.self.desk.worker.at;
   many : l._rounds ≤ length l.self.desk.worker.at.events;
-  come : HasComeRound g.D.Disk.view (g.M.Metadata.gives l.context.metadata.now) (rules_of l.context) l.fn.self.desk.worker l.self.pause.since l.self.own
+  come : HasComeRound g.S.Store.view (g.M.Metadata.gives l.context.metadata.now) (rules_of l.context) l.fn.self.desk.worker l.self.pause.since l.self.own
       (midway l.self.desk.worker l.self.desk.pending);
 }

@@ -16,7 +16,7 @@ returns-clause-runs g c = record {
   begun = c.send_ready.new.self.at;
   ready = c.in_ok-send_ready.ensures.reported.done;
   lines =
-      subst (λ (w : SessionPosition _). Finishes g.D.Disk.view (g.M.Metadata.gives c.args.context.now.metadata.now) (rules_of c.args.context.now)
+      subst (λ (w : SessionPosition _). Finishes g.S.Store.view (g.M.Metadata.gives c.args.context.now.metadata.now) (rules_of c.args.context.now)
       w c.answer_all.new.self.desk.worker)
       (position_is c.send_ready.new.self c.send_ready.new.self.at c.args.self.now.desk.worker.left refl
       (c.in_ok-send_ready.ensures.reported.keeps.1 ∙ c.in_ok-send_report.ensures.reported.keeps.1)) c.in_ok-answer_all.ensures.ends;
@@ -36,7 +36,7 @@ returns-in_err-answer_all-clause-breaks g c =
     on_err c.from_residual-in_err-answer_all.result _
     (after_ready c.send_report.new.self.at c.send_ready.new.self.at c.in_ok-send_report.ensures.reported.done
     c.in_ok-send_ready.ensures.reported.done
-    (subst (λ (w : SessionPosition _). BreaksOff g.D.Disk.view (g.M.Metadata.gives c.args.context.now.metadata.now) (rules_of c.args.context.now)
+    (subst (λ (w : SessionPosition _). BreaksOff g.S.Store.view (g.M.Metadata.gives c.args.context.now.metadata.now) (rules_of c.args.context.now)
     w c.answer_all.new.self.desk.worker.at)
     (position_is c.send_ready.new.self c.send_ready.new.self.at c.args.self.now.desk.worker.left refl
     (c.in_ok-send_ready.ensures.reported.keeps.1 ∙ c.in_ok-send_report.ensures.reported.keeps.1)) c.in_err-answer_all.ensures.ends))

@@ -33,7 +33,7 @@ returns-in-Run g c = record {
             let old = c.args.self.now in
             let new = c.take_read.new.self in
             let same = ap (λ (h : Option Held). held_lines h) (c.take_read.ensures.waits.free c.in-Run.is ∙ sym (c.requires.begins.stays.waits.free c.in-Run.is)) in
-            round_read g.D.Disk.view (g.M.Metadata.gives c.args.context.now.metadata.now) (rules_of c.args.context.now) p come.own c.in-Run.is
+            round_read g.S.Store.view (g.M.Metadata.gives c.args.context.now.metadata.now) (rules_of c.args.context.now) p come.own c.in-Run.is
             old.pause.since old.own (come.most + 1) (midway new.worker new.pending) c.take_read.result
             (since_later come.own old.pause.since old.own (held_lines old.desk.pending.held) (held_lines new.pending.held) old.desk.worker.at new.worker.at same
             c.take_read.ensures.lasts come.since)

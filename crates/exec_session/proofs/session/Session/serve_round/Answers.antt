@@ -33,7 +33,7 @@ returns-then-ne g c = record {
       (λ p come.
       let old = c.args.self.now in
       let new = c.answer_round.new.self in
-      round_ends g.D.Disk.view (g.M.Metadata.gives c.args.context.now.metadata.now) (rules_of c.args.context.now) p come.own Failed old.pause.since old.own 64
+      round_ends g.S.Store.view (g.M.Metadata.gives c.args.context.now.metadata.now) (rules_of c.args.context.now) p come.own Failed old.pause.since old.own 64
       (midway new.worker new.pending) c.in_ok-taken.taken (search (rules, c.ne.ensures, c.if-ne.true))
       (c.in_ok-taken.ensures.takes.comes p come.own
       (round_begins _ _ _ p old.pause.since old.own (midway old.desk.worker old.desk.pending) c.requires.mode come)));
@@ -56,7 +56,7 @@ returns-then-is_leaving g c = record {
       (λ p come.
       let old = c.args.self.now in
       let new = c.answer_round.new.self in
-      let view = g.D.Disk.view in
+      let view = g.S.Store.view in
       let source = g.M.Metadata.gives c.args.context.now.metadata.now in
       let held = rules_of c.args.context.now in
       let more : c.in_ok-taken.taken ≡ More = search (rules, c.ne.ensures, c.if-ne.false) in
@@ -76,7 +76,7 @@ returns-in_err-end g c = record {
       let old = c.args.self.now in
       let it = c.answer_round.new.self in
       let new = c.make_own_turn.new.self in
-      let view = g.D.Disk.view in
+      let view = g.S.Store.view in
       let source = g.M.Metadata.gives c.args.context.now.metadata.now in
       let held = rules_of c.args.context.now in
       let more : c.in_ok-taken.taken ≡ More = search (rules, c.ne.ensures, c.if-ne.false) in
@@ -102,7 +102,7 @@ returns-then-not-is_open g c = record {
       let old = c.args.self.now in
       let it = c.answer_round.new.self in
       let new = c.make_own_turn.new.self in
-      let view = g.D.Disk.view in
+      let view = g.S.Store.view in
       let source = g.M.Metadata.gives c.args.context.now.metadata.now in
       let held = rules_of c.args.context.now in
       let more : c.in_ok-taken.taken ≡ More = search (rules, c.ne.ensures, c.if-ne.false) in
@@ -169,7 +169,7 @@ returns-then-wait g c = record {
             let it = c.answer_round.new.self in
             let turned = c.make_own_turn.new.self in
             let end = c.in_ok-end.end in
-            let view = g.D.Disk.view in
+            let view = g.S.Store.view in
             let source = g.M.Metadata.gives c.args.context.now.metadata.now in
             let held = rules_of c.args.context.now in
             let more : c.in_ok-taken.taken ≡ More = search (rules, c.ne.ensures, c.if-ne.false) in
@@ -228,7 +228,7 @@ returns-else-wait g c = record {
             let it = c.answer_round.new.self in
             let turned = c.make_own_turn.new.self in
             let end = c.in_ok-end.end in
-            let view = g.D.Disk.view in
+            let view = g.S.Store.view in
             let source = g.M.Metadata.gives c.args.context.now.metadata.now in
             let held = rules_of c.args.context.now in
             let more : c.in_ok-taken.taken ≡ More = search (rules, c.ne.ensures, c.if-ne.false) in

@@ -11,7 +11,7 @@ send_reply-requires g c =
 pub returns : goal.returns
 returns g c = record {
   answers =
-      let view = g.D.Disk.view in
+      let view = g.S.Store.view in
       let source = g.M.Metadata.gives c.args.context.now.metadata.now in
       let p = c.args.self.now in
       let q = c.send_reply.new.self in

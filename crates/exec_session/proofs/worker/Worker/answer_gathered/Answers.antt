@@ -21,7 +21,7 @@ make_room-requires g c = record {
 
 pub send-requires : goal.send-requires
 send-requires g c =
-    let view = g.D.Disk.view in
+    let view = g.S.Store.view in
     let x = c.self.inside.executor in
     let r = c.make_room.new.executor in
     let y = c.serve_gathered.new.executor in
@@ -35,7 +35,7 @@ send-requires g c =
 
 pub invariant_of-self : goal.invariant_of-self
 invariant_of-self g c =
-    let view = g.D.Disk.view in
+    let view = g.S.Store.view in
     let x = c.self.inside.executor in
     let r = c.make_room.new.executor in
     let y = c.serve_gathered.new.executor in
@@ -52,7 +52,7 @@ returns-clause-answers g c = record {
       (send_keeps c.args.context.now.form [] c.serve_gathered.new.executor c.self.inside.edge c.send.new.self (is_ok c.send.result) m
       c.self.inside.executor c.self.view_is c.send.ensures.reported.0 c.send.ensures.left c.send.ensures.noted);
   done =
-      let view = g.D.Disk.view in
+      let view = g.S.Store.view in
       let form = c.args.context.now.form in
       let x = c.self.inside.executor in
       let e = c.self.inside.edge in
@@ -73,7 +73,7 @@ returns-clause-answers g c = record {
       (subst (λ (rs : List Reply). SendsAll form (session_view y e.client_view e.events) (session_view y new.client_view new.events) (map answered rs)) c.replies.ensures sends_all))
       (sends form _ y e new c.send.result c.send.ensures.receives c.send.ensures.noted));
   breaks =
-      let view = g.D.Disk.view in
+      let view = g.S.Store.view in
       let form = c.args.context.now.form in
       let x = c.self.inside.executor in
       let e = c.self.inside.edge in
@@ -99,7 +99,7 @@ returns-clause-answers g c = record {
 pub returns-then-is_empty-clause-answers : goal.returns-then-is_empty-clause-answers
 returns-then-is_empty-clause-answers g c = record {
   keeps = here_keeps c.args.self.now;
-  done = none_answered g.D.Disk.view _ (waiting c.args.gathered.now) c.args.self.now.at (sym c.is_empty.ensures ∙ c.if-is_empty.true);
+  done = none_answered g.S.Store.view _ (waiting c.args.gathered.now) c.args.self.now.at (sym c.is_empty.ensures ∙ c.if-is_empty.true);
   breaks = tt;
   cause = tt;
 }

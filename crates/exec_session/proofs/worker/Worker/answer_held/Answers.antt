@@ -10,7 +10,7 @@ use Rattle.exec_session.proofs.worker.Worker.answer_held.Goals as goal
 pub returns-clause-answers : goal.returns-clause-answers
 returns-clause-answers g c =
     let context = c.args.context.now in
-    let view = g.D.Disk.view in
+    let view = g.S.Store.view in
     let source = g.M.Metadata.gives context.metadata.now in
     let rules = rules_of context in
     let p = c.args.self.now.at in
@@ -22,7 +22,7 @@ returns-clause-answers g c =
 pub returns-in_err-send_reply-clause-answers : goal.returns-in_err-send_reply-clause-answers
 returns-in_err-send_reply-clause-answers g c =
     let context = c.args.context.now in
-    let view = g.D.Disk.view in
+    let view = g.S.Store.view in
     let source = g.M.Metadata.gives context.metadata.now in
     let rules = rules_of context in
     let p = c.args.self.now.at in

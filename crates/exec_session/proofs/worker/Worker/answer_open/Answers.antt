@@ -15,7 +15,7 @@ returns-in-Ok-Request g c = record {
   answers =
       let p = c.args.self.now in
       let q = c.answer_request.new.self in
-      subst (λ l. AnswersLine g.D.Disk.view (g.M.Metadata.gives c.args.context.now.metadata.now) (rules_of c.args.context.now) l p q
+      subst (λ l. AnswersLine g.S.Store.view (g.M.Metadata.gives c.args.context.now.metadata.now) (rules_of c.args.context.now) l p q
       c.answer_request.result) (sym (c.in-Ok-Request.is ∙ ap Ok c.in-Ok-Request.field-0-is))
       (step_after p p q c.answer_request.result (here_keeps p) c.answer_request.ensures.answers (λ answers. answers) (λ broke. inl broke));
 }
@@ -23,7 +23,7 @@ returns-in-Ok-Request g c = record {
 pub returns-in-Ok-Drain : goal.returns-in-Ok-Drain
 returns-in-Ok-Drain g c = record {
   answers =
-      let view = g.D.Disk.view in
+      let view = g.S.Store.view in
       let source = g.M.Metadata.gives c.args.context.now.metadata.now in
       let rules = rules_of c.args.context.now in
       let p = c.args.self.now in
@@ -36,7 +36,7 @@ returns-in-Ok-Drain g c = record {
 pub returns-in-Ok-Watch : goal.returns-in-Ok-Watch
 returns-in-Ok-Watch g c = record {
   answers =
-      let view = g.D.Disk.view in
+      let view = g.S.Store.view in
       let source = g.M.Metadata.gives c.args.context.now.metadata.now in
       let rules = rules_of c.args.context.now in
       let p = c.args.self.now in
@@ -49,7 +49,7 @@ returns-in-Ok-Watch g c = record {
 pub returns-in-Ok-Tidy : goal.returns-in-Ok-Tidy
 returns-in-Ok-Tidy g c = record {
   answers =
-      let view = g.D.Disk.view in
+      let view = g.S.Store.view in
       let source = g.M.Metadata.gives c.args.context.now.metadata.now in
       let rules = rules_of c.args.context.now in
       subst (λ l. AnswersLine view source rules l c.args.self.now c.answer_tidy.new.self c.answer_tidy.result)
@@ -59,7 +59,7 @@ returns-in-Ok-Tidy g c = record {
 pub returns-in-Ok-Leave : goal.returns-in-Ok-Leave
 returns-in-Ok-Leave g c = record {
   answers =
-      let view = g.D.Disk.view in
+      let view = g.S.Store.view in
       let source = g.M.Metadata.gives c.args.context.now.metadata.now in
       let rules = rules_of c.args.context.now in
       let p = c.args.self.now in
@@ -75,7 +75,7 @@ returns-in-Ok-Leave g c = record {
 pub returns-in-Ok-Version : goal.returns-in-Ok-Version
 returns-in-Ok-Version g c = record {
   answers =
-      let view = g.D.Disk.view in
+      let view = g.S.Store.view in
       let source = g.M.Metadata.gives c.args.context.now.metadata.now in
       let rules = rules_of c.args.context.now in
       let p = c.args.self.now in
@@ -91,7 +91,7 @@ returns-in-Ok-Version g c = record {
 pub returns-in-Ok-Status : goal.returns-in-Ok-Status
 returns-in-Ok-Status g c = record {
   answers =
-      let view = g.D.Disk.view in
+      let view = g.S.Store.view in
       let source = g.M.Metadata.gives c.args.context.now.metadata.now in
       let rules = rules_of c.args.context.now in
       subst (λ l. AnswersLine view source rules l c.args.self.now c.answer_status.new.self c.answer_status.result)
@@ -101,7 +101,7 @@ returns-in-Ok-Status g c = record {
 pub returns-in-Ok-Meta : goal.returns-in-Ok-Meta
 returns-in-Ok-Meta g c = record {
   answers =
-      let view = g.D.Disk.view in
+      let view = g.S.Store.view in
       let source = g.M.Metadata.gives c.args.context.now.metadata.now in
       let rules = rules_of c.args.context.now in
       subst (λ l. AnswersLine view source rules l c.args.self.now c.answer_meta.new.self c.answer_meta.result)
@@ -111,7 +111,7 @@ returns-in-Ok-Meta g c = record {
 pub returns-in-Ok-Direct : goal.returns-in-Ok-Direct
 returns-in-Ok-Direct g c = record {
   answers =
-      let view = g.D.Disk.view in
+      let view = g.S.Store.view in
       let source = g.M.Metadata.gives c.args.context.now.metadata.now in
       let rules = rules_of c.args.context.now in
       let p = c.args.self.now in
@@ -127,7 +127,7 @@ returns-in-Ok-Direct g c = record {
 pub returns-in-Err : goal.returns-in-Err
 returns-in-Err g c = record {
   answers =
-      let view = g.D.Disk.view in
+      let view = g.S.Store.view in
       let source = g.M.Metadata.gives c.args.context.now.metadata.now in
       let rules = rules_of c.args.context.now in
       let p = c.args.self.now in

@@ -16,7 +16,7 @@ make_room-requires g c = record {
 
 pub send-requires : goal.send-requires
 send-requires g c =
-    let view = g.D.Disk.view in
+    let view = g.S.Store.view in
     let x = c.self.inside.executor in
     let r = c.make_room.new.executor in
     let y = c.request_reply.new.executor in
@@ -25,7 +25,7 @@ send-requires g c =
 
 pub invariant_of-self : goal.invariant_of-self
 invariant_of-self g c =
-    let view = g.D.Disk.view in
+    let view = g.S.Store.view in
     let x = c.self.inside.executor in
     let r = c.make_room.new.executor in
     let y = c.request_reply.new.executor in
@@ -42,7 +42,7 @@ returns g c = record {
             (send_keeps c.args.context.now.form [] c.request_reply.new.executor c.self.inside.edge c.send.new.self (is_ok c.send.result) m
             c.self.inside.executor c.self.view_is c.send.ensures.reported.0 c.send.ensures.left c.send.ensures.noted);
         done =
-            let view = g.D.Disk.view in
+            let view = g.S.Store.view in
             let form = c.args.context.now.form in
             let y = c.request_reply.new.executor in
             let e = c.self.inside.edge in
@@ -53,7 +53,7 @@ returns g c = record {
             c.requires.«open» c.make_room.ensures.makes c.request_reply.ensures.serves c.request_reply.ensures.fails c.request_reply.ensures.closes sends_all)
             (sends form _ y e new c.send.result c.send.ensures.receives c.send.ensures.noted);
         breaks =
-            let view = g.D.Disk.view in
+            let view = g.S.Store.view in
             let form = c.args.context.now.form in
             let y = c.request_reply.new.executor in
             let e = c.self.inside.edge in

@@ -8,7 +8,7 @@ use Rattle.exec_session.proofs.worker.Worker.answer_tidy.Goals as goal
 pub returns : goal.returns
 returns g c = record {
   answers =
-      let view = g.D.Disk.view in
+      let view = g.S.Store.view in
       let source = g.M.Metadata.gives c.args.context.now.metadata.now in
       let rules = rules_of c.args.context.now in
       let p = c.args.self.now in

@@ -22,7 +22,7 @@ returns g c = record {
       record {
         keeps = both_keep p m c.drain.new.self (was_noted p m _ c.now-start.ensures.noted) c.in_ok-end.ensures.drains.keeps;
         done =
-            drains_for g.D.Disk.view _ c.args.ends_idle c.args.limit c.from.result c.now-start.result p m c.drain.new.self c.in_ok-end.end
+            drains_for g.S.Store.view _ c.args.ends_idle c.args.limit c.from.result c.now-start.result p m c.drain.new.self c.in_ok-end.end
             c.from.ensures c.now-start.ensures.noted c.in_ok-end.ensures.drains.done;
         breaks = tt;
         cause = tt;
@@ -37,6 +37,6 @@ returns-in_err-end g c = record {
       let drains = c.in_err-end.ensures.drains in
       step_to_fails p c.drain.new.self c.from_residual.result c.from_residual.ensures.0
       (both_keep p m c.drain.new.self (was_noted p m _ c.now-start.ensures.noted) drains.keeps)
-      (drain_breaks_for g.D.Disk.view _ c.args.ends_idle c.args.limit c.from.result c.now-start.result p m c.drain.new.self c.from.ensures
+      (drain_breaks_for g.S.Store.view _ c.args.ends_idle c.args.limit c.from.result c.now-start.result p m c.drain.new.self c.from.ensures
       c.now-start.ensures.noted drains.breaks) drains.cause;
 }

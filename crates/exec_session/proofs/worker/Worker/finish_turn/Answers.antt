@@ -13,7 +13,7 @@ use Rattle.exec_session.proofs.worker.Worker.finish_turn.Goals as goal
 
 pub send-requires : goal.send-requires
 send-requires g c =
-    let view = g.D.Disk.view in
+    let view = g.S.Store.view in
     let old = c.self.inside.executor in
     let last = c.finish.new.self in
     let now = c.now-now.result in
@@ -28,7 +28,7 @@ send-requires g c =
 
 pub invariant_of-self : goal.invariant_of-self
 invariant_of-self g c =
-    let view = g.D.Disk.view in
+    let view = g.S.Store.view in
     let old = c.self.inside.executor in
     let last = c.finish.new.self in
     let now = c.now-now.result in
@@ -50,7 +50,7 @@ returns g c = record {
             (send_keeps c.args.context.now.form [] c.finish.new.self c.self.inside.edge c.send.new.self (is_ok c.send.result) m
             c.self.inside.executor c.self.view_is c.send.ensures.reported.0 c.send.ensures.left c.send.ensures.noted);
         done =
-            let view = g.D.Disk.view in
+            let view = g.S.Store.view in
             let form = c.args.context.now.form in
             let old = c.self.inside.executor in
             let e = c.self.inside.edge in
@@ -67,7 +67,7 @@ returns g c = record {
             c.of_executor-turn.ensures.items sends_all))
             (sends form _ last e new c.send.result c.send.ensures.receives c.send.ensures.noted);
         breaks =
-            let view = g.D.Disk.view in
+            let view = g.S.Store.view in
             let form = c.args.context.now.form in
             let old = c.self.inside.executor in
             let e = c.self.inside.edge in

@@ -45,11 +45,11 @@ returns-clause-made g c = record {
       (was_noted c.args.self.now c.now-now.new.self (Shown c.now-now.result) c.now-now.ensures.noted)
       (both_keep c.now-now.new.self c.make_turn.new.self c.send_news.new.self c.in_ok-end.ensures.made.keeps c.in_ok-send_news.ensures.reported.keeps);
   done =
-      subst (λ (n : ℕ). MakesOwnTurn g.D.Disk.view (rules_of c.args.context.now) c.args.before n c.args.self.now.at
+      subst (λ (n : ℕ). MakesOwnTurn g.S.Store.view (rules_of c.args.context.now) c.args.before n c.args.self.now.at
       c.send_news.new.self.at c.in_ok-end.end) (sym c.before_turn.ensures.moment) (record {
         noticed = c.make_turn.new.self.at;
         made =
-            subst (λ (w : SessionPosition _). MakesTurn g.D.Disk.view (rules_of c.args.context.now) c.now-now.result w.at c.make_turn.new.self.at
+            subst (λ (w : SessionPosition _). MakesTurn g.S.Store.view (rules_of c.args.context.now) c.now-now.result w.at c.make_turn.new.self.at
             c.in_ok-end.end) c.now-now.ensures.noted c.in_ok-end.ensures.made.done;
         reported = c.in_ok-send_news.ensures.reported.done;
       });
@@ -64,7 +64,7 @@ returns-in_err-end-clause-made g c =
     (both_keep c.args.self.now c.now-now.new.self c.make_turn.new.self
     (was_noted c.args.self.now c.now-now.new.self (Shown c.now-now.result) c.now-now.ensures.noted) c.in_err-end.ensures.made.keeps)
     (in_notices c.now-now.result end
-    (subst (λ (w : SessionPosition _). TurnReceived (SendsPart c.args.context.now.form) g.D.Disk.view (rules_of c.args.context.now) c.now-now.result
+    (subst (λ (w : SessionPosition _). TurnReceived (SendsPart c.args.context.now.form) g.S.Store.view (rules_of c.args.context.now) c.now-now.result
     w.at c.make_turn.new.self.at end) c.now-now.ensures.noted client_view)) c.in_err-end.ensures.made.cause
 
 pub returns-in_err-send_news-clause-made : goal.returns-in_err-send_news-clause-made
@@ -74,6 +74,6 @@ returns-in_err-send_news-clause-made g c =
     (was_noted c.args.self.now c.now-now.new.self (Shown c.now-now.result) c.now-now.ensures.noted)
     (both_keep c.now-now.new.self c.make_turn.new.self c.send_news.new.self c.in_ok-end.ensures.made.keeps c.in_err-send_news.ensures.reported.keeps))
     (in_end c.now-now.result c.in_ok-end.end c.make_turn.new.self.at
-    (subst (λ (w : SessionPosition _). MakesTurn g.D.Disk.view (rules_of c.args.context.now) c.now-now.result w.at c.make_turn.new.self.at
+    (subst (λ (w : SessionPosition _). MakesTurn g.S.Store.view (rules_of c.args.context.now) c.now-now.result w.at c.make_turn.new.self.at
     c.in_ok-end.end) c.now-now.ensures.noted c.in_ok-end.ensures.made.done)
     c.in_err-send_news.ensures.reported.breaks) c.in_err-send_news.ensures.reported.cause

@@ -22,7 +22,7 @@ make_room-requires g c = record {
 
 pub invariant_of-self : goal.invariant_of-self
 invariant_of-self g c =
-    let view = g.D.Disk.view in
+    let view = g.S.Store.view in
     let x = c.self.inside.executor in
     let middle = c.make_room.new.executor in
     all_still_hold view c.self.inside.edge.client_view x middle c.self.invariant
@@ -30,7 +30,7 @@ invariant_of-self g c =
 
 pub send-requires : goal.send-requires
 send-requires g c =
-    let view = g.D.Disk.view in
+    let view = g.S.Store.view in
     let is_open = sym c.if-not-make_room.ensures.value in
     let old = c.self.inside.executor in
     let middle = c.make_room.new.executor in
@@ -45,7 +45,7 @@ send-requires g c =
 
 pub invariant_of-self-2 : goal.invariant_of-self-2
 invariant_of-self-2 g c =
-    let view = g.D.Disk.view in
+    let view = g.S.Store.view in
     let is_open = sym c.if-not-make_room.ensures.value in
     let old = c.self.inside.executor in
     let middle = c.make_room.new.executor in
@@ -59,7 +59,7 @@ invariant_of-self-2 g c =
 
 pub invariant_of-self-in_err-send : goal.invariant_of-self-in_err-send
 invariant_of-self-in_err-send g c =
-    let view = g.D.Disk.view in
+    let view = g.S.Store.view in
     let is_open = sym c.if-not-make_room.ensures.value in
     let old = c.self.inside.executor in
     let middle = c.make_room.new.executor in
@@ -77,7 +77,7 @@ returns-then-not-make_room g c = record {
       record {
         keeps = moved_keeps c.self.inside.executor c.make_room.new.executor c.self.inside.edge c.args.self.now c.self.view_is;
         done =
-            turn_failed (SendsAll c.args.context.now.form) g.D.Disk.view _ c.args.now c.self.inside.executor c.clear_book.new.self
+            turn_failed (SendsAll c.args.context.now.form) g.S.Store.view _ c.args.now c.self.inside.executor c.clear_book.new.self
             c.make_room.new.executor c.self.inside.edge c.args.self.now c.self.view_is c.requires.shown c.clear_book.ensures.cleared
             c.make_room.ensures.makes (sym c.if-not-make_room.ensures.value);
         breaks = tt;
@@ -93,7 +93,7 @@ returns g c = record {
             send_keeps c.args.context.now.form [] c.turn-end.new.self c.self.inside.edge c.send.new.self (is_ok c.send.result) c.args.self.now
             c.self.inside.executor c.self.view_is c.send.ensures.reported.0 c.send.ensures.left c.send.ensures.noted;
         done =
-            let view = g.D.Disk.view in
+            let view = g.S.Store.view in
             let is_open = sym c.if-not-make_room.ensures.value in
             let e = c.self.inside.edge in
             let middle = c.make_room.new.executor in
@@ -115,7 +115,7 @@ returns g c = record {
 pub returns-in_err-send : goal.returns-in_err-send
 returns-in_err-send g c = record {
   made =
-      let view = g.D.Disk.view in
+      let view = g.S.Store.view in
       let is_open = sym c.if-not-make_room.ensures.value in
       let e = c.self.inside.edge in
       let middle = c.make_room.new.executor in

@@ -11,7 +11,7 @@ use Rattle.exec_session.proofs.worker.Worker.send.Goals as goal
 
 pub send-requires : goal.send-requires
 send-requires g c =
-    let view = g.D.Disk.view in
+    let view = g.S.Store.view in
     let x = c.self.inside.executor in
     let e = c.self.inside.edge in
     let p = c.args.self.now in
@@ -24,7 +24,7 @@ send-requires g c =
 
 pub invariant_of-self : goal.invariant_of-self
 invariant_of-self g c =
-    let view = g.D.Disk.view in
+    let view = g.S.Store.view in
     let x = c.self.inside.executor in
     let e = c.self.inside.edge in
     let items = sent_in c.args.what.now in

@@ -7,6 +7,6 @@ use Rattle.exec_session.proofs.worker.Worker.send_reply.Goals as goal
 pub send-requires : goal.send-requires
 send-requires g c =
     let x = c.args.self.now.at.executor in record {
-      holds = none_holds g.D.Disk.view x x _ refl (states_nothing (Answered c.args.reply.now) c.requires.plain);
+      holds = none_holds g.S.Store.view x x _ refl (states_nothing (Answered c.args.reply.now) c.requires.plain);
       says = c.requires.says;
     }

@@ -12,12 +12,12 @@ send-requires g c =
     let x = c.args.self.now.at.executor in
     let same : x.opening_report.interrupted ≡ c.args.report.now.interrupted.items = ap (λ (r : ReportView). r.interrupted) c.requires.opening_report in
     record {
-      holds = reported_hold g.D.Disk.view x c.as_slice.result.now;
+      holds = reported_hold g.S.Store.view x c.as_slice.result.now;
       says = inl (c.as_slice.ensures.value ∙ sym same);
     }
 
 pub send-requires-2-clause-holds : goal.send-requires-2-clause-holds
-send-requires-2-clause-holds g c = reported_hold g.D.Disk.view c.send.new.self.at.executor c.as_slice-2.result.now
+send-requires-2-clause-holds g c = reported_hold g.S.Store.view c.send.new.self.at.executor c.as_slice-2.result.now
 
 pub returns : goal.returns
 returns g c = record {
