@@ -9,14 +9,16 @@ use Rattle.ocf_types.specs.declared.outcome.Outcome.TheVariants.{Run}
 use Rattle.ocf_types.specs.declared.outcome.RunEnd.TheVariants.{Done, TimedOut}
 use Rattle.resource_condition.specs.Conditions.{held_in}
 use Rattle.exec_metrics.specs.Labels.{label}
-use Rattle.exec_metrics.specs.Metrics.{single}
-use Rattle.exec_metrics.specs.Samples.{recorded_states, samples}
+use Rattle.exec_metrics.specs.Families.{header}
+use Rattle.exec_metrics.specs.Metrics.{samples}
+use Rattle.exec_metrics.specs.Samples.{bare}
+use Rattle.run_counts.specs.Counts.{no_runs}
 use Rattle.exec_metrics.specs.declared.family.Family.{Family}
 use Rattle.exec_metrics.specs.declared.family.Family.TheVariants as family
 
 -- a counter of one sample
-runs : single family.Runs 17
-    ≡ codes "# HELP ocfexec_runs_total Actions that were begun since the journal was made.\n# TYPE ocfexec_runs_total counter\nocfexec_runs_total 17\n"
+runs : header family.Runs (codes "Begun.") ++ bare family.Runs 17
+    ≡ codes "# HELP ocfexec_runs_total Begun.\n# TYPE ocfexec_runs_total counter\nocfexec_runs_total 17\n"
 unfolding digits
 runs = refl
 
@@ -45,9 +47,10 @@ web = (
 
 -- its samples in a family, 3.2 s after that
 abbrev of_web : Family → List ℕ
-of_web f = samples 12700 f web
+of_web f =
+    samples (record { now = 12700; size = record { epoch = 1; bytes = 0 }; counts = λ id. no_runs; recorded = λ id. held_in web.1.history }) f web
 
-states : recorded_states (λ id. held_in web.1.history) web
+states : of_web family.State
     ≡ codes "ocfexec_resource_state{resource=\"web\",state=\"never run\"} 0\nocfexec_resource_state{resource=\"web\",state=\"started\"} 0\n"
     ++ codes "ocfexec_resource_state{resource=\"web\",state=\"promoted\"} 0\nocfexec_resource_state{resource=\"web\",state=\"stopped\"} 0\n"
     ++ codes "ocfexec_resource_state{resource=\"web\",state=\"failed\"} 0\nocfexec_resource_state{resource=\"web\",state=\"unknown\"} 1\n"
@@ -66,5 +69,5 @@ idle : of_web family.Running ≡ codes "ocfexec_resource_running_actions{resourc
 unfolding digits
 idle = refl
 
-none : (of_web family.MonitorCode ≡ []) × (samples 0 family.FailureCode (codes "a", record web.1 { history = no_history }) ≡ [])
+none : (of_web family.MonitorCode ≡ []) × (of_web family.Epoch ≡ [])
 none = (refl, refl)

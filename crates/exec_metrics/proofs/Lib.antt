@@ -1,3 +1,4 @@
+pub mod FamilyLemmas
 pub mod MetricsLemmas
 pub mod TextLemmas
 pub mod Examples

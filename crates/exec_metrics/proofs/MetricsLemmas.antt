@@ -1,5 +1,5 @@
 -- The metrics of a state that is found on parts of this measure.
-use Rattle.std.proofs.Common.{◌≡◌, ℕ, List, Option, Result, Ok, Err, subst}
+use Rattle.std.proofs.Common.{◌≡◌, ℕ, List, [], Option, Result, Ok, Err, subst}
 use Rattle.ocf_types.specs.State.{State}
 use Rattle.disk_model.specs.Image.{Image}
 use Rattle.disk_model.specs.Disk.{DiskView}
@@ -12,16 +12,20 @@ use Rattle.journal_measure.specs.RanOn.{HasCounts}
 use Rattle.journal_measure.specs.RecordedOn.{HasRecorded}
 use Rattle.journal_measure.specs.Sizes.{IsSize}
 use Rattle.journal_measure.specs.declared.measuring.Size.{Size}
-use Rattle.resource_condition.specs.Facts.{held_of, recorded_at}
+use Rattle.resource_condition.specs.Facts.{recorded_at}
 use Rattle.resource_condition.specs.declared.condition.Recorded.{Recorded}
-use Rattle.run_counts.specs.Counts.{count_at, tally}
+use Rattle.run_counts.specs.Counts.{count_at}
 use Rattle.run_counts.specs.declared.count.RunCount.{RunCount}
-use Rattle.exec_metrics.specs.Metrics.{IsWritten, WritesAs, WritesFound, metrics_text}
+use Rattle.exec_metrics.specs.Metrics.{journal_families, measured, GoesOn, IsWritten, Measure, WritesAs, WritesFound}
+
+-- the measure by the maps of a measured journal
+abbrev pub counted : ℕ → Size → List (List ℕ × RunCount) → List (List ℕ × Recorded) → Measure
+counted now size counts recorded = record { now = now; size = size; counts = count_at counts; recorded = recorded_at recorded }
 
 module _ {T : Type 0} (reads : Image) (now : ℕ) (old new : Option (List ℕ)) (size : Size) (counts : List (List ℕ × RunCount))
     (recorded : List (List ℕ × Recorded)) (s : State) where
   abbrev Writes : Result T Fault → Type 0
-  Writes ended = IsWritten (metrics_text now size (count_at counts) (recorded_at recorded) s) old new ended
+  Writes ended = IsWritten (GoesOn (journal_families (counted now size counts recorded) s) []) old new ended
 
   found_so : (ended : Result T Fault) → FoundAs s reads → IsSize reads size → HasCounts reads counts → HasRecorded reads recorded → Writes ended
       → WritesFound T reads now old new ended
@@ -35,10 +39,13 @@ module _ {T : Type 0} (reads : Image) (now : ℕ) (old new : Option (List ℕ)) 
     facts = tells.0;
     told = tells.1;
     written =
-        let same : count_at counts ≡ tally has.0 = λ i id. has.2 id i in
-        let held : recorded_at recorded ≡ held_of tells.0 = λ i id. tells.2 id i in
-        subst (λ (known : List ℕ → Recorded). IsWritten (metrics_text now size (tally has.0) known s) old new ended) held
-        (subst (λ (counted : List ℕ → RunCount). IsWritten (metrics_text now size counted (recorded_at recorded) s) old new ended) same written);
+        let same : counted now size counts recorded ≡ measured now size has.0 tells.0 = λ i. record {
+          now = now;
+          size = size;
+          counts = λ id. has.2 id i;
+          recorded = λ id. tells.2 id i;
+        } in
+        subst (λ (m : Measure). IsWritten (GoesOn (journal_families m s) []) old new ended) same written;
   }
 
   pub writes : (ended : Result T Fault) → FoundAs s reads → IsSize reads size → HasCounts reads counts → HasRecorded reads recorded → Writes ended
@@ -61,6 +68,7 @@ module _ {T : Type 0} (reads : Image) (now : ℕ) (old new : Option (List ℕ)) 
   writes (Err fault.Full) found is_size has tells written = absurd written
   writes (Err fault.ChildrenIgnored) found is_size has tells written = absurd written
   writes (Err fault.NoExecutor) found is_size has tells written = absurd written
+  writes (Err fault.Failed) found is_size has tells written = absurd written
 
 -- the same for a journal that was opened on a disk of this measure
 pub writes_opened : {T : Type 0} (now : ℕ) (old new : Option (List ℕ)) (size : Size) (counts : List (List ℕ × RunCount))
@@ -68,7 +76,8 @@ pub writes_opened : {T : Type 0} (now : ℕ) (old new : Option (List ℕ)) (size
     → OpensAt p s first opened → (first.honest → IsSize first.reads size)
     → (first.honest → (t : State) → FoundAs t first.reads → HasCounts first.reads counts)
     → (first.honest → (t : State) → FoundAs t first.reads → HasRecorded first.reads recorded)
-    → IsWritten (metrics_text now size (count_at counts) (recorded_at recorded) s) old new ended → last ≡ opened → last.honest
+    → IsWritten (GoesOn (journal_families (counted now size counts recorded) s) []) old new ended
+    → last ≡ opened → last.honest
     → WritesAs first.reads now old new ended
 writes_opened now old new size counts recorded p s first opened last ended opens is_size has tells written same honest =
     let h1 = subst (λ (v : DiskView). v.honest) same honest in

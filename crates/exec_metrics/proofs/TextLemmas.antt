@@ -1,5 +1,5 @@
 -- The text of a list of items, with one more item.
-use Rattle.std.proofs.Common.{◌≡◌, ℕ, ◌+◌, ◌<◌, ◌++◌, List, [], ◌∷◌, Result, Ok, Err, OnOk, length, take, get_or, slice_index, sym, ap, ◌∙◌}
+use Rattle.std.proofs.Common.{◌≡◌, ℕ, ◌+◌, ◌<◌, ◌++◌, List, [], ◌∷◌, length, take, get_or, slice_index, sym, ap, ◌∙◌}
 use Rattle.std.proofs.lemmas.List.{append-nil, append_assoc, take_more}
 use Rattle.std.proofs.lemmas.Grind.{flat_map-append, get_or_default_zero}
 use Rattle.std.specs.List.{flat_map}
@@ -33,25 +33,6 @@ byte_more f bs i prefix now lt is =
     index_is : (bs : List ℕ) (i : ℕ) → i < length bs → slice_index bs i ≡ get_or bs i (slice_index bs i)
     index_is bs i lt = sym (get_or_default_zero bs i (slice_index bs i) lt)
 
--- a text that was added, and a text that was added after it
-pub join : {T E : Type 0} (r : Result T E) (old x mid y new : List ℕ) → mid ≡ old ++ x → OnOk r (new ≡ mid ++ y) → OnOk r (new ≡ old ++ (x ++ y))
-join (Ok done) old x mid y new first rest = rest ∙ ap (λ (t : List ℕ). t ++ y) first ∙ append_assoc old x y
-join (Err e) old x mid y new first rest = tt
-
--- the same for a text that depends on a value, which equals this one
-pub join_of : {T E A : Type 0} (r : Result T E) (f : A → List ℕ) (a b : A) (old mid y new : List ℕ) → a ≡ b → mid ≡ old ++ f a
-    → OnOk r (new ≡ mid ++ y) → OnOk r (new ≡ old ++ (f b ++ y))
-join_of r f a b old mid y new is first rest = join r old (f b) mid y new (first ∙ ap (λ c. old ++ f c) is) rest
-
-pub last_of : {T E A : Type 0} (r : Result T E) (f : A → List ℕ) (a b : A) (old new : List ℕ) → a ≡ b → OnOk r (new ≡ old ++ f a)
-    → OnOk r (new ≡ old ++ f b)
-last_of (Ok done) f a b old new is added = added ∙ ap (λ c. old ++ f c) is
-last_of (Err e) f a b old new is added = tt
-
--- three texts that were added
-pub three : {T E : Type 0} (r : Result T E) (old a b new x y z : List ℕ) → a ≡ old ++ x → b ≡ a ++ y → OnOk r (new ≡ b ++ z)
-    → OnOk r (new ≡ old ++ ((x ++ y) ++ z))
-three (Ok done) old a b new x y z first second third =
-    third ∙ ap (λ (l : List ℕ). l ++ z) (second ∙ ap (λ (l : List ℕ). l ++ y) first ∙ append_assoc old x y)
-    ∙ append_assoc old (x ++ y) z
-three (Err e) old a b new x y z first second third = tt
+-- a text that was added after another one
+pub after : (old x mid piece y new : List ℕ) → mid ≡ old ++ x → new ≡ mid ++ piece → piece ≡ y → new ≡ old ++ (x ++ y)
+after old x mid piece y new first rest is = rest ∙ (λ i. first i ++ is i) ∙ append_assoc old x y

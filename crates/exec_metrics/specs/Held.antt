@@ -1,28 +1,29 @@
 -- The samples of what is known of the executor that has a journal.
-use Rattle.std.specs.Prelude.{ℕ, List, ◌++◌, Option, Some, None, option_map}
+use Rattle.std.specs.Prelude.{ℕ, List, [], ◌∷◌, Option, Some, None, map, option_map}
 use Rattle.std.specs.List.{flat_map}
-use Rattle.exec_metrics.specs.Families.{header}
-use Rattle.exec_metrics.specs.Metrics.{single}
-use Rattle.exec_metrics.specs.Samples.{bit, plain}
+use Rattle.exec_metrics.specs.Samples.{bare, bit, plain}
 use Rattle.exec_metrics.specs.declared.executor.Seen.{Seen}
 use Rattle.exec_metrics.specs.declared.family.Family.{Family}
 use Rattle.exec_metrics.specs.declared.family.Family.TheVariants as family
 
--- a family of one sample, or of none if its value is not known
+-- the sample of a value, if it is known
 abbrev pub known : Family → Option ℕ → List ℕ
-known f None = header f
-known f (Some n) = single f n
+known f None = []
+known f (Some n) = bare f n
 
--- whether an executor has the journal, when it opened it, and the age of the last record
-abbrev pub executor_text : Seen → List ℕ
-executor_text s = known family.Up (option_map bit s.up) ++ known family.Opened s.opened ++ known family.RecordAge s.record_age
-
--- the resources that are held, each once and in order
 abbrev pub held_sample : List ℕ → List ℕ
 held_sample id = plain family.Held id 1
 
-abbrev pub held_text : List (List ℕ) → List ℕ
-held_text ids = header family.Held ++ flat_map held_sample ids
+-- the samples: whether an executor has the journal, when it opened it, the age of the last record, and the resources that are held
+abbrev pub seen_lines : Seen → Family → List ℕ
+seen_lines s family.Up = known family.Up (option_map bit s.up)
+seen_lines s family.Opened = known family.Opened s.opened
+seen_lines s family.RecordAge = known family.RecordAge s.record_age
+seen_lines s family.Held = flat_map held_sample s.held.now
+seen_lines s _ = []
 
-abbrev pub seen_text : Seen → List ℕ
-seen_text s = executor_text s ++ held_text s.held.now
+abbrev pub seen_family : Seen → Family → Family × List ℕ
+seen_family s f = (f, seen_lines s f)
+
+abbrev pub seen_families : Seen → List (Family × List ℕ)
+seen_families s = map (seen_family s) (family.Up ∷ family.Opened ∷ family.RecordAge ∷ family.Held ∷ [])

@@ -1,83 +1,102 @@
 -- The metrics of a journal.
-use Rattle.std.specs.Prelude.{◌≡◌, ℕ, ◌-◌, ⊤, List, ◌++◌, length, codes, decimal, Option, Result, Ok, Err}
+use Rattle.std.specs.Prelude.{◌≡◌, ℕ, ◌-◌, ⊤, List, [], ◌∷◌, ◌++◌, length, map, is_some, Option, Result, Ok, Err}
 use Rattle.std.specs.List.{flat_map}
 use Rattle.std.specs.Io.KnownBytes.{Appends}
+use Rattle.ocf_types.specs.Resource.{Resource}
 use Rattle.ocf_types.specs.State.{State}
 use Rattle.disk_model.specs.Image.{Image}
 use Rattle.two_parts.specs.Choice.{choice}
 use Rattle.exec_journal.specs.Found.{FoundAs, HasDamage}
 use Rattle.exec_faults.specs.declared.fault.Fault.{Fault}
 use Rattle.exec_faults.specs.declared.fault.Fault.TheVariants as fault
-use Rattle.exec_metrics.specs.Families.{header, name}
-use Rattle.exec_metrics.specs.Samples.{recorded_states, samples}
+use Rattle.exec_metrics.specs.Families.{header}
+use Rattle.exec_metrics.specs.Samples.{age, age_of_monitor, age_sample, bare, bit, code_of_monitor, code_sample, last_result, plain, state_samples}
+use Rattle.exec_metrics.specs.declared.families.Taken.{Taken}
 use Rattle.exec_metrics.specs.declared.family.Family.{Family}
 use Rattle.exec_metrics.specs.declared.family.Family.TheVariants as family
-use Rattle.exec_metrics.specs.Runs.{runs_text}
 use Rattle.journal_measure.specs.RanOn.{RanOn}
 use Rattle.journal_measure.specs.RecordedOn.{FactsBy}
 use Rattle.journal_measure.specs.Sizes.{IsSize}
 use Rattle.journal_measure.specs.declared.measuring.Size.{Size}
-use Rattle.resource_condition.specs.Facts.{FactOf, held_of}
+use Rattle.ocf_codes.specs.ExitCodes.{IsPlainText}
+use Rattle.resource_condition.specs.Conditions.{condition_by}
+use Rattle.resource_condition.specs.Facts.{FactOf, held_of, recorded_at}
 use Rattle.resource_condition.specs.declared.condition.Recorded.{Recorded}
-use Rattle.run_counts.specs.Counts.{tally}
+use Rattle.run_counts.specs.Counts.{count_at, tally}
 use Rattle.run_counts.specs.Runs.{Ran}
 use Rattle.run_counts.specs.declared.count.RunCount.{RunCount}
 
--- a sample without labels
-abbrev pub bare : Family → ℕ → List ℕ
-bare f n = name f ++ codes " " ++ decimal n ++ codes "\n"
+-- a moment, the size of a journal, the counts of each resource's runs, and what the records hold of each resource
+pub record Measure : Type 0 where
+  pub now : ℕ
+  pub size : Size
+  pub counts : List ℕ → RunCount
+  pub recorded : List ℕ → Recorded
 
--- a family of one sample without labels
-abbrev pub single : Family → ℕ → List ℕ
-single f n = header f ++ bare f n
+abbrev pub measure_of : Taken → Measure
+measure_of t = record {
+  now = t.moment;
+  size = t.measured.size;
+  counts = count_at t.measured.counts.entries;
+  recorded = recorded_at t.measured.recorded.entries;
+}
 
--- a family's header, and then the samples of each resource, in order of registration
-abbrev pub of_each : ℕ → State → Family → List ℕ
-of_each now s f = header f ++ flat_map (samples now f) s.resources
+abbrev pub measured : ℕ → Size → List Ran → List FactOf → Measure
+measured now size runs facts = record { now = now; size = size; counts = tally runs; recorded = held_of facts }
 
--- the size of the journal, the numbers of calls and runs, and the number of resources
-abbrev pub size_text : Size → List ℕ
-size_text size = single family.Epoch size.epoch ++ single family.Bytes size.bytes
+-- the samples of a resource in a family; it has none in the other families
+abbrev pub samples : Measure → Family → List ℕ × Resource → List ℕ
+samples m family.State e = state_samples e.0 (condition_by (m.recorded e.0) e.1.history.failed)
+samples m family.Queued e = plain family.Queued e.0 (length e.1.history.queue)
+samples m family.Running e = plain family.Running e.0 (bit (is_some e.1.history.running))
+samples m family.ResourceRuns e = plain family.ResourceRuns e.0 (m.counts e.0).runs
+samples m family.ResourceFailures e = plain family.ResourceFailures e.0 (m.counts e.0).failures
+samples m family.LastCode e = code_sample family.LastCode e.0 (last_result e.1.history.ended)
+samples m family.LastAge e = age_sample family.LastAge e.0 (age m.now (last_result e.1.history.ended))
+samples m family.FailureCode e = code_sample family.FailureCode e.0 e.1.history.failed
+samples m family.FailureAge e = age_sample family.FailureAge e.0 (age m.now e.1.history.failed)
+samples m family.MonitorCode e = flat_map (code_of_monitor e.0 e.1.history.ended) e.1.recurring
+samples m family.MonitorAge e = flat_map (age_of_monitor m.now e.0 e.1.history.ended) e.1.recurring
+samples m _ e = []
 
-abbrev pub counts_text : State → List ℕ
-counts_text s = single family.Calls (s.next_call - 1) ++ single family.Runs (s.next_run - 1)
+-- the samples of a family: one of the journal, or those of each resource, in order of registration
+abbrev pub lines_in : Measure → State → Family → List ℕ
+lines_in m s family.Epoch = bare family.Epoch m.size.epoch
+lines_in m s family.Bytes = bare family.Bytes m.size.bytes
+lines_in m s family.Calls = bare family.Calls (s.next_call - 1)
+lines_in m s family.Runs = bare family.Runs (s.next_run - 1)
+lines_in m s family.Resources = bare family.Resources (length s.resources)
+lines_in m s f = flat_map (samples m f) s.resources
 
-abbrev pub journal_text : Size → State → List ℕ
-journal_text size s = size_text size ++ counts_text s ++ single family.Resources (length s.resources)
+abbrev pub family_of : Measure → State → Family → Family × List ℕ
+family_of m s f = (f, lines_in m s f)
 
--- the states of the resources, by what the records hold of each
-abbrev pub conditions_text : (List ℕ → Recorded) → State → List ℕ
-conditions_text recorded s = header family.State ++ flat_map (recorded_states recorded) s.resources
+-- the families of a journal, each once: its own, those of what its resources do and did, and those of their last results
+abbrev pub of_journal : Measure → State → List (Family × List ℕ)
+of_journal m s = map (family_of m s) (family.Epoch ∷ family.Bytes ∷ family.Calls ∷ family.Runs ∷ family.Resources ∷ [])
 
--- the states of the resources, and their queued and running actions
-abbrev pub states_text : ℕ → (List ℕ → Recorded) → State → List ℕ
-states_text now recorded s = conditions_text recorded s ++ of_each now s family.Queued ++ of_each now s family.Running
+abbrev pub of_actions : Measure → State → List (Family × List ℕ)
+of_actions m s = map (family_of m s) (family.State ∷ family.Queued ∷ family.Running ∷ family.ResourceRuns ∷ family.ResourceFailures ∷ [])
 
--- the last results of the resources, their last failures, and the last results of their monitors
-abbrev pub last_text : ℕ → State → List ℕ
-last_text now s = of_each now s family.LastCode ++ of_each now s family.LastAge
+abbrev pub of_results : Measure → State → List (Family × List ℕ)
+of_results m s =
+    map (family_of m s)
+    (family.LastCode ∷ family.LastAge ∷ family.FailureCode ∷ family.FailureAge ∷ family.MonitorCode ∷ family.MonitorAge ∷ [])
 
-abbrev pub failures_text : ℕ → State → List ℕ
-failures_text now s = of_each now s family.FailureCode ++ of_each now s family.FailureAge
+abbrev pub journal_families : Measure → State → List (Family × List ℕ)
+journal_families m s = of_journal m s ++ of_actions m s ++ of_results m s
 
-abbrev pub monitors_text : ℕ → State → List ℕ
-monitors_text now s = of_each now s family.MonitorCode ++ of_each now s family.MonitorAge
+-- a text goes on with these families: each is its header, with a line of help, and its samples
+abbrev pub GoesOn : List (Family × List ℕ) → List ℕ → List ℕ → Type 0
+GoesOn [] old new = new ≡ old
+GoesOn (x ∷ xs) old new = (help : List ℕ) × IsPlainText help × GoesOn xs (old ++ (header x.0 help ++ x.1)) new
 
-abbrev pub results_text : ℕ → State → List ℕ
-results_text now s = last_text now s ++ failures_text now s ++ monitors_text now s
-
--- the metrics, at a moment, of a journal with this size, these counts of each resource's runs, records that hold this of each resource,
--- and this state
-abbrev pub metrics_text : ℕ → Size → (List ℕ → RunCount) → (List ℕ → Recorded) → State → List ℕ
-metrics_text now size counts recorded s =
-    journal_text size s ++ states_text now recorded s ++ runs_text counts s ++ results_text now s
-
--- what is written of a text, by the result of writing
-abbrev pub IsWritten : {T : Type 0} → List ℕ → Option (List ℕ) → Option (List ℕ) → Result T Fault → Type 0
-IsWritten text old new (Ok done) = Appends old new text
-IsWritten text old new (Err fault.ReplyMemory) = new ≡ old
-IsWritten text old new (Err fault.InputOrOutput) = ⊤
-IsWritten text old new (Err _) = ⊥
+-- a text of which this holds is written, by the result of writing
+abbrev pub IsWritten : {T : Type 0} → (List ℕ → Type 0) → Option (List ℕ) → Option (List ℕ) → Result T Fault → Type 0
+IsWritten IsText old new (Ok done) = (text : List ℕ) × IsText text × Appends old new text
+IsWritten IsText old new (Err fault.ReplyMemory) = new ≡ old
+IsWritten IsText old new (Err fault.InputOrOutput) = ⊤
+IsWritten IsText old new (Err _) = ⊥
 
 -- The metrics, at a moment, of the state that is found on these parts, the size of the journal, the runs since the snapshot of its
 -- current part, and what the records of both parts hold of each resource are written.
@@ -90,7 +109,7 @@ pub record WritesFound (T : Type 0) (reads : Image) (now : ℕ) (old new : Optio
   pub ran : RanOn reads runs
   pub facts : List FactOf
   pub told : FactsBy (choice reads) reads facts
-  pub written : IsWritten (metrics_text now size (tally runs) (held_of facts) state) old new ended
+  pub written : IsWritten (GoesOn (journal_families (measured now size runs facts) state) []) old new ended
 
 -- the same, or nothing if the parts are not read; the damage that is reported is that which is found
 abbrev pub WritesAs : {T : Type 0} → Image → ℕ → Option (List ℕ) → Option (List ℕ) → Result T Fault → Type 0

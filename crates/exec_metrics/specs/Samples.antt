@@ -1,18 +1,15 @@
 -- The samples of a resource, one line each.
 use Rattle.std.specs.Prelude.{ℕ, ◌-◌, ◌/◌, ◌==◌, Bool, if◌then◌else◌, List, [], ◌++◌, length, slice_get, codes, decimal}
-use Rattle.std.specs.Prelude.{Option, Some, None, is_some, option_map}
-use Rattle.std.specs.List.{flat_map}
+use Rattle.std.specs.Prelude.{Option, Some, None, option_map}
 use Rattle.std.specs.Str.{bytes_eq}
 use Rattle.ocf_types.specs.Actions.{action_word}
 use Rattle.ocf_types.specs.Outcomes.{outcome_code, outcome_word}
-use Rattle.ocf_types.specs.Resource.{Resource}
 use Rattle.ocf_types.specs.declared.operation.Ended.{Ended}
 use Rattle.ocf_types.specs.declared.operation.Recur.{Recur}
-use Rattle.resource_condition.specs.Conditions.{condition_by, condition_word}
+use Rattle.resource_condition.specs.Conditions.{condition_word}
 use Rattle.resource_status.specs.Results.{is_run, last_of}
 use Rattle.resource_condition.specs.declared.condition.Condition.{Condition}
 use Rattle.resource_condition.specs.declared.condition.Condition.TheVariants.{NeverRun, Started, Promoted, Stopped, Failed, Unknown}
-use Rattle.resource_condition.specs.declared.condition.Recorded.{Recorded}
 use Rattle.exec_metrics.specs.Families.{name}
 use Rattle.exec_metrics.specs.Labels.{label, next_label}
 use Rattle.exec_metrics.specs.declared.family.Family.{Family}
@@ -30,6 +27,10 @@ valued n = codes "} " ++ decimal n ++ codes "\n"
 abbrev pub plain : Family → List ℕ → ℕ → List ℕ
 plain f id n = begun f id ++ valued n
 
+-- a sample without labels
+abbrev pub bare : Family → ℕ → List ℕ
+bare f n = name f ++ codes " " ++ decimal n ++ codes "\n"
+
 -- 1 for true, 0 for false
 abbrev pub bit : Bool → ℕ
 bit is = if is then 1 else 0
@@ -41,18 +42,11 @@ is_same c d = bytes_eq (condition_word c) (condition_word d)
 abbrev pub state_sample : List ℕ → Condition → Condition → List ℕ
 state_sample id is c = begun family.State id ++ next_label (codes "state") (condition_word c) ++ valued (bit (is_same is c))
 
--- the samples for all states: those of a running resource, those that need somebody's attention, and those that do not
-abbrev pub running_samples : List ℕ → Condition → List ℕ
-running_samples id is = state_sample id is Started ++ state_sample id is Promoted
-
-abbrev pub bad_samples : List ℕ → Condition → List ℕ
-bad_samples id is = state_sample id is Failed ++ state_sample id is Unknown
-
-abbrev pub calm_samples : List ℕ → Condition → List ℕ
-calm_samples id is = state_sample id is NeverRun ++ running_samples id is ++ state_sample id is Stopped
-
+-- the samples for all states
 abbrev pub state_samples : List ℕ → Condition → List ℕ
-state_samples id is = calm_samples id is ++ bad_samples id is
+state_samples id is =
+    state_sample id is NeverRun ++ state_sample id is Started ++ state_sample id is Promoted ++ state_sample id is Stopped
+    ++ state_sample id is Failed ++ state_sample id is Unknown
 
 -- the age of a result, if there is one, in whole seconds; 0 for one that is ahead of the clock
 abbrev pub age : ℕ → Option Ended → Option ℕ
@@ -98,19 +92,3 @@ code_of_monitor id es m = monitor_code id m (last_of (is_run m.call) es)
 
 abbrev pub age_of_monitor : ℕ → List ℕ → List Ended → Recur → List ℕ
 age_of_monitor now id es m = monitor_age id m (age now (last_of (is_run m.call) es))
-
--- the samples for the state of a resource, by what the records hold of it and its last failure
-abbrev pub recorded_states : (List ℕ → Recorded) → List ℕ × Resource → List ℕ
-recorded_states recorded e = state_samples e.0 (condition_by (recorded e.0) e.1.history.failed)
-
--- the samples of a resource in a family that its history tells; it has none in the other families
-abbrev pub samples : ℕ → Family → List ℕ × Resource → List ℕ
-samples now family.Queued e = plain family.Queued e.0 (length e.1.history.queue)
-samples now family.Running e = plain family.Running e.0 (bit (is_some e.1.history.running))
-samples now family.LastCode e = code_sample family.LastCode e.0 (last_result e.1.history.ended)
-samples now family.LastAge e = age_sample family.LastAge e.0 (age now (last_result e.1.history.ended))
-samples now family.FailureCode e = code_sample family.FailureCode e.0 e.1.history.failed
-samples now family.FailureAge e = age_sample family.FailureAge e.0 (age now e.1.history.failed)
-samples now family.MonitorCode e = flat_map (code_of_monitor e.0 e.1.history.ended) e.1.recurring
-samples now family.MonitorAge e = flat_map (age_of_monitor now e.0 e.1.history.ended) e.1.recurring
-samples now _ e = []

@@ -1,16 +1,16 @@
 //! The metrics of what is known of the executor that has a journal.
-ghost use Rattle.std.specs.Prelude.{◌≡◌, ◌++◌, IfErr, IfOk, IsTrue, OnErr, OnOk};
+ghost use Rattle.std.specs.Prelude.{◌≡◌, ◌++◌, ◌∷◌, [], IfErr, IfOk, IsTrue, OnErr};
 ghost use Rattle.std.specs.List.{flat_map};
 ghost use Rattle.exec_faults.specs.Faults.{HasCause, IsRunEnd};
-ghost use Rattle.exec_metrics.specs.Held.{executor_text, held_sample, held_text, known, seen_text};
-ghost use Rattle.exec_metrics.specs.Metrics.{IsWritten};
+ghost use Rattle.exec_metrics.specs.Held.{held_sample, known, seen_families, seen_family, seen_lines};
+ghost use Rattle.exec_metrics.specs.Metrics.{GoesOn, IsWritten};
 
 use crate::family::{Family, add_header};
-use crate::sample::{add_plain, bit};
-use crate::text::add_single;
+use crate::sample::{add_bare, add_plain, bit};
 use exec_faults::Fault;
 use exec_lines::write_flushed;
 use growth::Grows;
+use line_text::LineText;
 use ocf_types::RscId;
 use std::alloc::{AllocError, Global};
 use std::io::Write;
@@ -28,62 +28,69 @@ pub struct Seen<'a> {
     pub held: &'a [RscId],
 }
 
-// Adds a family of one sample, or of none if its value is not known.
-fn add_known(text: &mut Vec<u8>, family: Family, value: Option<u64>) -> Result<(), AllocError>
-    ensures added { OnOk result (text.new.items ≡ text.old.items ++ known family value) }
-    ensures memory { OnErr result (IsTrue ⟦<Global as Grows>⟧.refuses) }
+// Adds the sample of a value, if it is known.
+fn add_known(text: &mut LineText, family: Family, value: Option<u64>)
+    ensures { text.new ≡ text.old ++ known family value }
 {
-    match value {
-        Some(value) => add_single(text, family, value),
-        None => add_header(text, family),
+    if let Some(value) = value {
+        add_bare(text, family, value);
     }
-}
-
-// Adds what is known of the executor.
-fn add_executor(text: &mut Vec<u8>, seen: &Seen) -> Result<(), AllocError>
-    ensures added { OnOk result (text.new.items ≡ text.old.items ++ executor_text seen.now) }
-    ensures memory { OnErr result (IsTrue ⟦<Global as Grows>⟧.refuses) }
-{
-    add_known(text, Family::Up, seen.up.map(bit))?;
-    add_known(text, Family::Opened, seen.opened)?;
-    add_known(text, Family::RecordAge, seen.record_age)
 }
 
 // Adds the samples of the resources that are held.
-fn add_samples(text: &mut Vec<u8>, held: &[RscId]) -> Result<(), AllocError>
-    ensures added { OnOk result (text.new.items ≡ text.old.items ++ flat_map held_sample held.now) }
-    ensures memory { OnErr result (IsTrue ⟦<Global as Grows>⟧.refuses) }
+fn add_held(text: &mut LineText, held: &[RscId])
+    ensures { text.new ≡ text.old ++ flat_map held_sample held.now }
 {
     for id in held {
-        add_plain(text, Family::Held, id, 1)?;
+        add_plain(text, Family::Held, id, 1);
     }
-    Ok(())
 }
 
-// Adds the resources that are held.
-fn add_held(text: &mut Vec<u8>, held: &[RscId]) -> Result<(), AllocError>
-    ensures added { OnOk result (text.new.items ≡ text.old.items ++ held_text held.now) }
-    ensures memory { OnErr result (IsTrue ⟦<Global as Grows>⟧.refuses) }
+// Adds the samples of a family.
+fn add_lines(text: &mut LineText, seen: &Seen, family: Family)
+    ensures { text.new ≡ text.old ++ seen_lines seen.now family }
 {
-    add_header(text, Family::Held)?;
-    add_samples(text, held)
+    match family {
+        Family::Up => add_known(text, family, seen.up.map(bit)),
+        Family::Opened => add_known(text, family, seen.opened),
+        Family::RecordAge => add_known(text, family, seen.record_age),
+        Family::Held => add_held(text, seen.held),
+        _ => {}
+    }
+}
+
+// Adds a family.
+fn add_family(text: &mut LineText, seen: &Seen, family: Family)
+    ensures { GoesOn (seen_family seen.now family ∷ []) text.old text.new }
+{
+    add_header(text, family);
+    add_lines(text, seen, family);
+}
+
+// Adds all families.
+fn add_families(text: &mut LineText, seen: &Seen)
+    ensures { GoesOn (seen_families seen.now) text.old text.new }
+{
+    add_family(text, seen, Family::Up);
+    add_family(text, seen, Family::Opened);
+    add_family(text, seen, Family::RecordAge);
+    add_family(text, seen, Family::Held);
 }
 
 // The metrics of what is known of the executor.
 fn seen_text(alloc: Global, seen: &Seen) -> Result<Vec<u8>, AllocError>
-    ensures text { IfOk result (λ text. text.items ≡ seen_text seen.now) }
+    ensures text { IfOk result (λ text. GoesOn (seen_families seen.now) [] text.items) }
     ensures memory { OnErr result (IsTrue ⟦<Global as Grows>⟧.refuses) }
 {
-    let mut text = Vec::new(alloc);
-    add_executor(&mut text, seen)?;
-    add_held(&mut text, seen.held)?;
-    Ok(text)
+    let mut text = LineText::new(alloc);
+    add_families(&mut text, seen);
+    text.finish()
 }
 
 /// Writes what is known of the executor that has a journal as metrics: whether there is one, when it opened the journal and the age of
 /// the last record, as far as they are known, and each resource that is held, once and in order.
 pub fn executor_metrics<W: Write>(alloc: Global, writer: &mut W, seen: &Seen) -> Result<(), Fault>
-    ensures written { IsWritten (seen_text seen.now) (W.contents writer.old) (W.contents writer.new) result }
+    ensures written { IsWritten (GoesOn (seen_families seen.now) []) (W.contents writer.old) (W.contents writer.new) result }
     ensures ends { IsRunEnd result }
     ensures memory { IfErr result (HasCause ⟦<Global as Grows>⟧.refuses) }
 {

@@ -1,10 +1,9 @@
 //! The families of metrics.
-ghost use Rattle.std.specs.Prelude.{◌≡◌, ◌++◌, IsTrue, OnErr, OnOk};
-ghost use Rattle.exec_metrics.specs.Families.{header, help, kind, name};
+ghost use Rattle.std.specs.Prelude.{◌≡◌, ◌++◌, ℕ, List};
+ghost use Rattle.ocf_codes.specs.ExitCodes.{IsPlainText};
+ghost use Rattle.exec_metrics.specs.Families.{header, kind, name};
 
-use crate::add::add;
-use growth::Grows;
-use std::alloc::{AllocError, Global};
+use line_text::LineText;
 
 /// A family of metrics.
 #[derive(Clone, Copy, Debug, PartialEq, Eq)]
@@ -82,7 +81,7 @@ impl Family {
 
     // The help of the family, in a sentence.
     fn help(self) -> &'static str
-        ensures { result.now ≡ help self }
+        ensures { IsPlainText result.now }
     {
         match self {
             Family::Epoch => "Number of snapshots written to the journal, the first one included.",
@@ -129,17 +128,16 @@ impl Family {
 }
 
 /// Adds the two lines before the samples of a family.
-pub fn add_header(text: &mut Vec<u8>, family: Family) -> Result<(), AllocError>
-    ensures added { OnOk result (text.new.items ≡ text.old.items ++ header family) }
-    ensures memory { OnErr result (IsTrue ⟦<Global as Grows>⟧.refuses) }
+pub fn add_header(text: &mut LineText, family: Family)
+    ensures { (help : List ℕ) × IsPlainText help × (text.new ≡ text.old ++ header family help) }
 {
-    add(text, "# HELP ")?;
-    add(text, family.name())?;
-    add(text, " ")?;
-    add(text, family.help())?;
-    add(text, "\n# TYPE ")?;
-    add(text, family.name())?;
-    add(text, " ")?;
-    add(text, family.kind())?;
-    add(text, "\n")
+    text.text("# HELP ");
+    text.text(family.name());
+    text.text(" ");
+    text.text(family.help());
+    text.text("\n# TYPE ");
+    text.text(family.name());
+    text.text(" ");
+    text.text(family.kind());
+    text.text("\n");
 }

@@ -1,53 +1,46 @@
 //! Adds labels, with their values escaped.
-ghost use Rattle.std.specs.Prelude.{◌≡◌, ◌++◌, IsTrue, OnErr, OnOk};
+ghost use Rattle.std.specs.Prelude.{◌≡◌, ◌++◌};
 ghost use Rattle.exec_metrics.specs.Labels.{escaped, escaped_byte, label, next_label};
 
-use crate::add::add;
-use growth::{Grows, push};
-use std::alloc::{AllocError, Global};
+use line_text::LineText;
 
-fn add_escaped_byte(text: &mut Vec<u8>, byte: u8) -> Result<(), AllocError>
-    ensures added { OnOk result (text.new.items ≡ text.old.items ++ escaped_byte byte) }
-    ensures memory { OnErr result (IsTrue ⟦<Global as Grows>⟧.refuses) }
+fn add_escaped_byte(text: &mut LineText, byte: u8)
+    ensures { text.new ≡ text.old ++ escaped_byte byte }
 {
     if byte == b'\\' {
-        add(text, "\\\\")
+        text.text("\\\\");
     } else if byte == b'"' {
-        add(text, "\\\"")
+        text.text("\\\"");
     } else if byte == b'\n' {
-        add(text, "\\n")
+        text.text("\\n");
     } else {
-        push(text, byte)
+        text.byte(byte);
     }
 }
 
 #[tactic(auto, using(crate::proofs::TextLemmas::byte_more))]
-fn add_escaped(text: &mut Vec<u8>, bytes: &[u8]) -> Result<(), AllocError>
-    ensures added { OnOk result (text.new.items ≡ text.old.items ++ escaped bytes.now) }
-    ensures memory { OnErr result (IsTrue ⟦<Global as Grows>⟧.refuses) }
+fn add_escaped(text: &mut LineText, bytes: &[u8])
+    ensures { text.new ≡ text.old ++ escaped bytes.now }
 {
     for byte in bytes {
-        add_escaped_byte(text, *byte)?;
+        add_escaped_byte(text, *byte);
     }
-    Ok(())
 }
 
 /// Adds a label.
-pub fn add_label(text: &mut Vec<u8>, key: &str, value: &[u8]) -> Result<(), AllocError>
-    ensures added { OnOk result (text.new.items ≡ text.old.items ++ label key.now value.now) }
-    ensures memory { OnErr result (IsTrue ⟦<Global as Grows>⟧.refuses) }
+pub fn add_label(text: &mut LineText, key: &str, value: &[u8])
+    ensures { text.new ≡ text.old ++ label key.now value.now }
 {
-    add(text, key)?;
-    add(text, "=\"")?;
-    add_escaped(text, value)?;
-    add(text, "\"")
+    text.text(key);
+    text.text("=\"");
+    add_escaped(text, value);
+    text.text("\"");
 }
 
 /// Adds one more label.
-pub fn add_next_label(text: &mut Vec<u8>, key: &str, value: &[u8]) -> Result<(), AllocError>
-    ensures added { OnOk result (text.new.items ≡ text.old.items ++ next_label key.now value.now) }
-    ensures memory { OnErr result (IsTrue ⟦<Global as Grows>⟧.refuses) }
+pub fn add_next_label(text: &mut LineText, key: &str, value: &[u8])
+    ensures { text.new ≡ text.old ++ next_label key.now value.now }
 {
-    add(text, ",")?;
-    add_label(text, key, value)
+    text.text(",");
+    add_label(text, key, value);
 }

@@ -1,16 +1,14 @@
 //! Writes the contents of a journal as metrics for Prometheus.
 #![tactic(auto)]
 
-mod add;
 mod executor;
+mod families;
 mod family;
 mod label;
 mod monitors;
 mod results;
-mod runs;
 mod sample;
 mod states;
-mod text;
 mod writing;
 
 pub use executor::{Seen, executor_metrics};

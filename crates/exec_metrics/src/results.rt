@@ -1,5 +1,5 @@
 //! The codes and ages of results.
-ghost use Rattle.std.specs.Prelude.{◌≡◌, ◌<◌, ◌++◌, length, IsTrue, OnErr, OnOk};
+ghost use Rattle.std.specs.Prelude.{◌≡◌, ◌<◌, ◌++◌, length};
 ghost use Rattle.ocf_types.specs.Indexes.{at_index};
 ghost use Rattle.exec_metrics.specs.Samples.{age, age_sample, code_labels, code_sample, last_result};
 
@@ -7,10 +7,9 @@ use crate::family::Family;
 use crate::label::add_next_label;
 use crate::sample::{add_plain, begin, finish};
 use exec_state::State;
-use growth::Grows;
+use line_text::LineText;
 use ocf_codes::code_of;
 use ocf_types::{Ended, Moment, RscId, StateView};
-use std::alloc::{AllocError, Global};
 
 /// The age of a result, if there is one, in whole seconds; 0 for one that is ahead of the clock.
 pub fn age(now: Moment, found: Option<Ended>) -> Option<u64>
@@ -36,45 +35,29 @@ pub fn last_result(state: &State, index: usize) -> Option<Ended>
 }
 
 // Adds the labels of a code: the action and the outcome.
-fn add_code_labels(text: &mut Vec<u8>, ended: &Ended) -> Result<(), AllocError>
-    ensures added { OnOk result (text.new.items ≡ text.old.items ++ code_labels ended.now) }
-    ensures memory { OnErr result (IsTrue ⟦<Global as Grows>⟧.refuses) }
+fn add_code_labels(text: &mut LineText, ended: &Ended)
+    ensures { text.new ≡ text.old ++ code_labels ended.now }
 {
-    add_next_label(text, "action", ended.action.word().as_bytes())?;
-    add_next_label(text, "outcome", ended.outcome.word().as_bytes())
+    add_next_label(text, "action", ended.action.word().as_bytes());
+    add_next_label(text, "outcome", ended.outcome.word().as_bytes());
 }
 
 /// Adds the code of a result, if there is one.
-pub fn add_code(
-    text: &mut Vec<u8>,
-    family: Family,
-    id: &RscId,
-    found: Option<Ended>,
-) -> Result<(), AllocError>
-    ensures added { OnOk result (text.new.items
-        ≡ text.old.items ++ code_sample family id.now found) }
-    ensures memory { OnErr result (IsTrue ⟦<Global as Grows>⟧.refuses) }
+pub fn add_code(text: &mut LineText, family: Family, id: &RscId, found: Option<Ended>)
+    ensures { text.new ≡ text.old ++ code_sample family id.now found }
 {
-    let Some(ended) = found else {
-        return Ok(());
-    };
-    begin(text, family, id)?;
-    add_code_labels(text, &ended)?;
-    finish(text, u64::from(code_of(ended.outcome)))
+    if let Some(ended) = found {
+        begin(text, family, id);
+        add_code_labels(text, &ended);
+        finish(text, u64::from(code_of(ended.outcome)));
+    }
 }
 
 /// Adds the age of a result, if there is one.
-pub fn add_age(
-    text: &mut Vec<u8>,
-    family: Family,
-    id: &RscId,
-    age: Option<u64>,
-) -> Result<(), AllocError>
-    ensures added { OnOk result (text.new.items ≡ text.old.items ++ age_sample family id.now age) }
-    ensures memory { OnErr result (IsTrue ⟦<Global as Grows>⟧.refuses) }
+pub fn add_age(text: &mut LineText, family: Family, id: &RscId, age: Option<u64>)
+    ensures { text.new ≡ text.old ++ age_sample family id.now age }
 {
-    match age {
-        Some(seconds) => add_plain(text, family, id, seconds),
-        None => Ok(()),
+    if let Some(seconds) = age {
+        add_plain(text, family, id, seconds);
     }
 }

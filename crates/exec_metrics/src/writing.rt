@@ -1,18 +1,16 @@
 //! Measures and opens a journal, and writes its metrics.
-ghost use Rattle.std.specs.Prelude.{◌≡◌, IsErrOf, IfOk, IfErr};
+ghost use Rattle.std.specs.Prelude.{[], IsErrOf, IfErr};
 ghost use Rattle.ocf_types.specs.State.{State as PlainState};
 ghost use Rattle.disk_model.specs.Disk.{Increased};
 ghost use Rattle.exec_journal.specs.Found.{FoundAs};
 ghost use Rattle.exec_journal.specs.Opening.{Opens};
 ghost use Rattle.exec_faults.specs.Faults.{HasCause, IsRunEnd};
-ghost use Rattle.exec_metrics.specs.Metrics.{IsWritten, WritesAs, metrics_text};
+ghost use Rattle.exec_metrics.specs.Metrics.{journal_families, measure_of, GoesOn, IsWritten, WritesAs};
 ghost use Rattle.journal_measure.specs.RanOn.{HasCounts};
 ghost use Rattle.journal_measure.specs.RecordedOn.{HasRecorded};
 ghost use Rattle.journal_measure.specs.Sizes.{IsSize};
-ghost use Rattle.resource_condition.specs.Facts.{recorded_at};
-ghost use Rattle.run_counts.specs.Counts.{count_at};
 
-use crate::text::{Taken, metrics_text};
+use crate::families::{Taken, metrics_text};
 use disk_model::Disk;
 use exec_faults::Fault;
 use exec_journal::Journal;
@@ -32,9 +30,8 @@ fn write_metrics<W: Write>(
     taken: &Taken,
     state: &State,
 ) -> Result<(), Fault>
-    ensures written { IsWritten (metrics_text taken.now.moment taken.now.measured.size
-        (count_at taken.now.measured.counts.entries) (recorded_at taken.now.measured.recorded.entries)
-        state.now.state)
+    ensures written { IsWritten
+        (GoesOn (journal_families (measure_of taken.now) state.now.state) [])
         (W.contents writer.old) (W.contents writer.new) result }
     ensures memory { IfErr result (HasCause ⟦<Global as Grows>⟧.refuses) }
 {

@@ -22,6 +22,7 @@ mod part_file;
 mod ram;
 mod record;
 mod trust;
+mod written;
 
 pub use directory::is_held;
 pub use disk::FileDisk;
@@ -36,3 +37,4 @@ pub use look::read_parts;
 pub use part_file::OWNER_ONLY;
 pub use ram::RamDisk;
 pub use trust::{Distrust, Owners};
+pub use written::WriteMarks;

@@ -1,9 +1,11 @@
 //! The journal of a directory, without its agents: how its files are opened or refused, and how it is printed.
 #![tactic(auto)]
 
+mod bytes;
 mod emptied;
 mod files;
 mod follow;
+mod headings;
 mod identity;
 mod log;
 mod log_ends;
@@ -14,6 +16,7 @@ mod reasons;
 mod registration;
 mod run_reasons;
 mod screen;
+mod shared_log;
 mod show;
 mod status;
 mod waits;
@@ -23,5 +26,5 @@ pub use emptied::not_emptied;
 pub use files::{FaultForm, found, open_files, report_device, told};
 pub use identity::settled_identity;
 pub use registration::{RegisteredResource, registered};
-pub use run_reasons::reason_of_run;
+pub use run_reasons::{reason_in_directory, reason_in_file};
 pub use show::{show_files, show_on};

@@ -4,7 +4,7 @@ use ocf_types::RscId;
 use process_ends::System;
 use status_report::Remark;
 use std::alloc::{AllocError, Global};
-use std::fs::{self, OpenOptions};
+use std::fs::{self, Metadata, OpenOptions};
 use std::io::{self, ErrorKind};
 use std::os::unix::fs::FileExt;
 use std::str::from_utf8;
@@ -49,11 +49,23 @@ pub struct LogTail {
     pub is_whole: bool,
 }
 
-/// The end of the file at this path. It fails if there is no file, or something that is not a plain file.
-pub fn tail_at(rt: &HostRuntime, path: &str) -> io::Result<LogTail> {
-    if !fs::symlink_metadata(rt, path)?.is_file() {
-        return Err(io::Error::new(ErrorKind::InvalidInput, "not a plain file"));
+// Fails if this is not a plain file.
+fn must_be_plain(found: &Metadata) -> io::Result<()> {
+    if found.is_file() {
+        return Ok(());
     }
+    Err(io::Error::new(ErrorKind::InvalidInput, "not a plain file"))
+}
+
+/// The end of the file at this path. It fails if there is no file, or something that is not a plain file, as a link.
+pub fn tail_at(rt: &HostRuntime, path: &str) -> io::Result<LogTail> {
+    must_be_plain(&fs::symlink_metadata(rt, path)?)?;
+    followed_tail(rt, path)
+}
+
+/// The end of the file to which this path leads. It fails if there is no file, or something that is not a plain file.
+pub fn followed_tail(rt: &HostRuntime, path: &str) -> io::Result<LogTail> {
+    must_be_plain(&fs::metadata(rt, path)?)?;
     let mut options = OpenOptions::new();
     let file = options.read(true).open(rt, path)?;
     let size = file.metadata()?.len();

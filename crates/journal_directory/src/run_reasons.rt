@@ -1,65 +1,93 @@
-//! The reason for the failure of one run, as its agent wrote it to its log.
-ghost use Rattle.std.specs.Prelude.{◌<◌, length, IfSome};
-
-use crate::reasons::{log_of, tail_at};
+//! The reason for the failure of one run, as its agent wrote it to a log.
+use crate::bytes::{around_first, around_last};
+use crate::headings::BEGINS;
+use crate::reasons::{LogTail, followed_tail, log_of, tail_at};
+use crate::shared_log::SharedLog;
 use exit_reasons::{Tail, last_reason};
-use ocf_types::Notice;
+use ocf_types::RscId;
 use std::alloc::Global;
 use std::io;
 
-// How the line goes on, after its moment and the call, that is written before the output of a run.
-const BEGINS: &str = " begins as run ";
-
-// The offset at which these bytes last begin.
-fn last_of(bytes: &[u8], wanted: &[u8]) -> Option<usize>
-    ensures { IfSome result (λ at. at < length bytes.now) }
-{
-    for at in (0..bytes.len()).rev() {
-        if bytes[at..].starts_with(wanted) {
-            return Some(at);
-        }
-    }
-    None
-}
-
-// The offset at which these bytes first begin.
-fn first_of(bytes: &[u8], wanted: &[u8]) -> Option<usize>
-    ensures { IfSome result (λ at. at < length bytes.now) }
-{
-    for at in 0..bytes.len() {
-        if bytes[at..].starts_with(wanted) {
-            return Some(at);
-        }
-    }
-    None
-}
-
 // What the agent of a run wrote, from the end of the line before it up to the line before the output of the next run, if there is one.
 fn output_of<'a>(log: &'a [u8], heading: &[u8]) -> Option<&'a [u8]> {
-    let begun = last_of(log, heading)?;
-    let line = first_of(&log[begun..], b"\n")?;
-    let output = &log[begun + line..];
-    match first_of(output, BEGINS.as_bytes()) {
-        Some(end) => Some(&output[..end]),
+    let (_, begun) = around_last(log, heading)?;
+    let (_, output) = around_first(begun, b"\n")?;
+    match around_first(output, BEGINS.as_bytes()) {
+        Some((before, _)) => Some(before),
         None => Some(output),
     }
 }
 
-// The last reason that the agent of this run wrote to its log in this directory.
-fn found(rt: &HostRuntime, directory: &str, notice: &Notice) -> io::Result<Option<Vec<u8>>> {
-    let log = tail_at(rt, log_of(rt, directory, &notice.id)?.as_str())?;
-    let heading = format!(in rt.alloc(); "{BEGINS}{}: ", notice.result.run)?;
-    let Some(bytes) = output_of(log.bytes.as_slice(), heading.as_bytes()) else {
+// The last reason that the agent of this run wrote to the log of its resource in this directory.
+fn found_in(
+    rt: &HostRuntime,
+    directory: &str,
+    id: &RscId,
+    run: u64,
+) -> io::Result<Option<Vec<u8>>> {
+    let log = tail_at(rt, log_of(rt, directory, id)?.as_str())?;
+    let heading = format!(in rt.alloc(); "{BEGINS}{run}: ")?;
+    let Some(output) = output_of(log.bytes.as_slice(), heading.as_bytes()) else {
         return Ok(None);
     };
     let tail = Tail {
-        bytes,
-        is_whole: false,
+        bytes: output,
+        is_whole: true,
     };
     Ok(last_reason(rt.alloc(), &tail)?)
 }
 
-/// The last reason that the agent of this run wrote to its log in this directory, if the log can be read and has it.
-pub fn reason_of_run(rt: &HostRuntime, directory: &str, notice: &Notice) -> Option<Vec<u8>> {
-    found(rt, directory, notice).unwrap_or(None)
+// The whole lines of the end of a log.
+fn lines_of(log: &LogTail) -> &[u8] {
+    let bytes = log.bytes.as_slice();
+    if log.is_whole {
+        return bytes;
+    }
+    match around_first(bytes, b"\n") {
+        Some((_, lines)) => lines,
+        None => &[],
+    }
+}
+
+// The last reason that the agent of this run wrote to a log of all resources, as far as the log says who wrote it.
+fn found_at(
+    rt: &HostRuntime,
+    path: &str,
+    run: u64,
+    oldest: Option<u64>,
+) -> io::Result<Option<Vec<u8>>> {
+    let log = followed_tail(rt, path)?;
+    let mut shared = SharedLog::new(rt.alloc(), run);
+    for line in lines_of(&log).split(|byte| *byte == b'\n') {
+        shared.read(line)?;
+    }
+    let Some(line) = shared.last(oldest) else {
+        return Ok(None);
+    };
+    let tail = Tail {
+        bytes: line,
+        is_whole: true,
+    };
+    Ok(last_reason(rt.alloc(), &tail)?)
+}
+
+/// The last reason that the agent of this run wrote to the log of its resource in this directory, if the log can be read and has it.
+pub fn reason_in_directory(
+    rt: &HostRuntime,
+    directory: &str,
+    id: &RscId,
+    run: u64,
+) -> Option<Vec<u8>> {
+    found_in(rt, directory, id, run).unwrap_or(None)
+}
+
+/// The last reason that the agent of this run wrote to the log of all resources at this path, if the log can be read and has it in a
+/// line that no other run can have written. This is the oldest run that has not ended by now.
+pub fn reason_in_file(
+    rt: &HostRuntime,
+    path: &str,
+    run: u64,
+    oldest: Option<u64>,
+) -> Option<Vec<u8>> {
+    found_at(rt, path, run, oldest).unwrap_or(None)
 }

@@ -1,5 +1,4 @@
 //! Prints a journal.
-ghost use Rattle.std.specs.Prelude.{◌≡◌};
 ghost use Rattle.exec_faults.specs.Faults.{IsRunEnd};
 ghost use Rattle.journal_directory.specs.Ends.{IsDirectoryEnd, IsNotFound};
 

@@ -1,6 +1,6 @@
 -- Conditions of resources, computed on examples.
 use Rattle.std.proofs.Common.{◌≡◌, ℕ, ◌*◌, true, false, List, [], ◌∷◌, ◌++◌, Option, Some, None, refl}
-use Rattle.std.specs.Prelude.{codes, replicate}
+use Rattle.std.specs.Prelude.{replicate}
 use Rattle.ocf_types.specs.Resource.{History}
 use Rattle.ocf_types.specs.declared.action.Action.{Action}
 use Rattle.ocf_types.specs.declared.action.Action.TheVariants as action
@@ -9,9 +9,10 @@ use Rattle.ocf_types.specs.declared.outcome.Outcome.{Outcome}
 use Rattle.ocf_types.specs.declared.outcome.Outcome.TheVariants.{Run, Interrupted, Dropped, Cancelled}
 use Rattle.ocf_types.specs.declared.outcome.RunEnd.TheVariants.{Done, TimedOut, Signaled, Lost, NotStarted}
 use Rattle.ocf_types.specs.declared.outcome.StartFault.TheVariants.{Missing}
-use Rattle.resource_condition.specs.Conditions.{condition_of, known_of}
+use Rattle.resource_condition.specs.Conditions.{condition_of, held_in, known_of, since_by}
 use Rattle.resource_condition.specs.declared.condition.Condition.{Condition}
 use Rattle.resource_condition.specs.declared.condition.Condition.TheVariants.{NeverRun, Started, Promoted, Stopped, Failed, Unknown}
+use Rattle.resource_condition.specs.declared.condition.Since.{Since}
 
 -- the result of run n of an action, which ended at n seconds
 abbrev result : ℕ → Action → Outcome → Ended
@@ -91,3 +92,14 @@ since_change : known_of (started ++ result 2 action.Monitor (code 7) ∷ result 
     ≡ Some (record { condition = Stopped; since = 2000; run = 9; up = 1; changed = true })
 unfolding started
 since_change = refl
+
+-- a resource that failed and was then stopped has failed since the failure; one that a monitor found stopped since the first that did
+abbrev since_then : Ended → List Ended → Option Since
+since_then e es = since_by (held_in (history (started ++ e ∷ es) (Some e))) (Some e)
+
+since_failure : (since_then (result 2 action.Start (code 1)) (result 5 action.Stop (code 0) ∷ []) ≡ Some (record { moment = 2000; at_least = false }))
+    × (since_then (result 2 action.Monitor (code 7)) (result 5 action.Stop (code 0) ∷ []) ≡ Some (record { moment = 2000; at_least = false }))
+    × (since_then (result 2 action.Stop (code 1)) (result 5 action.Stop (code 0) ∷ []) ≡ Some (record { moment = 5000; at_least = false }))
+    × (since_then (result 2 action.Start (code 1)) (result 5 action.Start (code 0) ∷ []) ≡ Some (record { moment = 5000; at_least = false }))
+unfolding started
+since_failure = (refl, refl, refl, refl)

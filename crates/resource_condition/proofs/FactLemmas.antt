@@ -1,14 +1,10 @@
 -- What facts hold of each resource, with one more fact.
-use Rattle.std.proofs.Common.{◌≡◌, ℕ, ◌+◌, ◌<◌, Bool, true, false, cond, List, [], ◌∷◌, ◌++◌, Option, Some, None, length, take, refl, sym, ap, ◌∙◌}
-use Rattle.std.specs.Prelude.{fold, map, unwrap_or, option_and_then, option_map, option_to_list}
-use Rattle.std.specs.List.{flat_map}
+use Rattle.std.proofs.Common.{◌≡◌, ℕ, ◌+◌, Bool, true, false, cond, List, [], ◌∷◌, ◌++◌, Option, Some, None, refl, sym, ap, ◌∙◌}
+use Rattle.std.specs.Prelude.{fold, unwrap_or, option_and_then, option_map, option_to_list}
 use Rattle.std.specs.Map.{lookup}
 use Rattle.std.specs.Str.{bytes_eq}
-use Rattle.std.proofs.lemmas.List.{append-nil, append_assoc, take_more}
-use Rattle.std.proofs.lemmas.List.Concat.{flat_map-append, flat_map-cons}
 use Rattle.std.proofs.lemmas.Slice.Eq.{bytes_eq-Decides}
-use Rattle.ocf_types.specs.Kinds.{Change, Event}
-use Rattle.ocf_types.specs.Indexes.{entry_at, no_entry}
+use Rattle.ocf_types.specs.Kinds.{Event}
 use Rattle.ocf_types.specs.Resource.{Resource, ended_of}
 use Rattle.ocf_types.specs.State.{State, after, after_all}
 use Rattle.ocf_types.specs.declared.operation.Ended.{Ended as Result}
@@ -57,15 +53,6 @@ pub inserted : (q id key : List ℕ) (old mid new : List (List ℕ × Recorded))
 inserted q id key old mid new next value grown same taken is =
     is ∙ (λ i. cond (bytes_eq (same i) q) (Some (taken i)) (lookup (bytes_eq q) (grown i)))
 
--- the facts of resources, and of one more
-pub facts_more : (f : List ℕ × Resource → List FactOf) (s : State) (i : ℕ) (prefix : List FactOf) → i < length s.resources
-    → (prefix ++ flat_map f (take i s.resources)) ++ f (entry_at s i) ≡ prefix ++ flat_map f (take (i + 1) s.resources)
-facts_more f s i prefix lt =
-    let es = take i s.resources in
-    let one : flat_map f (entry_at s i ∷ []) ≡ f (entry_at s i) = flat_map-cons f (entry_at s i) [] ∙ append-nil (f (entry_at s i)) in
-    let all = ap (flat_map f) (take_more s.resources i no_entry lt) ∙ flat_map-append f es (entry_at s i ∷ []) in
-    append_assoc prefix (flat_map f es) (f (entry_at s i)) ∙ ap (λ t. prefix ++ t) (sym (all ∙ ap (λ t. flat_map f es ++ t) one))
-
 -- the fact that an event ends the running action of a resource with this outcome
 pub ended_one : (v : Event) (e : List ℕ × Resource) (id : List ℕ) (outcome : Outcome) (x : Running) (r : Result) → id ≡ e.0
     → end_of v.change id ≡ Some outcome → e.1.history.running ≡ Some x → r ≡ ended_of outcome v.at x
@@ -76,6 +63,12 @@ ended_one v e id outcome x r same ends runs is =
     ∙ ap (λ o. option_to_list (option_map (λ (z : Running). fact_of e.0 (Ended (ended_of outcome v.at z))) o)) runs
     ∙ ap (λ (i : List ℕ). fact_of i (Ended (ended_of outcome v.at x)) ∷ []) (sym same)
     ∙ ap (λ (z : Result). fact_of id (Ended z) ∷ []) (sym is)
+
+-- no fact of a resource whose running action the event does not end
+pub ended_none : (v : Event) (e : List ℕ × Resource) → end_of v.change e.0 ≡ None → ended_facts v e ≡ []
+ended_none v e ends =
+    ap (λ o. option_to_list (option_and_then (λ (y : Outcome). option_map (λ (z : Running). fact_of e.0 (Ended (ended_of y v.at z))) e.1.history.running) o))
+    ends
 
 -- the facts after one more event
 pub since_more : (s : State) (facts : List FactOf) (vs : List Event) (v : Event)

@@ -1,12 +1,11 @@
 -- What the condition of a resource never is.
-use Rattle.std.proofs.Common.{◌≡◌, ℕ, ◌<◌, ◌≤◌, ◌==◌, Bool, true, false, cond, not, ◌&&◌, List, [], ◌∷◌, ◌++◌, Option, Some, None, refl, sym, ap, subst, ◌∙◌, arith, eqb-true}
+use Rattle.std.proofs.Common.{◌≡◌, ℕ, ◌<◌, ◌≤◌, ◌==◌, Bool, true, false, cond, List, [], ◌∷◌, ◌++◌, Option, Some, None, refl, sym, subst, arith, eqb-true}
 use Rattle.std.specs.Prelude.{⊤, fold, nat_lt}
 use Rattle.std.proofs.lemmas.Bool.{false_from_ne_true, le-ltb, lt-ltb}
 use Rattle.std.specs.List.{AllByRecursion}
 use Rattle.ocf_types.specs.declared.operation.Ended.{Ended}
 use Rattle.resource_condition.specs.Conditions.{after, condition_by, given_up, is_bad, is_stop, is_up, judged, known_of, lasts, shown_by, up_in, worsened, written_by}
 use Rattle.resource_condition.specs.Laws.{DownIsBad, FailedIsBad, IsDown, IsGoodAfter, IsOver, IsStarted, ShowsBad, ShowsDown, ShowsGood, ShowsNone, StartedIsWell}
-use Rattle.resource_condition.specs.Laws.{recorded_by}
 use Rattle.resource_condition.specs.declared.condition.Condition.{Condition}
 use Rattle.resource_condition.specs.declared.condition.Condition.TheVariants.{NeverRun, Started, Promoted, Stopped, Failed, Unknown}
 use Rattle.resource_condition.specs.declared.condition.Known.{Known}

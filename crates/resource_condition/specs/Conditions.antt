@@ -1,5 +1,5 @@
 -- The condition of a resource, by its last results: OCF Resource Agent API 1.1, actions and exit codes.
-use Rattle.std.specs.Prelude.{ℕ, ◌==◌, ◌&&◌, ◌||◌, not, nat_le, nat_lt, Bool, true, false, List, length, fold, if◌then◌else◌, Option, Some, None}
+use Rattle.std.specs.Prelude.{ℕ, ◌==◌, ◌&&◌, ◌||◌, min, not, nat_le, nat_lt, Bool, true, false, List, length, fold, if◌then◌else◌, Option, Some, None}
 use Rattle.std.specs.Prelude.{codes, option_map}
 use Rattle.std.specs.Option.{option_map_or}
 use Rattle.std.specs.Str.{bytes_eq}
@@ -121,6 +121,10 @@ abbrev pub worsened : Condition → Condition
 worsened Unknown = Unknown
 worsened _ = Failed
 
+abbrev pub is_stopped : Condition → Bool
+is_stopped Stopped = true
+is_stopped _ = false
+
 -- a condition, where a failure lasts: a resource that was stopped after it has failed
 abbrev pub given_up : Condition → Condition
 given_up Stopped = Failed
@@ -143,9 +147,18 @@ condition_untold cut = if cut then Unknown else NeverRun
 abbrev pub condition_by : Recorded → Option Ended → Condition
 condition_by r failed = option_map_or (λ k. judged k failed) r.known (condition_untold r.cut)
 
+-- the resource was stopped, and has failed since a failure that lasts
+abbrev pub is_given_up : Known → Ended → Bool
+is_given_up k e = is_stopped k.condition && lasts k e
+
+-- since when the condition holds, by the last failure: that of a resource that was stopped after it since the failure
+abbrev pub since_judged : Known → Option Ended → ℕ
+since_judged k None = k.since
+since_judged k (Some e) = if is_given_up k e then min e.at k.since else k.since
+
 -- since when the condition of a resource holds: exactly, or at least where results were dropped and none shows another condition
-abbrev pub since_by : Recorded → Option Since
-since_by r = option_map (λ k. record { moment = k.since; at_least = r.cut && not k.changed }) r.known
+abbrev pub since_by : Recorded → Option Ended → Option Since
+since_by r failed = option_map (λ k. record { moment = since_judged k failed; at_least = r.cut && not k.changed }) r.known
 
 -- what a history holds of its resource; a history this long may have dropped results
 abbrev pub held_in : History → Recorded
@@ -154,3 +167,7 @@ held_in h = record { known = known_of h.ended; cut = nat_le (kept_in First) (len
 -- the condition of a resource, by its history alone
 abbrev pub condition_of : History → Condition
 condition_of h = condition_by (held_in h) h.failed
+
+-- since when the condition of a resource holds, by its history alone
+abbrev pub since_of : History → Option Since
+since_of h = since_by (held_in h) h.failed

@@ -1,8 +1,8 @@
 //! The condition of a resource, by its last results.
-ghost use Rattle.std.specs.Prelude.{◌≡◌, ◌<◌, length};
+ghost use Rattle.std.specs.Prelude.{◌≡◌, ◌<◌, length, min};
 ghost use Rattle.ocf_types.specs.Indexes.{at_index};
 ghost use Rattle.resource_condition.specs.Conditions.{after, changed_in, condition_by, condition_of, condition_untold, condition_word, given_up};
-ghost use Rattle.resource_condition.specs.Conditions.{found_by, held_in, is_bad, is_same, judged, known_of, lasts, left_by, since_by, since_in, up_in, written_by};
+ghost use Rattle.resource_condition.specs.Conditions.{found_by, held_in, is_bad, is_given_up, is_same, judged, known_of, lasts, left_by, since_by, since_in, since_judged, since_of, up_in, written_by};
 ghost use Rattle.resource_condition.specs.Conditions.{written_by_code, worsened};
 
 use exec_state::State;
@@ -271,13 +271,38 @@ pub fn condition_by(recorded: &Recorded, failed: Option<Ended>) -> Condition
     }
 }
 
-/// Since when the condition of a resource holds, if a result shows one.
-pub fn since_by(recorded: &Recorded) -> Option<Since>
-    ensures { result ≡ since_by recorded.now }
+// Whether the resource was stopped, and has failed since a failure that lasts.
+fn is_given_up(known: &Known, failed: &Ended) -> bool
+    ensures { result ≡ is_given_up known.now failed.now }
+{
+    matches!(known.condition, Condition::Stopped) && lasts(known, failed)
+}
+
+// The earlier one of two moments.
+fn earlier(first: Moment, second: Moment) -> Moment
+    ensures { result ≡ min first second }
+{
+    if second < first { second } else { first }
+}
+
+// Since when the condition holds, by the last failure.
+fn since_judged(known: &Known, failed: Option<Ended>) -> Moment
+    ensures { result ≡ since_judged known.now failed }
+{
+    match failed {
+        Some(failed) if is_given_up(known, &failed) => earlier(failed.at, known.since),
+        _ => known.since,
+    }
+}
+
+/// Since when the condition of a resource holds, if a result shows one, by its last failure: a resource that was stopped after it failed
+/// has failed since then.
+pub fn since_by(recorded: &Recorded, failed: Option<Ended>) -> Option<Since>
+    ensures { result ≡ since_by recorded.now failed }
 {
     let known = recorded.known?;
     Some(Since {
-        moment: known.since,
+        moment: since_judged(&known, failed),
         at_least: recorded.cut && !known.changed,
     })
 }
@@ -299,4 +324,12 @@ pub fn condition_of(state: &State, index: usize) -> Condition
     ensures { result ≡ condition_of (at_index state.now.state index).history }
 {
     condition_by(&held_in(state, index), state.failed_at(index))
+}
+
+/// Since when the condition of a resource holds, by its history alone.
+pub fn since_of(state: &State, index: usize) -> Option<Since>
+    requires { index < length state.now.state.resources }
+    ensures { result ≡ since_of (at_index state.now.state index).history }
+{
+    since_by(&held_in(state, index), state.failed_at(index))
 }

@@ -1,5 +1,5 @@
 //! What the events of a journal's records hold of each resource.
-ghost use Rattle.std.specs.Prelude.{◌≡◌, ◌<◌, ◌++◌, ◌∷◌, [], List, ℕ, length, IfOk, IsTrue, OnErr, OnOk};
+ghost use Rattle.std.specs.Prelude.{◌≡◌, ◌<◌, ◌++◌, ◌∷◌, [], List, length, IfOk, IsTrue, OnErr, OnOk};
 ghost use Rattle.std.specs.List.{flat_map};
 ghost use Rattle.ocf_types.specs.Indexes.{entry_at};
 ghost use Rattle.ocf_types.specs.Resource.{ended_of};
@@ -11,7 +11,7 @@ use exec_state::State;
 use growth::Grows;
 use indexmap::IndexMap;
 use ocf_types::{Change, Ended, Event, Moment, Outcome, Params, RscId, Running, StateView, Step};
-use run_counts::end_of;
+use run_counts::{end_of, ending};
 use std::alloc::{AllocError, Global};
 
 /// What the records hold of each resource, by its id.
@@ -146,7 +146,8 @@ fn take_ended(recorded: &mut RecordedById, state: &State, event: &Event) -> Resu
         (facts ++ flat_map (ended_facts event.now) state.now.state.resources)) }
     ensures memory { OnErr result (IsTrue ⟦<Global as Grows>⟧.refuses) }
 {
-    for index in 0..state.len() {
+    let (from, to) = ending(state, &event.change);
+    for index in from..to {
         take_index(recorded, state, event, index)?;
     }
     Ok(())

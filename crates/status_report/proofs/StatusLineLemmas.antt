@@ -1,5 +1,5 @@
 -- The lines of a status, for a program.
-use Rattle.std.proofs.Common.{◌≡◌, ℕ, Bool, false, List, Option, Some, None, refl}
+use Rattle.std.proofs.Common.{◌≡◌, Bool, false, Option, Some, None, refl}
 use Rattle.std.specs.Prelude.{option_map}
 use Rattle.serde_json.specs.Written.{has_float}
 use Rattle.ocf_types.specs.declared.operation.Running.{Running}

@@ -3,7 +3,6 @@ use Rattle.std.proofs.Common.{◌≡◌, inl, inr, ℕ, ◌++◌, ◌&&◌, Bool
 use Rattle.std.specs.Io.KnownBytes.{Appends}
 use Rattle.std.proofs.KnownBytes.{Appends-trans}
 use Rattle.ocf_types.specs.State.{State}
-use Rattle.disk_model.specs.Image.{Image}
 use Rattle.disk_model.specs.Disk.{DiskView}
 use Rattle.exec_journal.specs.Found.{FoundAs}
 use Rattle.exec_journal.specs.Opening.{FailsToOpen, OpensAt}

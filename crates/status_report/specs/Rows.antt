@@ -1,5 +1,5 @@
 -- What is shown of each resource, and how a status ends.
-use Rattle.std.specs.Prelude.{◌≡◌, ◌==◌, ℕ, Bool, true, false, ◌&&◌, ◌||◌, not, List, [], ◌∷◌, map, length, Option, Some, None}
+use Rattle.std.specs.Prelude.{◌==◌, ℕ, Bool, false, ◌&&◌, ◌||◌, not, List, map, length, Option, Some, None}
 use Rattle.std.specs.List.{list_any}
 use Rattle.std.specs.Borrow.{Bor}
 use Rattle.std.specs.Str.{bytes_eq}
@@ -34,7 +34,7 @@ row_of options recorded e = record {
   id = e.0;
   is_shown = is_shown options e.0 (condition_in recorded e);
   condition = condition_in recorded e;
-  since = since_by (recorded_at recorded e.0);
+  since = since_by (recorded_at recorded e.0) e.1.history.failed;
   running = e.1.history.running;
   queued = length e.1.history.queue;
   failed = e.1.history.failed;

@@ -1,6 +1,5 @@
 //! The lines below a resource's row: what it waits for, its last results, its monitors, its last failure and its history.
 ghost use Rattle.std.specs.Prelude.{◌<◌, length};
-ghost use Rattle.ocf_types.specs.Indexes.{at_index};
 
 use crate::history::add_history;
 use crate::options::StatusOptions;

@@ -1,5 +1,5 @@
 //! How a status ends: well, or because a resource is not registered or needs attention, or because no executor has the journal.
-ghost use Rattle.std.specs.Prelude.{◌≡◌, ◌<◌, false, length, slice_get, true, IfNone, IfSome, Some};
+ghost use Rattle.std.specs.Prelude.{◌≡◌, ◌<◌, false, length, true, IfNone, IfSome, Some};
 ghost use Rattle.ocf_types.specs.Indexes.{id_at};
 ghost use Rattle.status_report.specs.Endings.{AllRegistered, IsMissed, IsRegistered, end_of};
 ghost use Rattle.status_report.specs.Rows.{is_any_bad};

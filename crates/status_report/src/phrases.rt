@@ -3,10 +3,10 @@ use crate::options::StatusOptions;
 use crate::rows::Row;
 use line_text::LineText;
 use log_lines::add_moment;
-use ocf_codes::code_of;
+use ocf_codes::{code_of, name_of};
 use ocf_types::{Action, Ended, Millis, Moment, Outcome, Running};
 use resource_condition::{Condition, Since};
-use resource_status::{Tone, code_name, failure_meaning, meaning, tone_of};
+use resource_status::{Tone, failure_meaning, meaning, tone_of};
 use std::alloc::Global;
 
 // A moment that is ahead by less counts as now, since the two clocks are read one after the other. In milliseconds.
@@ -170,7 +170,7 @@ pub(crate) fn add_result(
 // Appends the name and the number of the exit code of an outcome.
 fn add_code(line: &mut LineText, outcome: Outcome) {
     line.text(" (");
-    line.text(code_name(outcome));
+    line.text(name_of(outcome));
     line.text(", ");
     line.number(u64::from(code_of(outcome)));
     line.text("), ");

@@ -1,5 +1,5 @@
 //! What is shown of each resource.
-ghost use Rattle.std.specs.Prelude.{◌≡◌, ◌<◌, length, map, IfOk, IsTrue, OnErr};
+ghost use Rattle.std.specs.Prelude.{◌≡◌, ◌<◌, length, IfOk, IsTrue, OnErr};
 ghost use Rattle.ocf_types.specs.Indexes.{entry_at};
 ghost use Rattle.status_report.specs.Rows.{is_shown, row_of, rows_of};
 
@@ -48,7 +48,7 @@ fn row_of(options: &StatusOptions, recorded: &RecordedById, state: &State, index
         id: id.copied(),
         is_shown: is_shown(options, id, condition),
         condition,
-        since: since_by(&held),
+        since: since_by(&held, state.failed_at(index)),
         running: state.running_at(index),
         queued: state.queue_len(index),
         failed: state.failed_at(index),

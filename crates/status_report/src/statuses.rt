@@ -1,6 +1,5 @@
 //! The status of a journal.
-ghost use Rattle.std.specs.Prelude.{◌≡◌, ⊤, IsErrOf, IfErr, IsTrue, OnErr, OnOk};
-ghost use Rattle.std.specs.Io.KnownBytes.{Appends};
+ghost use Rattle.std.specs.Prelude.{⊤, IsErrOf, IfErr};
 ghost use Rattle.ocf_types.specs.State.{State as PlainState};
 ghost use Rattle.disk_model.specs.Disk.{Increased};
 ghost use Rattle.exec_journal.specs.Found.{FoundAs};

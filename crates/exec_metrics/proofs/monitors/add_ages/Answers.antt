@@ -13,4 +13,4 @@ loop-at-preserved c =
     let one : monitor_age c.id_at.result.now m c.age-seconds.result ≡ f m =
     ap₂ (λ i l. monitor_age i m l) c.id_at.ensures (c.age-seconds.ensures ∙ ap (age c.args.now) c.last_run.ensures)
     in
-    c.in_ok-add_age.ensures.added ∙ ap₂ (λ t u. t ++ u) c.loop-at.invariant one ∙ lines_more f r.recurring c.loop-at.at m _ c.recurring_at-recur.ensures
+    c.add_age.ensures ∙ ap₂ (λ t u. t ++ u) c.loop-at.invariant one ∙ lines_more f r.recurring c.loop-at.at m _ c.recurring_at-recur.ensures

@@ -13,4 +13,4 @@ loop-at-preserved c =
     let one : monitor_code c.id_at.result.now m c.last_run-last.result ≡ f m =
     ap₂ (λ i l. monitor_code i m l) c.id_at.ensures c.last_run-last.ensures
     in
-    c.in_ok-add_code.ensures.added ∙ ap₂ (λ t u. t ++ u) c.loop-at.invariant one ∙ lines_more f r.recurring c.loop-at.at m _ c.recurring_at-recur.ensures
+    c.add_code.ensures ∙ ap₂ (λ t u. t ++ u) c.loop-at.invariant one ∙ lines_more f r.recurring c.loop-at.at m _ c.recurring_at-recur.ensures

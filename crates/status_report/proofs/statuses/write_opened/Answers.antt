@@ -1,5 +1,4 @@
 use Rattle.std.proofs.Common.{Err, ap, sym, subst}
-use Rattle.exec_journal.specs.Journal.{journal_disk, journal_position}
 use Rattle.exec_faults.specs.declared.fault.Fault.{Fault}
 use Rattle.status_report.specs.Endings.{WritesAs}
 use Rattle.status_report.proofs.WrittenLemmas.{quiet, writes_opened, writes_unopened}
@@ -10,7 +9,7 @@ returns-in-Ok-clause-written g c =
     let view = g.D.Disk.view in
     let contents = g.W.Write.contents in
     writes_opened c.args.options.now c.args.recorded.now.entries (contents c.args.writer.now) (contents c.write_status-ended.new.writer)
-    (journal_position c.in-Ok.journal) c.in-Ok.state.state (view c.args.disk) (view (journal_disk c.in-Ok.journal)) (view c.into_disk.result)
+    c.in-Ok.journal.position c.in-Ok.state.state (view c.args.disk) (view c.in-Ok.journal.disk) (view c.into_disk.result)
     c.write_status-ended.result c.in-Ok.ensures.opened c.requires.recorded c.write_status-ended.ensures.written (ap view c.into_disk.ensures.value)
 
 pub returns-in-Ok-clause-ends : goal.returns-in-Ok-clause-ends

@@ -1,0 +1,13 @@
+use Rattle.std.proofs.Common.{[], ◌∷◌}
+use Rattle.exec_metrics.specs.Metrics.{family_of, measure_of}
+use Rattle.exec_metrics.specs.declared.family.Family.TheVariants as family
+use Rattle.exec_metrics.proofs.FamilyLemmas.{joined}
+use Rattle.exec_metrics.proofs.families.add_journal.Goals as goal
+
+pub returns : goal.returns
+returns c =
+    let f = family_of (measure_of c.args.taken.now) c.args.state.now.state in
+    joined (f family.Epoch ∷ []) (f family.Bytes ∷ f family.Calls ∷ f family.Runs ∷ f family.Resources ∷ []) _ _ _ c.add_family.ensures
+    (joined (f family.Bytes ∷ []) (f family.Calls ∷ f family.Runs ∷ f family.Resources ∷ []) _ _ _ c.add_family-2.ensures
+    (joined (f family.Calls ∷ []) (f family.Runs ∷ f family.Resources ∷ []) _ _ _ c.add_family-3.ensures
+    (joined (f family.Runs ∷ []) (f family.Resources ∷ []) _ _ _ c.add_family-4.ensures c.add_family-5.ensures)))
