@@ -35,7 +35,8 @@ mutants:
 bench:
 	@bench/rates.sh
 
-# Draws docs/pictures/performance.svg from one run of the comparison with pacemaker-execd and the floor; nothing else should run meanwhile.
+# Draws docs/pictures/performance.svg from one run of the comparison with pacemaker-execd and the floor, and keeps what it draws of the figures
+# beside it, as JSON; nothing else should run meanwhile.
 # It needs python3-matplotlib and the needs of bench/against_execd.sh. ROUNDS=1 is a trial, and the picture says so.
 plots: $(PROGRAM)
 	@figures=$$(mktemp) && FIGURES=$$figures bench/against_execd.sh $(PROGRAM) $(or $(ROUNDS),7) rates waits answers && \
@@ -50,10 +51,11 @@ costs:
 statement:
 	@docs/statement.py
 
-# Plays a history of thirty days on a simulated clock; `make check` plays one of a day. With REAL=1: the program itself serves real agents
-# for an hour, while it is killed and its disk fills.
-soak: $(if $(REAL),$(PROGRAM))
-	@$(if $(REAL),LENGTH=3600 tests/load/real_soak.py $(PROGRAM),DAYS=30 tests/crash/soak.py)
+# Plays thirty days on a simulated clock, twice: a history with a crash in each hour, of scripted agents and a disk in memory; and one
+# executor with 2,048 monitors, by the program itself with real agents. `make check` plays a day and two days of them. With REAL=1: the
+# program serves real agents for an hour, while it is killed and its disk fills.
+soak: $(PROGRAM)
+	@$(if $(REAL),LENGTH=3600 tests/load/real_soak.py $(PROGRAM),DAYS=30 tests/crash/soak.py && DAYS=30 tests/load/days.py $(PROGRAM))
 
 # Fuzzes each reader of bytes from outside for five minutes, two at a time. It needs the package afl++.
 fuzz:
@@ -72,6 +74,7 @@ install: $(PROGRAM) $(AGENTS) $(LAUNCHER) install-python
 	install -D examples/ocfctl.py $(DESTDIR)$(PREFIX)/bin/ocfctl
 	install -D -m 644 docs/ocfexec.8 $(DESTDIR)$(PREFIX)/share/man/man8/ocfexec.8
 	install -D -m 644 docs/ocfctl.8 $(DESTDIR)$(PREFIX)/share/man/man8/ocfctl.8
+	install -D -m 644 docs/ocfexec-client.8 $(DESTDIR)$(PREFIX)/share/man/man8/ocfexec-client.8
 	install -D -m 644 package/ocfctl.bash $(DESTDIR)$(PREFIX)/share/bash-completion/completions/ocfctl
 	install -d $(DESTDIR)$(PREFIX)/share/doc/ocfexec
 	install examples/client.py examples/client.sh examples/with-*.sh $(DESTDIR)$(PREFIX)/share/doc/ocfexec

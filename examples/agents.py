@@ -1,8 +1,9 @@
-"""Whether the agents of resources exist and have their parameters, by the metadata of the agents."""
+"""Whether the agents of resources exist, and have their parameters and actions, by the metadata of the agents."""
 from __future__ import annotations
 
 import difflib
 import xml.etree.ElementTree
+from dataclasses import dataclass
 from typing import Callable, Dict, FrozenSet, Iterator, List, Mapping, Optional, Sequence
 
 from ocfexec import NoMetadata
@@ -14,16 +15,26 @@ ANY = frozenset({"CRM_meta_interval", "CRM_meta_timeout", "CRM_meta_name", "trac
 ABSENT = {"missing": "there is no agent {agent}", "denied": "the agent {agent} may not be run"}
 # options of the executor that say where agents are and how they are run
 SITE = ("--root", "--via", "--path")
+# the action that a target needs
+NEEDED = {"promoted": "promote", "unpromoted": "demote"}
 
 
-def parameters_of(metadata: str) -> Optional[FrozenSet[str]]:
-    """The names of the parameters; None if it is no metadata of an agent."""
+@dataclass(frozen=True)
+class Said:
+    """The names of the parameters and actions of an agent, as its metadata say."""
+
+    parameters: FrozenSet[str]
+    actions: FrozenSet[str]
+
+
+def said_in(metadata: str) -> Optional[Said]:
+    """What metadata say; None if these are no metadata of an agent."""
     try:
         root = xml.etree.ElementTree.fromstring(metadata)
     except (xml.etree.ElementTree.ParseError, ValueError):
         return None
-    names = frozenset(one.get("name", "") for one in root.iter("parameter"))
-    return names if root.tag == "resource-agent" else None
+    parameters, actions = (frozenset(one.get("name", "") for one in root.iter(tag)) for tag in ("parameter", "action"))
+    return Said(parameters, actions) if root.tag == "resource-agent" else None
 
 
 class Agents:
@@ -31,7 +42,7 @@ class Agents:
 
     def __init__(self, ask: Callable[[str], str]) -> None:
         self.ask = ask
-        self._known: Dict[str, Optional[FrozenSet[str]]] = {}  # the parameters of each agent; None if it does not say them
+        self._known: Dict[str, Optional[Said]] = {}  # None of an agent that says nothing
         self._absent: Dict[str, str] = {}  # why an agent cannot be run
 
     def forget(self) -> None:
@@ -44,7 +55,7 @@ class Agents:
             return
         self._known[agent] = None
         try:
-            self._known[agent] = parameters_of(self.ask(agent))
+            self._known[agent] = said_in(self.ask(agent))
         except NoMetadata as error:
             if error.reason in ABSENT:
                 self._absent[agent] = ABSENT[error.reason].format(agent=agent)
@@ -54,14 +65,22 @@ class Agents:
         self._learn(agent)
         return self._known[agent] is None and agent not in self._absent
 
+    def lacks(self, agent: str, action: str) -> bool:
+        """Whether an agent says its actions, and this is none of them."""
+        self._learn(agent)
+        known = self._known[agent]
+        return known is not None and bool(known.actions) and action not in known.actions
+
     def faults(self, wanted: Wanted) -> Iterator[str]:
-        """What is wrong with the agent of a resource, or with its parameters; each text begins with the key."""
+        """What is wrong with the agent of a resource, or with its parameters or target; each text begins with the key."""
         self._learn(wanted.agent)
         if wanted.agent in self._absent:
             yield f"type: {self._absent[wanted.agent]}"
         known = self._known[wanted.agent]
-        for name in sorted(set(wanted.params) - known - ANY) if known is not None else ():
-            near = difflib.get_close_matches(name, known or (), 1)
+        if wanted.target in NEEDED and self.lacks(wanted.agent, NEEDED[wanted.target]):
+            yield f"target: {wanted.agent} has no action {NEEDED[wanted.target]}"
+        for name in sorted(set(wanted.params) - known.parameters - ANY) if known is not None else ():
+            near = difflib.get_close_matches(name, known.parameters if known else (), 1)
             yield f"params.{name}: {wanted.agent} has no such parameter" + (f"; it has {near[0]}" if near else "")
 
 

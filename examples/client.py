@@ -58,6 +58,7 @@ from output import ERROR, INFO, Systemd, say, standard  # noqa: E402
 from targets import Targets, Unusable  # noqa: E402
 
 FILE, GROUP = "/etc/ocfexec/resources.json", "ocfexec"
+MOST_FAULTS = 5  # of a file that are named
 PATIENCE, ASK_EVERY = 30, 5  # how long an answer is waited for, and how often one is asked for, in seconds
 OPENING = 10  # how many times the patience an opening may take
 # why a program cannot be started, now and later
@@ -101,7 +102,10 @@ class Client:
 
     def read(self) -> None:
         """Takes over what the file wants. A wrong file changes nothing. Raises Wrong, and OSError if it cannot be read."""
-        wanted = resources.read(self.file)
+        self.want(resources.read(self.file))
+
+    def want(self, wanted: Dict[str, resources.Wanted]) -> None:
+        """Takes over what a file wants."""
         self.has_named |= bool(wanted)
         self.agents.forget()
         with self.noting():
@@ -123,12 +127,27 @@ class Client:
         while self.changed:
             self.begin(self.changed.pop(0))
 
-    def read_again(self) -> None:
-        """Reads the file again, and says so. Raises as `read` does."""
+    def read_again(self, asks: bool = False) -> None:
+        """Reads the file again, and says so. If it asks the agents, a fault of one of them is one of the file. Raises as `read` does, and
+        Error if no agent can be asked."""
         self.is_ready = False
         self.systemd.notify("RELOADING=1", f"MONOTONIC_USEC={time.monotonic_ns() // 1000}")
-        self.read()
+        wanted = resources.read(self.file)
+        faults = self.faults(wanted) if asks and wanted else []
+        if faults:
+            more = f", and {len(faults) - MOST_FAULTS} more faults" if len(faults) > MOST_FAULTS else ""
+            raise resources.Wrong("; ".join(faults[:MOST_FAULTS]) + more)
+        self.want(wanted)
         say(f"{self.file} was read again")
+
+    def faults(self, wanted: Dict[str, resources.Wanted]) -> List[str]:
+        """What is wrong with the agents of a file. While no executor has the journal open, one without a journal asks them."""
+        if self.is_open():
+            self.agents.forget()
+            return all_faults(self.agents, wanted)
+        words = site_command(self.executor.command_line)
+        with Executor(words, patience=self.patience, idle=self.serve_questions) as executor:
+            return all_faults(Agents(lambda agent: self.metadata(agent, executor)), wanted)
 
     def reload(self) -> None:
         try:
@@ -213,12 +232,19 @@ class Client:
         """Whether an executor runs, and has opened the journal."""
         return self.has_opened and self.executor.is_running()
 
-    def metadata(self, agent: str) -> str:
-        """The metadata of an agent, which the executor answers."""
+    def metadata(self, agent: str, executor: Optional[Executor] = None) -> str:
+        """The metadata of an agent, which an executor answers."""
         try:
-            return self.executor.metadata(agent)
+            return (executor or self.executor).metadata(agent)
         finally:
             self.systemd.feed()
+
+    def lacks(self, agent: str, action: str) -> bool:
+        """Whether an agent says that it does not have this action. While it cannot be asked it is not known."""
+        try:
+            return self.is_open() and self.agents.lacks(agent, action)
+        except Error:  # an executor that has ended is found by the next call
+            return False
 
     def open(self) -> None:
         """Starts the executor, and continues with each resource of the file and of the journal."""

@@ -15,6 +15,8 @@ from targets import Targets, now
 UNPROMOTED, PROMOTED = (0, 190), (8, 191)  # the exit codes of a monitor that finds its resource running so
 RUNNING = UNPROMOTED + PROMOTED
 NOT_RUNNING = 7  # and cleanly stopped
+# what a monitor is expected to find after an action that still runs
+LEADS_TO = {"start": UNPROMOTED[0], "stop": NOT_RUNNING, "promote": PROMOTED[0], "demote": UNPROMOTED[0]}
 LONGEST = 60  # the longest pause, in seconds
 WATCH = "watch"
 NEVER = float("inf")
@@ -35,6 +37,17 @@ def described(result: Result) -> str:
         how = "ended" if result.outcome == "done" else "was not started,"
         return f"{result.action} {how} with {result.code} ({result.name})"
     return f"{result.action} was {result.outcome}"
+
+
+def expected_after(result: Result) -> int:
+    """The exit code that a monitor is expected to have after this result of a history. What was interrupted is likely to be done; what a
+    stop that failed left is likely to run."""
+    is_done = result.outcome == "interrupted" or (result.outcome, result.code) == ("done", 0)
+    if result.action == "stop":
+        return NOT_RUNNING if is_done else UNPROMOTED[0]
+    if result.action == "promote" and is_done or result.code in PROMOTED:
+        return PROMOTED[0]
+    return UNPROMOTED[0] if is_done or result.code in UNPROMOTED or result.action in ("promote", "demote") else NOT_RUNNING
 
 
 def found_running(result: Result) -> bool:
@@ -79,7 +92,8 @@ class Resource:
         self.held: Optional[int] = None  # a process of an interrupted action, until whose end nothing begins
         self.asked = ""  # restart or stop: what was requested by hand, until it is done
         self.orders = 0  # how many times something was requested by hand, or by a change of the file
-        self.is_promoted = self.is_down = self.wants_down = self.was_stopping = self.is_failing = False
+        self.was_doing: Optional[Dict[str, Any]] = None  # the action that the previous task waited for, until a result of this one
+        self.is_promoted = self.is_down = self.wants_down = self.is_failing = False
 
     # What it is to be, and what it is
 
@@ -401,16 +415,14 @@ class Resource:
             yield pause
 
     def probe(self) -> Dict[str, Any]:
-        """A monitor. It expects that the resource does not run, unless the results in the journal show that it did, or, after these were
+        """A monitor. It expects what the action that still runs leads to, or else the results in the journal, or, after these were
         forgotten, the monitors that only a running resource has."""
+        if self.was_doing and self.was_doing["action"] in LEADS_TO:
+            return self.action("monitor", expect=LEADS_TO[self.was_doing["action"]])
         found = [result for result in self.executor.history(self.name) if result.outcome not in ("dropped", "cancelled")]
         last = next((result for result in reversed(found) if (result.action, result.outcome) != ("monitor", "interrupted")), None)
-        runs = last is not None and last.action != "stop" and not self.was_stopping and (last.code in RUNNING or last.outcome == "interrupted")
-        if last is None:
-            expected = [one.expect for one in self.executor.info(self.name).recurring]
-            return self.action("monitor", expect=expected[0] if expected else NOT_RUNNING)
-        is_promoted = runs and (last.action == "promote" or last.code in PROMOTED)
-        return self.action("monitor", expect=NOT_RUNNING if not runs else PROMOTED[0] if is_promoted else UNPROMOTED[0])
+        recurring = [] if last else [one.expect for one in self.executor.info(self.name).recurring]
+        return self.action("monitor", expect=expected_after(last) if last else recurring[0] if recurring else NOT_RUNNING)
 
     def monitor(self) -> None:
         """Adds the monitors that the file wants."""
@@ -440,7 +452,8 @@ class Resource:
         """Withdraws its queued actions, so that only those that have begun are awaited."""
         for call in self.ask("info", "unknown-resource").get("queued", []):
             if not self.is_of_program(call):
-                self.ask("withdraw", "not-queued", call=call)
+                if "error" not in self.ask("withdraw", "not-queued", call=call) and self.was_doing and self.was_doing["call"] == call:
+                    self.was_doing = None
 
     # How a task proceeds
 
@@ -448,13 +461,15 @@ class Resource:
         """Begins this task in place of the previous one."""
         if self.task:
             self.task.close()
-        self.was_stopping = self.doing is not None and self.doing["action"] == "stop"
+        self.was_doing = self.doing
         self.task = task
         self.go_on(None)
 
     def go_on(self, came: Optional[Result]) -> None:
         """Passes a value to the task, and runs it up to what it waits for next."""
         self.awaited, self.due, self.condition, self.doing = None, NEVER, None, None
+        if came is not None:
+            self.was_doing = None
         if self.task is None:
             return
         try:

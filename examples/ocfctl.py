@@ -6,6 +6,7 @@ from __future__ import annotations
 import argparse
 import json
 import os
+import re
 import socket
 import sys
 import time
@@ -88,7 +89,8 @@ def agent_words(logs: Optional[str], result: Line) -> List[str]:
     if not starts:
         return []
     found = lines[starts[-1] + 1:]
-    ends = [place for place, line in enumerate(found) if f" run {result['run']} ended " in line]
+    end = re.compile(rf"\S+Z run {result['run']} (ended|was) ")
+    ends = [place for place, line in enumerate(found) if end.match(line)]
     return found[:ends[0] if ends else None][-WORDS:]
 
 
@@ -230,7 +232,7 @@ def details(one: Line, logs: Optional[str]) -> Iterator[str]:
     if one["held"]:
         yield f"held: process {one['held']} of an interrupted action lives"
     failed = one["failed"]
-    if failed and not (one["as_wanted"] and one["state"] not in ("running", "promoted")):
+    if failed and not (one["as_wanted"] and one["state"] not in ("running", "promoted", "unmanaged")):
         yield f"last failure: {words({**failed, 'failed': True})}, {ago(failed['at'])}"
         said = agent_words(logs, {"id": one["id"], **failed})
         reasons = [line.removeprefix(REASON) for line in said if line.startswith(REASON)]
@@ -268,11 +270,12 @@ def show_end(line: Line, logs: Optional[str], screen: Screen) -> None:
         if line["do"] == "forget" and line["expected"]:
             screen.say(f"{one['id']}: its history is empty")
         elif line["do"] not in ("monitor", "forget"):
-            screen.say(f"{one['id']}: {one['state']}" + ("" if one["as_wanted"] else ", which is not as it should be"))
+            is_wrong = not one["as_wanted"] and "message" not in line
+            screen.say(f"{one['id']}: {one['state']}" + (", which is not as it should be" if is_wrong else ""))
         result = line.get("result") or one["last"]
-        if not line["expected"] and result and (result.get("failed") or result["code"]):
+        if not line["expected"] and "message" not in line and result and (result.get("failed") or result["code"]):
             for text in agent_words(logs, {**result, "id": one["id"]}):
-                screen.say(f"  {text}")
+                screen.say(f"  {text.removeprefix(REASON)}")
     if "message" in line:
         screen.say(str(line["message"]))
 
@@ -291,7 +294,17 @@ def request(client: Client, screen: Screen, options: argparse.Namespace, request
     status, ends = wait_for(client, screen, {f"{number}": str(one.get("id", "")) for number, one in enumerate(requests)})
     for line in ends:
         show_end(line, logs, screen)
+    if options.verb == "stop" and not options.json:
+        show_waiting(client, screen, options.ids)
     return status
+
+
+def show_waiting(client: Client, screen: Screen, names: List[str]) -> None:
+    """Prints which resources were stopped, too, since they run only while one of these does."""
+    for one in client.ask({"do": "status"})["status"]:
+        waits = one["state"].startswith("waiting for ") and one["id"] not in names
+        if waits and set(one["state"].removeprefix("waiting for ").split(", ")) & set(names):
+            screen.say(f"{one['id']}: {one['state']}")
 
 
 def by_id(client: Client, screen: Screen, options: argparse.Namespace) -> int:
@@ -300,7 +313,7 @@ def by_id(client: Client, screen: Screen, options: argparse.Namespace) -> int:
 
 
 def of_all(client: Client, screen: Screen, options: argparse.Namespace) -> int:
-    more = {"on": options.on == "on"} if options.verb == "maintenance" else {}
+    more = {"on": options.on == "on"} if options.verb == "maintenance" else {"offline": True} if options.offline else {}
     return request(client, screen, options, [{"do": options.verb, **more}])
 
 
@@ -398,7 +411,7 @@ VERBS = (
     ("manage", by_id, "keeps resources again"),
     ("forget", by_id, "empties the history of resources, with their last failure"),
     ("maintenance", of_all, "does nothing at all on this node, until it is off"),
-    ("reload", of_all, "reads the file of the resources again"),
+    ("reload", of_all, "reads the file of the resources again, once its agents have no fault"),
     ("events", events, "shows results, oldest first"),
     ("json", send_json, "sends lines of docs/FORMAT.md or docs/CONTROL.md"),
     ("ids", ids, "prints the names of the resources"),
@@ -424,6 +437,8 @@ def parser_of() -> argparse.ArgumentParser:
             one.add_argument("--level", type=int, choices=(0, 10, 20), default=0, help="the depth of the check")
         if name == "maintenance":
             one.add_argument("on", choices=("on", "off"))
+        if name == "reload":
+            one.add_argument("--offline", action="store_true", help="ask no agent whether it exists and has the parameters")
         if name == "events":
             one.add_argument("-f", "--follow", action="store_true", help="go on with those that come")
             one.add_argument("--since", type=since, metavar="SPAN", help="only those of the last 30s, 10m, 2h or 1d")

@@ -6,10 +6,11 @@ import json
 from dataclasses import dataclass, field
 from typing import TYPE_CHECKING, Any, Dict, Iterator, List, Optional
 
+from agents import NEEDED
 from calls import is_tag, tagged
 from control import Line, Program
 from kept import NOT_RUNNING, PROMOTED, UNPROMOTED, Resource
-from ocfexec import Result
+from ocfexec import Error, Result
 from output import say
 from resources import Wrong
 from targets import now
@@ -99,7 +100,7 @@ class Orders:
         do = value.pop("do", None)
         if do not in OF_ONE + OF_ALL:
             raise Denied("unknown-do", f"what to do is one of {', '.join(sorted(OF_ONE + OF_ALL))}")
-        known = {"status": ("ids",), "reload": (), "maintenance": ("on",), "monitor": ("id", "level")}.get(do, ("id",))
+        known = {"status": ("ids",), "reload": ("offline",), "maintenance": ("on",), "monitor": ("id", "level")}.get(do, ("id",))
         for key in value:
             if key not in known:
                 raise Denied("bad-value", f"{do} has no key {key}")
@@ -111,7 +112,7 @@ class Orders:
             raise Denied("closed", "the client ends")
         order = Order(program, tag, do, [])
         if do == "reload":
-            self._reload()
+            self._reload(value.get("offline", False))
         elif do == "maintenance":
             self._maintain(value.get("on"))
         elif do in ("monitor", "forget"):
@@ -158,6 +159,8 @@ class Orders:
             raise Denied("maintenance", "the node is in maintenance, in which nothing is done: end it by `maintenance off`")
         if do in TARGETED and not resource.is_managed:
             raise Denied("unmanaged", f"{name} is not managed, so nothing is started or stopped: `manage {name}` ends that")
+        if do in NEEDED.values() and client.lacks(resource.now.agent, do):
+            raise Denied("unsupported", f"the agent {resource.now.agent} has no action {do}")
         with self._saving():
             if do in TARGETED:
                 targets.set_target(name, self._target(do, resource), resource.now.target)
@@ -186,12 +189,19 @@ class Orders:
         except OSError as error:
             raise Denied("disk", f"it cannot be kept: {error.strerror}") from None
 
-    def _reload(self) -> None:
+    def _reload(self, is_offline: Any) -> None:
+        """Reads the file, after its agents were asked, unless it is offline. A fault of the file or of an agent changes nothing."""
+        if not isinstance(is_offline, bool):
+            raise Denied("bad-value", "offline must be true or false")
+        file = self.client.file
         try:
-            self.client.read_again()
-        except (Wrong, OSError) as error:
-            file, what = self.client.file, error.strerror if isinstance(error, OSError) else str(error)
-            raise Denied("wrong-file", f"{file}: {what}; nothing is changed") from None
+            self.client.read_again(not is_offline)
+        except Wrong as wrong:
+            raise Denied("wrong-file", f"{file}: {wrong}; nothing is changed") from None
+        except OSError as error:
+            raise Denied("wrong-file", f"{file}: {error.strerror}; nothing is changed") from None
+        except Error as error:
+            raise Denied("closed", f"{file}: its agents cannot be asked: {error}; nothing is changed") from None
 
     def _maintain(self, is_on: Any) -> None:
         """Begins maintenance of all resources, or ends it."""

@@ -45,7 +45,7 @@ fi
 install -D -m 755 examples/ocfctl.py "$root/usr/bin/ocfctl"
 sed -i '1s#.*#\#!/usr/bin/python3#' "$root/usr/bin/ocfctl"
 ln -s Dummy "$root/usr/lib/ocf/resource.d/ocfexec/Stateful"
-for page in ocfexec ocfctl; do
+for page in ocfexec ocfctl ocfexec-client; do
     install -D -m 644 "docs/$page.8" "$root/usr/share/man/man8/$page.8"
     gzip -9n "$root/usr/share/man/man8/$page.8"
 done

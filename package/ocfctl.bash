@@ -9,7 +9,8 @@ _ocfctl() {
     case $verb in
     monitor) words+=" --level" ;;
     events) words="--help --json --socket --timeout --follow --since" ;;
-    status | ids | reload | maintenance) words="--help --json --socket --timeout" ;;
+    status | ids) words="--help --json --socket --timeout" ;;
+    reload) words+=" --offline" ;;
     esac
     if [ "${COMP_WORDS[COMP_CWORD - 1]}" = --socket ]; then
         compopt -o filenames 2> /dev/null

@@ -3,6 +3,8 @@ package ocfexec
 import (
 	"bufio"
 	"encoding/json"
+	"fmt"
+	"io"
 	"os"
 	"os/exec"
 	"os/signal"
@@ -11,34 +13,29 @@ import (
 )
 
 const (
-	setPipeSize = 1031 // F_SETPIPE_SZ of Linux
-	pipeSize    = 1 << 20
-	askEvery    = 5 * time.Second
-	grace       = 10 * time.Second // that a killed program, or one whose output has ended, has to end
+	askEvery   = 5 * time.Second
+	grace      = 10 * time.Second // that a killed program, or one whose output has ended, has to end
+	mostUnsent = 1 << 14
 )
-
-// defaults are signals with their default action in the program, because agents inherit them.
-var defaults = []os.Signal{syscall.SIGINT, syscall.SIGQUIT, syscall.SIGCHLD, syscall.SIGPIPE}
 
 // question is a command without a reply.
 type question struct {
 	what  string
 	limit time.Duration // how much longer than others it may take
-	asked time.Time
-	keeps bool // whether the results of its call are reserved
+	keeps bool          // whether the results of its call are awaited from the reply on
 	reply json.RawMessage
-	call  int64
 }
 
-// program is one program, from its start to its end. All its fields are guarded by the mutex of the Executor.
+// program is one program, from its start to its end.
 type program struct {
 	command   *exec.Cmd
-	stdin     *os.File
-	stdout    *os.File
-	outgoing  []byte
+	stdin     io.WriteCloser
+	stdout    io.Reader
+	unsent    chan []byte
 	questions []*question
-	heard     time.Time // when its last line came
+	heard     time.Time // when its last line came, or the first of its questions was asked
 	ready     *Ready
+	report    []Result
 	isOpen    bool
 	cause     error // why this library kills it
 	err       error // that it has ended, once all its output was read
@@ -46,128 +43,177 @@ type program struct {
 
 // spawn starts a program in a session of its own, so that a terminal's signals do not reach it.
 func spawn(commandLine []string) (*program, error) {
-	input, stdin, err := os.Pipe()
-	if err != nil {
-		return nil, err
-	}
-	defer input.Close()
-	stdout, output, err := os.Pipe()
-	if err != nil {
-		stdin.Close()
-		return nil, err
-	}
-	defer output.Close()
-	// (an error means that the user has reached the system's limit for pipes: this one keeps its size)
-	if raw, err := stdout.SyscallConn(); err == nil {
-		raw.Control(func(fd uintptr) { syscall.Syscall(syscall.SYS_FCNTL, fd, setPipeSize, pipeSize) })
-	}
 	command := exec.Command(commandLine[0], commandLine[1:]...)
-	command.Stdin, command.Stdout, command.Stderr = input, output, os.Stderr
-	command.SysProcAttr = &syscall.SysProcAttr{Setsid: true}
-	// (a signal for which there is a channel has its default action in a child, also if this process ignored it)
-	unused := make(chan os.Signal, 1)
-	signal.Notify(unused, defaults...)
-	err = command.Start()
-	signal.Stop(unused)
+	command.Stderr, command.SysProcAttr = os.Stderr, &syscall.SysProcAttr{Setsid: true}
+	stdin, err := command.StdinPipe()
 	if err != nil {
-		stdin.Close()
-		stdout.Close()
 		return nil, err
 	}
-	return &program{command: command, stdin: stdin, stdout: stdout, heard: time.Now()}, nil
+	stdout, err := command.StdoutPipe()
+	if err != nil {
+		return nil, err
+	}
+	// (agents inherit ignored signals; one for which there is a channel has its default action in a child)
+	unused := make(chan os.Signal, 1)
+	signal.Notify(unused, syscall.SIGINT, syscall.SIGQUIT, syscall.SIGCHLD, syscall.SIGPIPE)
+	defer signal.Stop(unused)
+	if err := command.Start(); err != nil {
+		return nil, err
+	}
+	// F_SETPIPE_SZ of Linux; an error means that the user has reached the system's limit for pipes, and this one keeps its size
+	if raw, err := stdout.(*os.File).SyscallConn(); err == nil {
+		raw.Control(func(fd uintptr) { syscall.Syscall(syscall.SYS_FCNTL, fd, 1031, 1<<20) })
+	}
+	return &program{command: command, stdin: stdin, stdout: stdout, unsent: make(chan []byte, mostUnsent)}, nil
 }
 
-// kill kills the program for this cause. One that does not end, as on a dead device, counts as ended after a while.
-func (e *Executor) kill(p *program, cause error) {
-	e.mutex.Lock()
-	if p.cause == nil {
-		p.cause = cause
+// write writes what has to be written, up to the end of the program or of its input: its remaining output is read first.
+func (p *program) write() {
+	for text := range p.unsent {
+		if _, err := p.stdin.Write(text); err != nil {
+			return
+		}
 	}
-	e.mutex.Unlock()
-	p.command.Process.Kill()
-	time.AfterFunc(grace, func() { e.end(p, -int(syscall.SIGKILL)) })
 }
 
-// end notes the end of a program, whose output was read.
-func (e *Executor) end(p *program, status int) {
-	e.mutex.Lock()
-	defer e.mutex.Unlock()
-	if p.err == nil {
-		p.stdin.Close()
-		p.stdout.Close()
-		p.err, p.isOpen = &Ended{status, p.command.Args, p.cause}, false
-		e.inbox.arrived()
-		e.broadcast()
+// ask queues a question to be written, unless too many are.
+func (p *program) ask(asked *question, text []byte) bool {
+	if p.err != nil || len(p.unsent) == cap(p.unsent) {
+		return false
 	}
+	if len(p.questions) == 0 {
+		p.heard = time.Now()
+	}
+	p.unsent <- text
+	p.questions = append(p.questions, asked)
+	return true
 }
 
 // read reads all of the output, and then waits for the end. A part of a line at the end of the output is nothing.
 func (e *Executor) read(p *program) {
 	reader := bufio.NewReaderSize(p.stdout, 1<<16)
-	line, err := reader.ReadBytes('\n')
-	for err == nil && e.take(p, line) {
-		line, err = reader.ReadBytes('\n')
+	text, err := reader.ReadBytes('\n')
+	for err == nil && e.take(p, text) == nil {
+		text, err = reader.ReadBytes('\n')
 	}
-	if err == nil {
-		e.kill(p, &Garbled{line})
-	}
-	time.AfterFunc(grace, func() { e.kill(p, nil) })
+	late := time.AfterFunc(grace, func() { p.command.Process.Kill() })
+	defer late.Stop()
 	p.command.Wait()
 	status := p.command.ProcessState.ExitCode()
-	if wait, ok := p.command.ProcessState.Sys().(syscall.WaitStatus); ok && wait.Signaled() {
+	if wait := p.command.ProcessState.Sys().(syscall.WaitStatus); wait.Signaled() {
 		status = -int(wait.Signal())
 	}
 	e.end(p, status)
 }
 
-// write writes what has to be written.
-func (e *Executor) write(p *program) {
-	for {
-		e.mutex.Lock()
-		part, changed, isOver := p.outgoing, e.changed, p.err != nil
-		p.outgoing = nil
-		e.mutex.Unlock()
-		if isOver {
-			return
-		}
-		if len(part) == 0 {
-			<-changed
-		} else if _, err := p.stdin.Write(part); err != nil {
-			return // the program ends, or its input was closed: its remaining output is read first
-		}
+// end notes the end of a program.
+func (e *Executor) end(p *program, status int) {
+	e.mutex.Lock()
+	defer e.mutex.Unlock()
+	if p.err != nil {
+		return
 	}
+	close(p.unsent)
+	if p.ready != nil {
+		e.arrived()
+	}
+	p.err, p.isOpen = &Ended{status, p.cause}, false
+	e.broadcast()
+}
+
+// kill kills a program for this cause. One that does not end, as on a dead device, counts as ended after a while.
+func (e *Executor) kill(p *program, cause error) {
+	if p.cause == nil {
+		p.cause = cause
+	}
+	p.command.Process.Kill()
+	time.AfterFunc(grace, func() { e.end(p, -int(syscall.SIGKILL)) })
 }
 
 // watch asks for the version every few seconds, and kills a program that does not answer for as long as the patience.
 func (e *Executor) watch(p *program) {
-	every := askEvery
-	if e.options.Patience/4 < every {
-		every = e.options.Patience / 4
+	e.mutex.Lock()
+	defer e.mutex.Unlock()
+	if p.err != nil || e.options.Patience == 0 {
+		return
 	}
-	ticker := time.NewTicker(every)
-	defer ticker.Stop()
-	for range ticker.C {
-		e.mutex.Lock()
-		isOver, isReady, late := p.err != nil, p.ready != nil, ""
-		if isReady && len(p.questions) > 0 {
-			oldest := p.questions[0]
-			since := oldest.asked
-			if p.heard.After(since) {
-				since = p.heard
-			}
-			if time.Since(since) > e.options.Patience+oldest.limit {
-				late = oldest.what
-			}
-		} else if isReady && !isOver {
-			e.send(p, []Command{{"op": "version"}}, false)
+	if p.ready != nil && len(p.questions) == 0 {
+		p.ask(&question{what: "an answer"}, []byte("{\"op\":\"version\"}\n"))
+	} else if p.ready != nil && time.Since(p.heard) > e.options.Patience+p.questions[0].limit {
+		e.kill(p, fmt.Errorf("%w: %s did not come", ErrNoAnswer, p.questions[0].what))
+	}
+	every := e.options.Patience / 4
+	if every > askEvery {
+		every = askEvery
+	}
+	time.AfterFunc(every, func() { e.watch(p) })
+}
+
+// line has the keys by which lines are told apart.
+type line struct {
+	Kind, End           string
+	Ready, Outcome, Tag json.RawMessage
+	Call                int64
+}
+
+// kind is the kind of a line, by its other keys where an older program sends none.
+func (l line) kind() string {
+	switch {
+	case l.Kind != "":
+		return l.Kind
+	case l.Ready != nil:
+		return "ready"
+	case l.Outcome != nil:
+		return "notice"
+	case l.End != "" && l.Tag == nil:
+		return "trouble"
+	}
+	return "reply"
+}
+
+// take takes a line of a program, which is killed if no executor writes such a one.
+func (e *Executor) take(p *program, text []byte) error {
+	e.mutex.Lock()
+	defer e.mutex.Unlock()
+	defer e.broadcast()
+	if p.err != nil {
+		return p.err
+	}
+	p.heard = time.Now()
+	err := e.takeLine(p, text)
+	if err != nil {
+		e.kill(p, fmt.Errorf("%w: %.200q", ErrGarbled, text))
+	}
+	return err
+}
+
+// takeLine takes a line by its kind; one of an unknown kind is ignored.
+func (e *Executor) takeLine(p *program, text []byte) error {
+	var found line
+	var ready Ready
+	var result Result
+	err := json.Unmarshal(text, &found)
+	switch kind := found.kind(); {
+	case err != nil:
+	case kind == "ready":
+		if err = json.Unmarshal(text, &ready); err == nil {
+			e.takeReady(p, &ready)
 		}
-		e.mutex.Unlock()
-		switch {
-		case isOver:
-			return
-		case late != "":
-			e.kill(p, &Late{late, errNoAnswer})
-			return
+	case kind == "report" || kind == "notice":
+		if err = json.Unmarshal(text, &result); err == nil {
+			e.takeResult(p, result)
+		}
+	case kind == "trouble":
+		e.options.OnTrouble(found.End)
+	case kind == "reply" && len(p.questions) == 0:
+		err = ErrGarbled
+	case kind == "reply":
+		asked := p.questions[0]
+		p.questions, asked.reply = p.questions[1:], text
+		e.journal.see(found.Call, 0)
+		if asked.keeps && found.Call != 0 {
+			e.awaited[found.Call]++
 		}
 	}
+	return err
 }

@@ -1,78 +1,67 @@
 package ocfexec
 
-import "encoding/json"
+import (
+	"errors"
+	"fmt"
+)
 
-// Ready is what the program sent when it had opened its journal. With --memory, Journal and Identity are nil.
+// Ready is what the program sent when it had opened its journal. With --memory, Journal and Identity are nil. An older program sends
+// neither Identity nor NextCall.
 type Ready struct {
-	Version     string          `json:"version"`
-	Journal     *string         `json:"journal"`   // the directory, as it was given
-	Identity    *string         `json:"identity"`  // 32 hex digits; an older program does not send it
-	NextCall    *int64          `json:"next_call"` // nor this
-	Resources   int             `json:"resources"`
-	Interrupted int             `json:"interrupted"`
-	Dropped     int             `json:"dropped"`
-	Raw         json.RawMessage `json:"-"`
+	Version           string
+	Journal, Identity *string             // the directory, as it was given, and 32 hex digits
+	NextCall          *int64              `json:"next_call"`
+	Report            []Result            // what the opening reported as interrupted or dropped
+	Histories         map[string][]Result // of each registered resource, oldest first
+	PID               int                 // of the program
 }
 
-// Result is the result of an action. Only one that came as a notice has Key, Expect and Failed. Since and At are in milliseconds
-// since 1970, Interval is in milliseconds.
+// Result is the result of an action. Only one that came as a notice has Key, Expect and Failed. Moments are in milliseconds since 1970, and
+// intervals in milliseconds, here and below.
 type Result struct {
-	ID       string          `json:"id"`
-	Call     int64           `json:"call"`
-	Run      int64           `json:"run"`
-	Action   string          `json:"action"`
-	Interval int64           `json:"interval"`
-	Outcome  string          `json:"outcome"`
-	Code     int             `json:"code"`
-	Name     string          `json:"name"`
-	Since    int64           `json:"since"`
-	At       int64           `json:"at"`
-	Key      string          `json:"key"`
-	Expect   int             `json:"expect"`
-	Failed   *bool           `json:"failed"`
-	Tag      string          `json:"tag"`
-	Lives    int             `json:"lives"`  // the process that is left of an interrupted action, or 0
-	Signal   *int            `json:"signal"` // that of a signaled action
-	Reason   string          `json:"reason"` // why a run failed, where that is known
-	Raw      json.RawMessage `json:"-"`
+	ID, Action, Outcome, Name      string
+	Call, Run, Interval, Since, At int64
+	Code, Expect                   int
+	Key, Tag, Reason               string // the reason of a failure, where it is known
+	Lives                          int    // the process that is left of an interrupted action, or 0
+	Failed                         *bool
+	Signal                         *int // that of a signaled action
+	of                             *journal
 }
 
-// Running is the action that a resource runs: in Status with its action and the moment of its begin, in Info with its call, key and run.
-type Running struct {
-	Action string `json:"action"`
-	Since  int64  `json:"since"`
-	Call   int64  `json:"call"`
-	Key    string `json:"key"`
-	Run    int64  `json:"run"`
+// Errors of calls. At the end of its context a call returns an error that wraps that of the context; its command may be carried out all
+// the same. The last three are causes why a program was killed.
+var (
+	ErrNotStarted = errors.New("the executor was not started")
+	ErrRunning    = errors.New("the executor runs already")
+	ErrTooOld     = errors.New("the program answers without having said that it is ready: it is older than this library")
+	ErrGarbled    = errors.New("the program wrote no line of an executor")
+	ErrNoAnswer   = errors.New("the program does not answer")
+)
+
+// Ended says that the program has ended, and that all its output was read. Start starts it again.
+type Ended struct {
+	Status int   // its exit status, as ocfexec(8) lists them, or minus the number of the signal that ended it
+	Cause  error // why this library killed it, or nil
 }
 
-// Status is the state of a resource in a word, as ocfexec(8) defines it.
-type Status struct {
-	ID      string   `json:"id"`
-	State   string   `json:"state"`
-	Since   *int64   `json:"since"`
-	Queued  int      `json:"queued"`
-	Running *Running `json:"running"`
-	Failed  *Result  `json:"failed"` // the last failure
+func (e *Ended) Error() string {
+	if e.Cause != nil {
+		return fmt.Sprintf("the executor was killed: %v", e.Cause)
+	}
+	return fmt.Sprintf("the executor ended with status %d", e.Status)
 }
 
-// Monitor is a recurring monitor.
-type Monitor struct {
-	Call     int64 `json:"call"`
-	Interval int64 `json:"interval"`
-	Timeout  int64 `json:"timeout"`
-	Level    int   `json:"level"`
-	Expect   int   `json:"expect"`
+func (e *Ended) Unwrap() error { return e.Cause }
+
+// Refused says that a command was refused. Nothing has changed, unless the word is "disk".
+type Refused struct {
+	Command      Command
+	Word         string `json:"error"` // as "exists"
+	Number       int
+	Key, Message string // the offending key of the command, and a sentence, if any
 }
 
-// Info is what is registered of a resource, its last failure, and what is queued (by call), runs and recurs.
-type Info struct {
-	ID        string            `json:"id"`
-	Provider  string            `json:"provider"`
-	Type      string            `json:"type"`
-	Params    map[string]string `json:"params"`
-	Queued    []int64           `json:"queued"`
-	Recurring []Monitor         `json:"recurring"`
-	Running   *Running          `json:"running"`
-	Failed    *Result           `json:"failed"`
+func (e *Refused) Error() string {
+	return fmt.Sprintf("%v %v was refused as %s: %s", e.Command["op"], e.Command["id"], e.Word, e.Message)
 }

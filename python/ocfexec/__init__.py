@@ -31,6 +31,6 @@ from ._executor import Executor
 from ._inbox import REPORTED
 from ._values import Failure, Info, Monitor, Ready, Result, Running, Status
 
-__version__ = "0.1.0"
+__version__ = "0.2.0"
 __all__ = ["REPORTED", "AlreadyRunning", "AsyncExecutor", "Ended", "Error", "Executor", "Failure", "Garbled", "Info", "Late", "Monitor",
            "NoMetadata", "NotStarted", "Ready", "Refused", "Result", "Running", "Status", "TooOld", "__version__"]

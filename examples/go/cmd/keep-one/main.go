@@ -34,7 +34,7 @@ type keeper struct {
 	id, agent string
 	params    map[string]string
 	interval  time.Duration
-	how       ocfexec.How
+	timeout   time.Duration
 	pause     time.Duration
 }
 
@@ -49,11 +49,16 @@ func (k *keeper) rest(ctx context.Context) {
 	}
 }
 
+// ask sends a command about the resource.
+func ask[T any](ctx context.Context, k *keeper, op string, command ocfexec.Command) (T, error) {
+	command["op"], command["id"] = op, k.id
+	return ocfexec.Ask[T](ctx, k.Executor, command)
+}
+
 // perform runs an action, and says what came of it.
 func (k *keeper) perform(ctx context.Context, action string, expect int) (ocfexec.Result, error) {
-	how := k.how
-	how.Expect = expect
-	result, err := k.Perform(ctx, k.id, action, how)
+	command := ocfexec.Command{"op": "exec", "id": k.id, "action": action, "expect": expect, "timeout": k.timeout.Milliseconds()}
+	result, err := k.Perform(ctx, command)
 	if err == nil {
 		log.Printf("%s: %s was %s, with %d (%s)", k.id, action, result.Outcome, result.Code, result.Name)
 	}
@@ -62,9 +67,10 @@ func (k *keeper) perform(ctx context.Context, action string, expect int) (ocfexe
 
 // keep brings the resource up, and restarts it when a monitor fails. It returns only an error.
 func (k *keeper) keep(ctx context.Context) error {
-	err := k.Register(ctx, k.id, k.agent, k.params)
+	provider, kind, _ := strings.Cut(k.agent, ":")
+	_, err := ask[any](ctx, k, "register", ocfexec.Command{"provider": provider, "type": kind, "params": k.params})
 	if isRefusedAs(err, "exists") {
-		err = k.Params(ctx, k.id, k.params)
+		_, err = ask[any](ctx, k, "params", ocfexec.Command{"params": k.params})
 	}
 	if err != nil {
 		return err
@@ -94,7 +100,8 @@ func (k *keeper) start(ctx context.Context, last ocfexec.Result) (ocfexec.Result
 
 // watch waits until a monitor fails, and returns its result. Monitors of runs before the resource came up say nothing.
 func (k *keeper) watch(ctx context.Context, up ocfexec.Result) (ocfexec.Result, error) {
-	_, err := k.Recur(ctx, k.id, k.interval, ocfexec.How{Timeout: k.how.Timeout})
+	monitor := ocfexec.Command{"interval": k.interval.Milliseconds(), "timeout": k.timeout.Milliseconds()}
+	_, err := ask[any](ctx, k, "recur", monitor)
 	if err != nil && !isRefusedAs(err, "exists") {
 		return up, err
 	}
@@ -116,12 +123,12 @@ func (k *keeper) watch(ctx context.Context, up ocfexec.Result) (ocfexec.Result, 
 
 // stop stops the resource, and lets the executor leave.
 func (k *keeper) stop(ctx context.Context) error {
-	info, err := k.Info(ctx, k.id)
+	info, err := ask[struct{ Recurring []struct{ Interval int64 } }](ctx, k, "info", ocfexec.Command{})
 	if err != nil {
 		return err
 	}
 	for _, monitor := range info.Recurring {
-		if err := k.Cancel(ctx, k.id, time.Duration(monitor.Interval)*time.Millisecond); err != nil {
+		if _, err := ask[any](ctx, k, "cancel", ocfexec.Command{"interval": monitor.Interval}); err != nil {
 			return err
 		}
 	}
@@ -139,13 +146,13 @@ func (k *keeper) stop(ctx context.Context) error {
 func (k *keeper) over(ctx context.Context, does func(context.Context) error) error {
 	for {
 		_, err := k.Start(ctx)
-		if err == nil || errors.As(err, new(*ocfexec.AlreadyRunning)) {
+		if err == nil || errors.Is(err, ocfexec.ErrRunning) {
 			err = does(ctx)
 		}
 		var ended *ocfexec.Ended
 		isEnded := errors.As(err, &ended)
 		switch {
-		case ctx.Err() != nil, err == nil, isEnded && ended.NeedsAdministrator(), errors.As(err, new(*ocfexec.Refused)):
+		case ctx.Err() != nil, err == nil, isEnded && needsAdministrator(ended), errors.As(err, new(*ocfexec.Refused)):
 			return err
 		case errors.Is(err, exec.ErrNotFound), errors.Is(err, os.ErrNotExist), errors.Is(err, os.ErrPermission):
 			return err
@@ -153,6 +160,11 @@ func (k *keeper) over(ctx context.Context, does func(context.Context) error) err
 		log.Print(err)
 		k.rest(ctx)
 	}
+}
+
+// needsAdministrator tells whether another start would end in the same way.
+func needsAdministrator(ended *ocfexec.Ended) bool {
+	return ended.Status == 2 || ended.Status == 3 || ended.Status == 6 || ended.Status == 8
 }
 
 func isRefusedAs(err error, word string) bool {
@@ -165,7 +177,7 @@ func status(err error) int {
 	switch {
 	case err == nil:
 		return 0
-	case errors.As(err, &ended) && ended.NeedsAdministrator():
+	case errors.As(err, &ended) && needsAdministrator(ended):
 		return ended.Status
 	}
 	return 1
@@ -189,7 +201,7 @@ func main() {
 		params[name] = value
 	}
 	executor := ocfexec.New(strings.Split(command, "\x00"), ocfexec.Options{Patience: *patience})
-	k := &keeper{Executor: executor, id: names[0], agent: names[1], params: params, interval: *interval, how: ocfexec.How{Timeout: *timeout}}
+	k := &keeper{Executor: executor, id: names[0], agent: names[1], params: params, interval: *interval, timeout: *timeout}
 	ctx, _ := signal.NotifyContext(context.Background(), syscall.SIGTERM, syscall.SIGINT)
 	err := k.over(ctx, k.keep)
 	if ctx.Err() != nil {
