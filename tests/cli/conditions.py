@@ -137,6 +137,18 @@ class Conditions(helper.Check):
         self.is_since("bad", "failed", 2 * MINUTE)
         self.is_since("good", "stopped", MINUTE)
 
+    def test_given_up_start(self):
+        """a service whose start failed and that was then stopped has failed since the start, also after tidies"""
+        for name, action in (("bad", book.START), ("good", book.STOP)):
+            self.written.registers(name, HOUR)
+            self.written.does(name, action, 2 * MINUTE, (book.DONE, 1))
+            self.written.does(name, book.STOP, MINUTE)
+        self.save()
+        for _ in range(3):
+            self.is_since("bad", "failed", 2 * MINUTE)
+            self.is_since("good", "stopped", MINUTE)
+            self.tidies()
+
     def test_old_failure(self):
         """a failure that is older than the success of a start is over"""
         self.written.registers("web", HOUR)

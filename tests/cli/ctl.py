@@ -39,6 +39,13 @@ demote) rm -f "$state.promoted" ;;
 monitor) [ -e "$state" ] || exit 7; [ ! -e "$state.promoted" ] || exit 8 ;;
 esac
 """
+# an agent that says its parameters, and then does what that one does
+TOLD = """if [ "$1" = meta-data ]; then
+echo '<resource-agent name="Told"><parameters><parameter name="state"/><parameter name="configfile"/></parameters>'
+echo '<actions><action name="start"/><action name="stop"/><action name="monitor"/></actions></resource-agent>'
+exit
+fi
+"""
 PROGRAMS, UNREAD = 20, 16 << 20
 
 
@@ -86,6 +93,12 @@ class Hand(keeping.Keeping):
     def role(self, name, **more):
         return self.dummy(name, "Role", **more)
 
+    def happened(self, *actions):
+        """The calls of agents for these actions, in their order, as `start a`."""
+        with open(self.place("calls"), encoding="ascii") as file:
+            calls = [line.split() for line in file]
+        return [f"{call[0]} {os.path.basename(call[1])}" for call in calls if call[0] in actions]
+
     def words(self, *options):
         return [*super().words("--socket", self.place("control"), "--state", self.place("state"), *options), "--events", "--logs",
                 self.place("logs")]
@@ -105,6 +118,9 @@ class Hand(keeping.Keeping):
                               timeout=helper.WHOLE, **how)
         self.assertEqual(done.returncode, status, f"{words}: {done.stdout}{done.stderr}\n{self.said()}")
         return done.stdout + done.stderr
+
+    def failed_monitors(self, client):
+        return [value for value in client.values() if value["action"] == "monitor" and value.get("failed")]
 
     def connected(self):
         found = Connection(self.place("control"))
@@ -214,7 +230,7 @@ class Verbs(Hand):
             after = len(client.lines)
         self.assertEqual((value["interval"], self.actions("a")), (100, ["start"]))
         self.assertIn("is not managed", self.ctl("stop", "a", status=3))
-        self.assertRegex(self.ctl("status"), r"\na +test:Role +unmanaged by hand since \d{4}-[^;\n]*\n")
+        self.assertRegex(self.ctl("status"), r"\na +test:Role +unmanaged by hand since \d{4}-[^;\n]*\n  last failure: monitor failed: not ")
         self.ctl("manage", "a")
         self.assertTrue(self.is_up("a"), "its service runs")
         self.ctl("unmanage", "a")
@@ -280,6 +296,45 @@ class Verbs(Hand):
         self.assertTrue(self.is_up("a"), "its service runs")
         self.assertIn("a: stopped by hand", self.ctl("stop", "a"))
 
+    def test_stalls(self):
+        """the words of a stop that ran past its timeout are those of that run alone, with its reason; a start after it does not fail"""
+        slow = 'stop) echo "some words"; echo "ocf-exit-reason:it waits for clients" >&2; sleep 20; exit ;;\n'
+        self.agent("Role", ROLE.format(here=self.here).replace("promote) ", slow + "promote) ", 1).replace("stop) rm", "never) rm", 1))
+        client = self.up(a=self.role("a", timeouts={"stop": 300}))
+        for _ in range(2):
+            said = self.ctl("stop", "a", status=1)
+            self.assertRegex(said, r"\Aa: stop failed: it ran past its timeout and was killed after \d+ ms\n"
+                                   r"a: not stopped, which is not as it should be\n  some words\n  it waits for clients\n\Z")
+        self.assertIn("  last failure: stop failed: ", self.ctl("status", status=1))
+        self.assertRegex(self.ctl("start", "a"), r"\Aa: monitor: running after \d+ ms\na: running\n\Z")
+        self.assertIn("  last failure: stop failed: ", self.ctl("status"))
+        self.assertEqual(self.failed_monitors(client), [])
+
+    def test_twice(self):
+        """a start that is requested again, or by two at once, ends well for both, and no monitor of it fails"""
+        client = self.up(a=self.role("a"))
+        self.ctl("stop", "a")
+        with open(self.place("a.slow"), "wb"):
+            pass
+        self.ctl("start", "a", "--no-wait")
+        self.stands("a", lambda one: one["doing"] and one["doing"]["action"] == "start")
+        run = subprocess.Popen([CTL, "start", "--socket", self.place("control"), "a"], stdout=subprocess.PIPE, text=True)
+        self.addCleanup(run.stdout.close)
+        self.waits("the second start", lambda: self.said().count("a: start by hand") == 2)
+        os.remove(self.place("a.slow"))
+        self.assertRegex(run.communicate(timeout=helper.WHOLE)[0], r"a: running\n\Z")
+        self.assertEqual(self.failed_monitors(client), [])
+
+    def test_unsupported(self):
+        """promote and demote are refused if the agent says that it has no such action, which changes nothing; so is a target of the file"""
+        self.agent("Told", TOLD + ROLE.format(here=self.here))
+        self.up(a=self.role("a", type="Told"))
+        for verb in ("promote", "demote"):
+            self.assertEqual(self.ctl(verb, "a", status=3), f"ocfctl: the agent test:Told has no action {verb} (unsupported)\n")
+        self.assertEqual((self.actions("a"), self.standing("a")["target_by_hand"]), (["start"], None))
+        self.wants(a=self.role("a", type="Told", target="promoted"))
+        self.assertIn("resources.a.target: test:Told has no action promote", self.ctl("reload", status=3))
+
     def test_statuses(self):
         """2 for wrong arguments, 3 for an unknown resource or where nobody answers, 124 after the timeout; the request goes on"""
         self.up(a=self.role("a"))
@@ -319,6 +374,22 @@ class Verbs(Hand):
         self.stands("a", lambda one: one["state"] == "stopped by hand")
         self.assertFalse(self.is_up("a"), "its service is stopped")
 
+    def test_at_once(self):
+        """of two ocfctl at once, the one whose request is overtaken says so, and nothing of what is wrong meanwhile"""
+        self.up(a=self.role("a"))
+        self.ctl("stop", "a")
+        with open(self.place("a.slow"), "wb"):
+            pass
+        run = subprocess.Popen([CTL, "start", "--socket", self.place("control"), "a"], stdout=subprocess.PIPE, text=True)
+        self.addCleanup(run.stdout.close)
+        self.stands("a", lambda one: one["doing"] and one["doing"]["action"] == "start")
+        self.ctl("stop", "a", "--no-wait")
+        said = run.communicate(timeout=helper.WHOLE)[0]
+        os.remove(self.place("a.slow"))
+        self.assertRegex(said, r"\na: (starting|stopping)\nsomething else was requested of a\n\Z")
+        self.assertEqual(run.returncode, 1)
+        self.stands("a", lambda one: one["state"] == "stopped by hand")
+
     def test_queued(self):
         """a stop waits for what programs have requested before, and takes nothing of it back"""
         self.up(a=self.role("a", interval=60_000))
@@ -342,6 +413,39 @@ class Verbs(Hand):
         self.ctl("reload")
         self.waits("its removal", lambda: list(helper.results(self.place("journal"))) == ["a"])
 
+    def test_reload_asks(self):
+        """reload is refused before anything is changed if an agent of the file does not exist or lacks a parameter, unless it asks none"""
+        self.agent("Told", TOLD + ROLE.format(here=self.here))
+        client = self.up(a=self.role("a", type="Told"), b=self.role("b"))
+        before = self.happened("stop", "start")
+        wrong = {"a": {**self.role("a", type="Told"), "params": {"state": self.place("a"), "confgfile": "x"}},
+                 "c": self.role("c", type="Missing")}
+        self.wants(**wrong)
+        said = self.ctl("reload", status=3)
+        self.assertIn("resources.a.params.confgfile: test:Told has no such parameter; it has configfile; "
+                      "resources.c.type: there is no agent test:Missing; nothing is changed (wrong-file)", said)
+        self.assertEqual(self.ctl("ids").split(), ["a", "b"])
+        self.comes(client, len(client.lines), id="b", interval=100, code=0)
+        self.assertEqual(self.happened("stop", "start"), before)
+        self.assertNotIn("was read again", self.said())
+        self.wants(a=self.role("a", type="Told"))
+        self.assertIn("a: running\n", self.ctl("reload"))
+        self.waits("the removal of b", lambda: self.ctl("ids").split() == ["a"])
+        self.wants(**wrong)
+        self.ctl("reload", "--offline", status=1)
+        self.assertIn("a stays as it was: params.confgfile: ", self.said())
+
+    def test_reload_first(self):
+        """the first resources of a file are asked for, too, though no executor runs yet"""
+        self.agent("Told", TOLD + ROLE.format(here=self.here))
+        client = self.up()
+        self.waits("its socket", self.can_connect)
+        self.wants(a={**self.role("a", type="Told"), "params": {"state": self.place("a"), "confgfile": "x"}})
+        self.assertIn("resources.a.params.confgfile: test:Told has no such parameter", self.ctl("reload", status=3))
+        self.assertIsNone(self.child(client), "no executor runs")
+        self.wants(a=self.role("a", type="Told"))
+        self.assertIn("a: running\n", self.ctl("reload"))
+
     def test_events(self):
         """events prints what the journal has, oldest first, and with -f what comes; ids prints the names"""
         self.up(a=self.role("a"), b=self.role("b"))
@@ -363,11 +467,11 @@ class Verbs(Hand):
     def test_words(self):
         """the words are those that the executor prints by --events, whatever comes of an action"""
         self.up(a=self.role("a", interval=60_000), b=self.role("b", interval=60_000))
-        run = subprocess.Popen([CTL, "events", "--socket", self.place("control"), "-f"], stdout=subprocess.PIPE, text=True)
+        run = subprocess.Popen([CTL, "events", "--socket", self.place("control"), "-f", "--since", "1h"], stdout=subprocess.PIPE, text=True)
         self.addCleanup(run.stdout.close)
         self.addCleanup(run.wait)
         self.addCleanup(run.kill)
-        time.sleep(1)  # until it listens
+        run.stdout.readline()  # what it prints of a history it prints once it listens
         self.agent("Ends", 'case $OCF_RESKEY_code in kill) kill -9 $$ ;; sleep) sleep 20 ;; *) exit $OCF_RESKEY_code ;; esac\n')
         one, found = self.connected(), []
         for number, code in enumerate([0, 1, 2, 3, 4, 5, 6, 7, 8, 9, 77, 190, 191, "kill", "sleep", "none"]):
@@ -560,31 +664,25 @@ class Targets(Hand):
 
 
 class Order(Hand):
-    def happened(self):
-        """The starts and stops of all resources, in their order."""
-        with open(self.place("calls"), encoding="ascii") as file:
-            calls = [line.split() for line in file]
-        return [f"{call[0]} {os.path.basename(call[1])}" for call in calls if call[0] in ("start", "stop")]
-
     def test_after(self):
         """a resource is started after those before it run, and stopped before them: at the start, by hand, at a failure, and at the end"""
         client = self.up(web=self.role("web", after=["db"]), db=self.role("db", after=["disk"]), disk=self.role("disk"))
-        self.assertEqual(self.happened(), ["start disk", "start db", "start web"])
-        self.ctl("stop", "db")
-        self.assertEqual(self.happened()[3:], ["stop web", "stop db"])
+        self.assertEqual(self.happened("start", "stop"), ["start disk", "start db", "start web"])
+        self.assertRegex(self.ctl("stop", "db"), r"\ndb: stopped by hand\nweb: waiting for db\n\Z")
+        self.assertEqual(self.happened("start", "stop")[3:], ["stop web", "stop db"])
         self.assertEqual(self.standing("web")["state"], "waiting for db")
         self.ctl("start", "db")
         self.runs("web")
         self.stands("web", lambda one: one["state"] == "running")
-        before = len(self.happened())
+        before = len(self.happened("start", "stop"))
         self.stops("disk")
-        self.waits("the restart", lambda: self.happened()[before:][-1:] == ["start web"])
+        self.waits("the restart", lambda: self.happened("start", "stop")[before:][-1:] == ["start web"])
         # (a failed monitor is followed by a stop, here of a service that has stopped)
-        self.assertEqual(self.happened()[before:], ["stop web", "stop db", "start disk", "start db", "start web"])
+        self.assertEqual(self.happened("start", "stop")[before:], ["stop web", "stop db", "start disk", "start db", "start web"])
         self.stands("web", lambda one: one["state"] == "running")
-        before = len(self.happened())
+        before = len(self.happened("start", "stop"))
         self.assertEqual(self.ended(client, signal.SIGTERM), 0)
-        self.assertEqual(self.happened()[before:], ["stop web", "stop db", "stop disk"])
+        self.assertEqual(self.happened("start", "stop")[before:], ["stop web", "stop db", "stop disk"])
 
     def test_running(self):
         """all that is found running is left running, in whatever order it is found"""
@@ -598,18 +696,18 @@ class Order(Hand):
         self.waits("another executor", lambda: "was ended by SIGKILL" in self.said())
         for name in wanted:
             self.stands(name, lambda one: one["state"] == "running")
-        self.assertEqual(self.happened(), ["start db", "start web"])
+        self.assertEqual(self.happened("start", "stop"), ["start db", "start web"])
 
     def test_changed(self):
         """one that changes in the file is stopped as it was, and those after it before that; all are started again in order"""
         self.up(web=self.role("web", after=["db"]), db=self.role("db"))
         self.wants(web=self.role("web", after=["db"]), db={**self.role("db"), "params": {"state": self.place("db"), "more": "1"}})
         self.ctl("reload")
-        self.assertEqual(self.happened()[2:], ["stop web", "stop db", "start db", "start web"])
+        self.assertEqual(self.happened("start", "stop")[2:], ["stop web", "stop db", "start db", "start web"])
         self.wants(web=self.role("web"))
         self.ctl("reload")
         self.waits("its removal", lambda: list(helper.results(self.place("journal"))) == ["web"])
-        self.assertEqual(self.happened()[6:], ["stop db"])
+        self.assertEqual(self.happened("start", "stop")[6:], ["stop db"])
 
     def test_given_up(self):
         """while one is given up, those after it are stopped and wait"""

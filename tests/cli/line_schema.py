@@ -96,7 +96,7 @@ REFUSED = [command for _, command in FAULTY]
 NEVER = {"failed": None, "id": "r1", "queued": 0, "running": None, "since": None, "state": "never run"}
 SHOWN = {**NEVER, "at_least": False, "executor": None, "held": None, "identity": None}
 READY = {"dropped": 0, "identity": "0123456789abcdef" * 2, "interrupted": 1, "journal": "/var/lib/ocfexec", "kind": "ready",
-         "next_call": 42, "ready": True, "resources": 3, "version": "0.1.0"}
+         "next_call": 42, "ready": True, "resources": 3, "version": "0.2.0"}
 NOTICE = {"action": "start", "at": 2, "call": 1, "code": 0, "expect": 0, "failed": False, "id": "r1", "interval": 0, "key": "r1_start_0",
           "kind": "notice", "name": "OCF_SUCCESS", "outcome": "done", "reason": None, "run": 1, "since": 1}
 REPORT = {**NOTICE, "code": 1, "kind": "report", "name": "OCF_ERR_GENERIC", "outcome": "interrupted"}
@@ -115,7 +115,7 @@ NO_LINES = [
     {"ok": True, "tag": "x" * 65},
     {"error": "exists", "number": 6, "tag": "a"},
     {"action": "start", "call": 1, "code": 0, "id": "r1", "interval": 0, "name": "OCF_SUCCESS", "outcome": "done", "run": 1, "tag": "a"},
-    {"ok": True, "version": "ocfexec 0.1.0"},
+    {"ok": True, "version": "ocfexec 0.2.0"},
     {"ok": True, "status": [NEVER, {**NEVER, "state": "fine"}]},
     {"ok": True, "status": NEVER},
     {**READY, "ready": False},

@@ -216,21 +216,21 @@ class Asked(Played):
         run = self.ends("0", [OK], "directory /j", "clock 500", *lines(REG), f"ocfexec run {words}")
         self.assertEqual(run.asked(), [
             "ignored", "signals", "log l d", "files /j yes", "reader", "agents /j 7 yes no 768", "watch -", "moment 500", "moment 500",
-            "source /r /p v yes", "groups no", "identity /j", "writer -", "reasons d", "give-up", "ran well", "ended 0"])
+            "source /r /p v yes", "groups no", "identity /j", "writer -", "reasons l d", "give-up", "ran well", "ended 0"])
 
     def test_serve(self):
         """the requests of a serving run: its directory is watched; by default agents are where the manual page says"""
         run = self.ends("0", [SERVED_OK], "directory /j", *lines(REG), "ocfexec serve --journal /j")
         self.assertEqual(run.asked(), [
             "ignored", "signals", "log - -", "files /j no", "reader", "agents /j 20000 no yes 768", "watch /j", "moment 0", "moment 0",
-            f"source {ROOT} {PATH} - no", "groups yes", "identity /j", "writer /j", "reasons -", "give-up", "ran well", "ended 0"])
+            f"source {ROOT} {PATH} - no", "groups yes", "identity /j", "writer /j", "reasons - -", "give-up", "ran well", "ended 0"])
         self.is_ready(run)
 
     def test_memory(self):
         """a run in memory requests no directory and writes nothing on standard error"""
         run = self.ends("0", [], "ocfexec serve --memory")
         self.assertEqual(run.asked(), ["ignored", "signals", "log - -", "reader", "agents - 20000 no yes 768", "watch -", "moment 0",
-                                       f"source {ROOT} {PATH} - no", "groups yes", "identity -", "writer -", "reasons -", "give-up",
+                                       f"source {ROOT} {PATH} - no", "groups yes", "identity -", "writer -", "reasons - -", "give-up",
                                        "ran well", "ended 0"])
         self.is_ready(run, journal=None, identity=None)
 

@@ -13,13 +13,13 @@ LARGE = {f"p{place}": "x" * 1024 for place in range(16)}
 # Commands, and for each refused one its word, its key and a part of its sentence, from FORMAT.
 SPOKEN = [
     (register("r1", "None"), None),
-    (register("r1", "None"), ("exists", None, "register: a resource of this id is registered.")),
+    (register("r1", "None"), ("exists", None, "a resource of this id is registered already")),
     ({"op": "info", "id": "r2"}, ("unknown-resource", "id", "no resource of this id")),
     ({"op": "cancel", "id": "r1", "interval": 5}, ("no-such-recurring", "interval", "no recurring monitor of this interval")),
     ({"op": "withdraw", "id": "r1", "call": 7}, ("not-queued", "call", "no action of this call is queued")),
     ({"op": "params", "id": "r1", "params": LARGE}, ("too-large", "params", "16384 bytes")),
     *[({"op": "recur", "id": "r1", "interval": 86400000 + place}, None) for place in range(8)],
-    ({"op": "recur", "id": "r1", "interval": 86400000}, ("exists", None, "recur: this resource has a recurring monitor of this interval.")),
+    ({"op": "recur", "id": "r1", "interval": 86400000}, ("exists", None, "this resource has a recurring monitor of this interval already")),
     ({"op": "recur", "id": "r1", "interval": 86400009}, ("recurring-full", "id", "8 recurring monitors")),
     *[(action("r1", "stop"), None) for _ in range(32)],
     (action("r1", "stop"), ("queue-full", "id", "32 actions")),

@@ -199,11 +199,12 @@ class Ready(Service):
 
 
 class Statuses(Service):
-    def is_as_printed(self, run, folder, forgotten=()):
-        """The status of all resources: what status --json prints for the same journal has these keys and more, where the histories reach
-        as far as its records. Those of forgotten resources do not: by the records they are unknown."""
+    def is_as_printed(self, run, folder, *words, forgotten=()):
+        """The status of all resources: what status --json prints for the same journal, with these words, has these keys and more, where the
+        histories reach as far as its records. Those of forgotten resources do not: by the records they are unknown."""
         [found] = self.asked(run, STATUS)
-        printed = [value for value in helper.replies(helper.run("status", "--json", "--journal", folder).stdout) if "state" in value]
+        done = helper.run("status", "--json", "--journal", folder, *words)
+        printed = [value for value in helper.replies(done.stdout) if "state" in value]
         for value in printed:
             if value["running"]:
                 del value["running"]["timeout"]
@@ -217,34 +218,35 @@ class Statuses(Service):
     def test_states(self):
         """the status of all resources is that of status --json: never run, in each other state, and with running and queued actions"""
         folder = self.journal()
-        run = self.serves("--journal", folder, "--logs", self.here)
-        self.assertEqual(self.is_as_printed(run, folder), {})
+        words = ("--logs", self.here)
+        run = self.serves("--journal", folder, *words)
+        self.assertEqual(self.is_as_printed(run, folder, *words), {})
         names = ["zz", "started", "failed", "stopped", "promoted", "signaled", "late", "none", "runs", "first"]
         self.agent("Fails", "echo ocf-exit-reason:a reason >&2\nexit 6\n")
         codes = {"signaled": "kill", "late": "sleep"}
         kinds = {"failed": "Fails", "none": "None"}
         self.asked(run, *[register(name, kinds.get(name, "Ends"), code=codes.get(name, "0")) for name in names])
-        self.assertEqual([value["state"] for value in self.is_as_printed(run, folder).values()], ["never run"] * len(names))
+        self.assertEqual([value["state"] for value in self.is_as_printed(run, folder, *words).values()], ["never run"] * len(names))
         does = {"stopped": "stop", "promoted": "promote"}
         calls = self.asked(run, *[action(name, does.get(name, "start"), timeout=300 if name == "late" else 20_000) for name in names[1:-2]])
         for reply in calls:
             self.told(run, call=reply["call"])
-        found = self.is_as_printed(run, folder)
+        found = self.is_as_printed(run, folder, *words)
         self.assertEqual(list(found), names)
         self.assertEqual([value["state"] for value in found.values()],
                          ["never run", "started", "failed", "stopped", "promoted", "failed", "unknown", "failed", "never run", "never run"])
         self.assertEqual({name: value["failed"] for name, value in found.items() if value["failed"]}.keys(),
                          {"failed", "signaled", "late", "none"})
-        self.assertIsNone(found["failed"]["failed"]["reason"])
+        self.assertEqual(found["failed"]["failed"]["reason"], "a reason")
         self.asked(run, {"op": "params", "id": "runs", "params": {"code": "gate", "gate": self.gate}}, action("runs", "start"),
                    action("runs", "stop"), action("runs", "monitor"))
         self.eventually("it runs", lambda: self.asked(run, STATUS)[0]["status"][8]["running"])
-        found = self.is_as_printed(run, folder)["runs"]
+        found = self.is_as_printed(run, folder, *words)["runs"]
         self.assertEqual((found["state"], found["queued"], found["running"]["action"]), ("never run", 2, "start"))
         self.opens()
         self.told(run, id="runs", action="monitor")
         self.asked(run, {"op": "unregister", "id": "started"}, {"op": "forget", "id": "failed"}, register("started", "Ends"))
-        found = self.is_as_printed(run, folder, forgotten=["failed"])
+        found = self.is_as_printed(run, folder, *words, forgotten=["failed"])
         self.assertEqual((list(found)[-1], found["started"]["state"], found["failed"]["state"]), ("started", "never run", "never run"))
         self.assertEqual(run.ends(), 0)
 

@@ -101,7 +101,7 @@ for command in "" run serve show status log metrics once; do
     same "the longest line of $command --help has at most 80 columns" "" "$(awk 'length > 80' "$here/out")"
 done
 ends 0 "" run --help
-holds "run --help" "--journal <DIR>" --memory "--root <DIR>" "--via <PROGRAM>" "--path <PATH>" "[default: /usr/lib/ocf]" \
+holds "run --help" --strict "--journal <DIR>" --memory "--root <DIR>" "--via <PROGRAM>" "--path <PATH>" "[default: /usr/lib/ocf]" \
     "[default: /usr/sbin:/usr/bin:/sbin:/bin]" --any-owner "--tidy-at <BYTES>" "[default: 6291456]" "--orphans <MS>" \
     "[default: 20000]" --leave-orphans --no-groups --existing "exactly one of --journal and --memory" Examples: "ocfexec run --memory"
 ends 0 "" show --help
@@ -115,9 +115,9 @@ ends 0 "" show -h
 ends 0 "" help run
 ends 0 "" run --memory --help
 ends 0 "" --version
-wrote --version "ocfexec 0.1.0"
+wrote --version "ocfexec 0.2.0"
 ends 0 "" -V
-wrote -V "ocfexec 0.1.0"
+wrote -V "ocfexec 0.2.0"
 ends 0 "" run --memory
 wrote "run --memory" ""
 for bytes in 0 045 8388608; do
@@ -217,6 +217,8 @@ misused "^error: " run --memory --any-owner=no
 misused "^error: " run --memory --leave-orphans=yes
 misused "^error: " run --memory --leave-orphans yes
 misused "^error: " run --memory --no-groups=yes
+misused "^error: " run --memory --strict=yes
+misused "unexpected argument '--strict'" serve --memory --strict
 misused "unexpected argument '--no-groups'" show --memory --no-groups
 misused "^error: " run --memory --via -x
 misused "cannot be used multiple times" run --memory --root /r --root /r

@@ -21,7 +21,7 @@ import sys
 import time
 
 READY = {"dropped": 0, "identity": "d1f0c9a7be2435f8a6b1c0d2e3f4a5b4", "interrupted": 0, "journal": "/j", "next_call": 1, "ready": True,
-         "resources": 0, "version": "0.1.0"}
+         "resources": 0, "version": "0.2.0"}
 CODES = {"done": (0, "OCF_SUCCESS")}
 
 
@@ -91,7 +91,7 @@ class Player:
         elif op == "history":
             self.line({"ok": True, "results": [result(one) for one in histories[command["id"]]], **tag}, "reply")
         elif op == "version":
-            self.line({"ok": True, "version": "0.1.0", **tag}, "reply")
+            self.line({"ok": True, "version": "0.2.0", **tag}, "reply")
         elif op == "leave":
             self.line({"end": "left", **tag}, "reply")
             sys.exit(0)

@@ -4,7 +4,7 @@ CONTRIBUTING.md, docs/, mutants/README.md and the crates' READMEs name in backti
 somewhere in the repository outside the documents; in a README, a section or a row of one crate it occurs in that crate. Each label of a
 clause that a table or a list names after a function is that of a clause or of a field of a definition. Each file with a body that is proved
 by hand is named as trusted. ARCHITECTURE's rows are the headings of crates.txt, and no crate depends on one above its row. The manual pages
-of ocfexec and ocfctl have the options of `--help`, and no others, and fit 80 columns.
+have the options of `--help`, and no others, and fit 80 columns.
 Use: documents.py PROGRAM"""
 import collections
 import fnmatch
@@ -21,9 +21,11 @@ import helper  # noqa: E402
 
 DOCUMENTS = ["README.md", "CONTRIBUTING.md", "mutants/README.md",
              *sorted(glob.glob("docs/*.md", root_dir=helper.TOP) + glob.glob("crates/*/README.md", root_dir=helper.TOP))]
-MANUAL, PAGE = "docs/ocfexec.8", "docs/ocfctl.8"
+MANUAL, PAGE, CLIENT_PAGE = "docs/ocfexec.8", "docs/ocfctl.8", "docs/ocfexec-client.8"
 # Generated from the definitions.
 STATEMENT = "docs/STATEMENT.antt.txt"
+# Files whose words count for nothing, since they are about names.
+HIDDEN = [*DOCUMENTS, MANUAL, PAGE, CLIENT_PAGE, STATEMENT, "tests/repository/documents.py"]
 SUBCOMMANDS = ["run", "serve", "show", "status", "log", "metrics", "once"]
 # Names of other programs, of files that only a gate or a check leaves, and of things that a document says do not exist.
 OUTSIDE = {"--default-signal", "--keep-size", "--length", "--pdeathsig", "/srv/hour", "ArgGroup", "clap_complete", "clone3",
@@ -104,7 +106,7 @@ class Names:
         self.crates = set(os.listdir(os.path.join(helper.TOP, "crates")))
         self.files, self.of_crate, self.words, self.of_file = set(), collections.defaultdict(set), set(OUTSIDE), {}
         for path in tree():
-            hidden = path in (*DOCUMENTS, MANUAL, PAGE, STATEMENT, "tests/repository/documents.py") or path.startswith("docs/pictures/")
+            hidden = path in HIDDEN or path.startswith("docs/pictures/")
             words = set(re.findall(r"\w+", path if hidden else path + " " + read(path)))
             self.files.add(path)
             self.words |= words
@@ -267,10 +269,16 @@ class Documents(helper.Check):
         page = options(re.sub(r"\\f[BIPR]", "", read(PAGE)).replace("\\-", "-")) - {"--events"}
         self.assertEqual(*[{name for name in found if name.startswith("--")} for found in (page, options(self.names.ctl))])
 
+    def test_client_page(self):
+        """the manual page of the client has the options of its help, and no others but those of the executor that it names"""
+        page = options(re.sub(r"\\f[BIPR]", "", read(CLIENT_PAGE)).replace("\\-", "-")) - {"--root", "--via", "--path", "--meta-variables"}
+        own = self.names.client.partition("options:")[2]
+        self.assertEqual(*[{name for name in found if name.startswith("--")} for found in (page, options(own))])
+
     @unittest.skipUnless(shutil.which("man") and shutil.which("groff"), "install man-db and groff-base")
     def test_width(self):
         """the manual pages fit 80 columns"""
-        for page, least in ((MANUAL, 300), (PAGE, 100)):
+        for page, least in ((MANUAL, 300), (PAGE, 100), (CLIENT_PAGE, 100)):
             shown = subprocess.run(["man", "--warnings", "-l", os.path.join(helper.TOP, page)], capture_output=True, check=True,
                                    env={**os.environ, "MANWIDTH": "80", "LC_ALL": "C.UTF-8", "MAN_KEEP_FORMATTING": ""})
             # a terminal has no pages

@@ -42,19 +42,25 @@ git checkout --quiet README.md
 same "the tags after what was refused" "" "$(git tag --list 'v[0-9]*' | grep -v -x -F "$(releases "$before" | sed s/^/v/)")"
 checked "a release that is not above the last one, or of a tree with changes, is refused"
 
+# Adds a change to what is not released.
+change() {
+    sed -i 's/^## \[Unreleased\]$/&\n\n- a change/' CHANGELOG.md && git commit --quiet --message "a change" CHANGELOG.md
+    before=$(git rev-parse HEAD)
+}
+change
 package/release.sh 99.0.10 > "$here/said" 2>&1 || differs "a release" "it is made" "$(cat "$here/said")"
 same "what it changes" \
-    "CHANGELOG.md crates/exec_options/src/texts.rt docs/ocfctl.8 docs/ocfexec.8 python/ocfexec/__init__.py tests/cli/words.sh" \
+    "CHANGELOG.md crates/exec_options/src/texts.rt docs/ocfctl.8 docs/ocfexec-client.8 docs/ocfexec.8 python/ocfexec/__init__.py"\
+" tests/cli/words.sh" \
     "$(git diff --name-only "$before" | xargs)"
-same "the lines that it changes" "8 6" "$(git diff --numstat "$before" | awk '{ added += $1; taken += $2 } END { print added, taken }')"
+same "the lines that it changes" "9 7" "$(git diff --numstat "$before" | awk '{ added += $1; taken += $2 } END { print added, taken }')"
 same "the version" 99.0.10 "$(program_version v99.0.10)"
 same "the manual's version" 99.0.10 "$(manual_version .)"
 same "the check's versions" "99.0.10 99.0.10" "$(sed -n 's/^wrote \(--version\|-V\) "ocfexec \(.*\)"$/\2/p' tests/cli/words.sh | xargs)"
 before=$(git rev-parse HEAD)
 refused 99.0.9 "99.0.9 is not above 99.0.10"
 refused 99.0.11 "the changelog has nothing under Unreleased"
-sed -i 's/^## \[Unreleased\]$/&\n\n- a change/' CHANGELOG.md && git commit --quiet --message "a change" CHANGELOG.md
-before=$(git rev-parse HEAD)
+change
 same "the notes of a release" "$(sed -n '/^## \[99.0.10\]/,/^## \[0/p' CHANGELOG.md | sed '1d;$d')" "$(package/notes.sh 99.0.10)"
 package/release.sh 99.0.11 > "$here/said" 2>&1 || differs "a second release" "it is made" "$(cat "$here/said")"
 same "its package's version" "99.0.11+$(($(git rev-list --count "$before") + 1)).$(git rev-parse --short=12 HEAD)" "$(version_of HEAD)"

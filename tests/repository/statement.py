@@ -22,7 +22,7 @@ CHANGES = [
     ("executor/src/laws.rt", "        → (zs : List Event) × FoundAs (after_all start zs) c\n        × Behaves",
      "        → (zs : List Event) × FoundAs start c\n        × Behaves"),
     ("executor/specs/Behaves.antt", "  pub ran : x.ran ≡ interrupted s (moment s x.now)\n", "  pub ran : x.ran ≡ []\n"),
-    ("executor/specs/Incarnations.antt", "-- the images that its crash may have left", "-- what is left"),
+    ("executor/specs/Incarnations.antt", "-- one call after the other; a session is the calls of its inputs", "-- one after the other"),
     ("executor/specs/Incarnations.antt", "  pub acknowledged : p ≡ x.done.events ++ later\n", ""),
     ("ocf_types/specs/Limits.antt", "longest_result = 84", "longest_result = 85"),
     ("ocf_types/src/reply.rt", "    EpochSpent,\n", ""),

@@ -72,7 +72,7 @@ grep -q "commit $commit" "$root/usr/share/doc/ocfexec/README.gate" ||
     differs "the gate" "commit $commit" "$(cat "$root/usr/share/doc/ocfexec/README.gate")"
 grep -q '/usr/bin/ocfexec serve .* \$OCFEXEC_OPTIONS$' "$root/lib/systemd/system/ocfexec.service" ||
     differs "the unit" "the options of /etc/default" "$(grep ExecStart "$root/lib/systemd/system/ocfexec.service")"
-for page in ocfexec ocfctl; do
+for page in ocfexec ocfctl ocfexec-client; do
     [ -s "$root/usr/share/man/man8/$page.8.gz" ] || differs "the manual page $page" "there" "not"
 done
 

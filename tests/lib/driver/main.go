@@ -53,24 +53,21 @@ func orNull(text string) any {
 func described(err error) dict {
 	var refused *ocfexec.Refused
 	var ended *ocfexec.Ended
-	var without *ocfexec.NoMetadata
 	switch {
-	case errors.As(err, new(*ocfexec.Garbled)):
+	case errors.Is(err, ocfexec.ErrGarbled):
 		return dict{"error": "Garbled"}
 	case errors.Is(err, ocfexec.ErrTooOld):
 		return dict{"error": "TooOld"}
 	case errors.Is(err, ocfexec.ErrNotStarted):
 		return dict{"error": "NotStarted"}
-	case errors.As(err, new(*ocfexec.AlreadyRunning)):
+	case errors.Is(err, ocfexec.ErrRunning):
 		return dict{"error": "AlreadyRunning"}
 	case errors.As(err, &ended):
 		return dict{"error": "Ended", "status": ended.Status}
-	case errors.As(err, new(*ocfexec.Late)):
+	case errors.Is(err, context.DeadlineExceeded):
 		return dict{"error": "Late"}
-	case errors.As(err, &without):
-		return dict{"error": "NoMetadata", "reason": without.Reason}
 	case errors.As(err, &refused):
-		return dict{"error": "Refused", "op": refused.Op, "word": refused.Word, "number": refused.Number, "key": orNull(refused.Key),
+		return dict{"error": "Refused", "op": refused.Command["op"], "word": refused.Word, "number": refused.Number, "key": orNull(refused.Key),
 			"message": orNull(refused.Message)}
 	}
 	return dict{"error": err.Error()}
@@ -78,12 +75,13 @@ func described(err error) dict {
 
 type driver struct {
 	executor *ocfexec.Executor
+	problems *[]string
 	ctx      context.Context
 }
 
 // drained takes the results that have come; the reply to version comes after all that was said before.
 func (d driver) drained() error {
-	if _, err := d.executor.Version(d.ctx); err != nil {
+	if _, err := ocfexec.Ask[dict](d.ctx, d.executor, ocfexec.Command{"op": "version"}); err != nil {
 		return err
 	}
 	for {
@@ -115,23 +113,19 @@ func (d driver) does(word string, more any) error {
 	e, ctx := d.executor, d.ctx
 	switch word {
 	case "start":
-		_, err := e.Start(ctx)
-		return answer(dict{"started": all(e.Reported())}, err)
+		ready, err := e.Start(ctx)
+		return answer(dict{"started": all(ready.Report)}, err)
 	case "exec":
-		call, err := e.Exec(ctx, more.(string), "start", ocfexec.How{})
-		return answer(dict{"call": call}, err)
+		reply, err := ocfexec.Ask[struct{ Call int64 }](ctx, e, ocfexec.Command{"op": "exec", "id": more, "action": "start"})
+		return answer(dict{"call": reply.Call}, err)
 	case "ask":
-		reply, err := e.Ask(ctx, command(more))
-		var value dict
-		if err == nil {
-			err = json.Unmarshal(reply, &value)
-			delete(value, "kind")
-		}
-		return answer(dict{"reply": value}, err)
+		reply, err := ocfexec.Ask[dict](ctx, e, command(more))
+		delete(reply, "kind")
+		return answer(dict{"reply": reply}, err)
 	case "late":
 		soon, cancel := context.WithTimeout(ctx, short)
 		defer cancel()
-		_, err := e.Ask(soon, command(more))
+		_, err := ocfexec.Ask[dict](soon, e, command(more))
 		return err
 	case "result":
 		result, err := e.Result(ctx, int64(more.(float64)))
@@ -147,10 +141,10 @@ func (d driver) does(word string, more any) error {
 	case "rest":
 		return d.drained()
 	case "metadata":
-		text, err := e.Metadata(ctx, more.(string), 20*time.Second)
-		return answer(dict{"metadata": text}, err)
+		reply, err := ocfexec.Ask[struct{ End string }](ctx, e, ocfexec.Command{"op": "meta", "id": more})
+		return answer(dict{"error": "NoMetadata", "reason": reply.End}, err)
 	case "problems":
-		return answer(dict{"problems": e.Problems()}, nil)
+		return answer(dict{"problems": *d.problems}, nil)
 	case "kill":
 		status, err := e.Kill(ctx)
 		return answer(dict{"status": status}, err)
@@ -184,8 +178,11 @@ func main() {
 	}
 	ctx, cancel := context.WithTimeout(context.Background(), patience)
 	defer cancel()
-	options := ocfexec.Options{OnNewJournal: func(difference string) { say(dict{"journal": difference}) }}
-	d := driver{ocfexec.New(os.Args[3:], options), ctx}
+	var problems []string
+	d := driver{ocfexec.New(os.Args[3:], ocfexec.Options{
+		OnNewJournal: func(difference string) { say(dict{"journal": difference}) },
+		OnTrouble:    func(word string) { problems = append(problems, word) },
+	}), &problems, ctx}
 	for _, step := range cases[number].Does {
 		if err := d.does(step[0].(string), append(step, nil)[1]); err != nil {
 			say(described(err))
