@@ -1,5 +1,5 @@
 #!/usr/bin/env python3
-# check: stores
+# check: scenarios
 """The scenarios of tests/scenarios/data that name no disk, played over a store in memory (crates/test_stores) in place of two files: they
 print the same transcripts, but for the counts of device calls in the entries of starts, which are those of another device. So commands,
 turns and refusals do not know what their store is.
