@@ -54,18 +54,9 @@ class Tables(helper.Check):
         if seconds:
             time.sleep(seconds)
             run.send_signal(signal.SIGINT)
-        text = b""
-        while True:
-            try:
-                part = os.read(mine, 1 << 16)
-            except OSError:
-                part = b""
-            if not part:
-                break
-            text += part
-        os.close(mine)
+        text = helper.terminal_text(mine)
         run.wait(helper.PATIENCE)
-        return text.decode().replace("\r\n", "\n")
+        return text
 
     def eleven(self) -> None:
         """Eleven resources: of a cluster's kind, one with an id of 64 letters, one that failed and was stopped, one that was never run."""

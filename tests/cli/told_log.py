@@ -70,18 +70,9 @@ class ToldLog(helper.Check):
         mine, theirs = pty.openpty()
         run = subprocess.Popen(self.command(*words), stdin=theirs, stdout=theirs, stderr=theirs, env=env)
         os.close(theirs)
-        text = b""
-        while True:
-            try:
-                part = os.read(mine, 1 << 16)
-            except OSError:
-                part = b""
-            if not part:
-                break
-            text += part
-        os.close(mine)
+        text = helper.terminal_text(mine)
         self.assertEqual(run.wait(helper.PATIENCE), 0)
-        return text.decode().replace("\r\n", "\n")
+        return text
 
     def is_text(self, name: str, text: str) -> None:
         path = os.path.join(TEXTS, f"{name}.txt")

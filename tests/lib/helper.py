@@ -177,6 +177,17 @@ def results(folder):
     return {name: found[2 + 2 * place]["results"] for place, name in enumerate(found[0]["resources"])}
 
 
+def terminal_text(master):
+    """All that is written to a pseudo-terminal until its other side is closed; its master side, which is closed here."""
+    text = b""
+    with os.fdopen(master, "rb", buffering=0) as terminal:
+        # the end of a terminal is an error of input
+        with contextlib.suppress(OSError):
+            while part := terminal.read(1 << 16):
+                text += part
+    return text.decode().replace("\r\n", "\n")
+
+
 def processor_time(pid):
     """The processor time of a process, in seconds."""
     with open(f"/proc/{pid}/stat", encoding="ascii") as stat:
