@@ -16,6 +16,8 @@ sys.path[0] += "/../lib"
 import helper  # noqa: E402
 
 STEP = 4096
+# in how many bytes of address space together the stack may not be able to grow
+STACKLESS = 160 << 10
 RESOURCES = 120
 # How standard error begins with each status, if it goes to the system's journal.
 ENDS = {4: "ocfexec: memory\nFree memory ", 7: "ocfexec: input or output\nA reply or a notice found no memory."}
@@ -75,6 +77,15 @@ class Memory(helper.Check):
             self.assertTrue(reply in ("", of_full) or '"memory"' in reply, f"a reply or a refusal, not {reply}")
         return status, '"memory"' in out
 
+    def standing(self, room, folder):
+        # a run with this address space, or with the least above it in which the stack can grow
+        for more in range(0, STACKLESS + STEP, STEP):
+            status, out, err = limited(room + more, ["run", "--journal", folder], ASKED)
+            if status != -signal.SIGSEGV:
+                return status, out, err
+            self.assertEqual(out, "", f"nothing is answered before the stack has grown, in {room + more} bytes")
+        return status, out, err
+
     def test_sweep(self):
         """less and less memory"""
         status, full, _ = self.fresh(resource.RLIM_INFINITY)
@@ -84,14 +95,14 @@ class Memory(helper.Check):
         print("memory: ended as", sorted(seen), flush=True)
         self.assertIn((4, False), seen, "an opening without memory")
         print("memory: the stack could not grow in", self.stackless, "by steps of", stride, flush=True)
-        self.assertLessEqual(len(self.stackless) * stride, 160 << 10, "bytes in which the stack cannot grow")
+        self.assertLessEqual(len(self.stackless) * stride, STACKLESS, "bytes in which the stack cannot grow")
         self.assertTrue(any(status == 7 or refused for status, refused in seen), "a run that found no memory")
 
     def test_stands(self):
         """records made with too little memory are found with enough"""
         for part in (3, 5, 7):
             folder = self.journal(f"journal{part}")
-            status, out, err = limited(self.floor + (self.enough - self.floor) * part // 8, ["run", "--journal", folder], ASKED)
+            status, out, err = self.standing(self.floor + (self.enough - self.floor) * part // 8, folder)
             self.is_told(status, err, f"with {part} eighths")
             told = out.split("\n")[:RESOURCES].count('{"ok":true}')
             done = helper.run("run", "--journal", folder, told=helper.lines({"op": "list"}))
