@@ -1,161 +1,165 @@
 //! Ends actions with all that belongs to them.
-use crate::belongings::Belongings;
-use crate::patience::{Pauses, outlives};
-use crate::report::{report_all, report_unstopped};
-use crate::search::suspend_all;
-use crate::signals::{Signal, Signals, Target};
-use crate::volley::Volley;
-use proc_files::{ProcFiles, Process};
+ghost use Rattle.std.specs.Prelude.{◌≡◌, ◌∷◌, Contains, OnOk, [], false, true};
+ghost use Rattle.agent_system.specs.May.{IsOver};
+ghost use Rattle.agent_system.specs.SystemView.{without_process};
+ghost use Rattle.process_ends.specs.Endings.{AllDue, AreGivenUp, AreSameActions, HasKilled, IsChangedAt, IsGivenUpAt, IsKilled, IsMatched, IsSameAction, IsSearched, OnlyEnds, OnlySignals, given_up_of};
+
+use crate::given_up::GivenUpAction;
+use crate::kill::{kill_all, lives_now, stop_groups};
+use crate::patience::Pauses;
+use crate::report::{report_alive, report_all, report_unstopped};
+use crate::search::search;
+use agent_system::AgentSystem;
+use proc_files::Process;
 use std::alloc::Allocator;
 use std::io::{self, Eprint};
-use std::process::{Child, OpenProcess};
 use std::rt::Clock;
+use std::slice;
 
-/// Whether a process still exists, with the same number and start, and has not ended. `true` where `/proc` cannot be read.
-pub fn still_lives<R: ProcFiles>(rt: &R, process: &Process) -> bool {
-    match rt.process_of(process.pid) {
-        Ok(Some(now)) => now.is(process) && !now.has_ended,
-        Ok(None) => false,
-        Err(_) => true,
-    }
-}
-
-// Forgets a group whose number is another process's now, and that of this process, in which members are ended one by one.
-fn check_groups<R: ProcFiles, A: Allocator + Copy>(rt: &R, actions: &mut [Belongings<A>]) {
-    let own = match rt.own() {
-        Ok(own) => Some(own.group),
-        Err(_) => None,
-    };
-    for action in actions {
-        let _ = action.look(rt);
-        if action.group == own {
-            action.group = None;
-        }
-    }
-}
-
-// Suspends the groups of these actions.
-fn suspend_groups<R: Signals, A: Allocator + Copy>(rt: &R, actions: &mut [Belongings<A>]) {
-    let mut volley = Volley::of(rt, Signal::Stop);
-    for action in actions.iter() {
-        if let Some(group) = action.group {
-            volley.add(Target::Group(group));
-        }
-    }
-    let are_suspended = volley.end().is_ok();
-    for action in actions {
-        action.is_suspended = are_suspended;
-    }
-}
-
-// Adds the group of an action to those that are killed, and the processes that were found outside of it.
-fn kill_more<R: ProcFiles + Signals, A: Allocator + Copy>(
-    rt: &R,
-    action: &Belongings<A>,
-    volley: &mut Volley<'_, R>,
-) {
-    if let Some(group) = action.group {
-        volley.add(Target::Group(group));
-    }
-    for process in action.known.iter() {
-        // a number may have been given again
-        if action.group != Some(process.group) && still_lives(rt, process) {
-            volley.add(Target::Process(process.pid));
-        }
-    }
-}
-
-// Kills the groups of these actions and the processes that were found.
-fn kill_all<R: ProcFiles + Signals, A: Allocator + Copy>(
-    rt: &R,
-    actions: &[Belongings<A>],
-) -> io::Result<()> {
-    let mut volley = Volley::of(rt, Signal::Kill);
-    for action in actions {
-        kill_more(rt, action, &mut volley);
-    }
-    volley.end()
-}
-
-/// Kills all processes that belong to these actions, and has each action know those that it found. First their groups are suspended
-/// (SIGSTOP), then what a search finds, until it finds no more, so that none starts others unseen; then all get SIGKILL. It does not
-/// wait for their end.
-///
-/// Groups get both signals also where no memory is left for the search or `/proc` cannot be read. An error that ended the search is
-/// reported on standard error.
-pub fn kill_actions<R: Eprint + ProcFiles + Signals, A: Allocator + Copy>(
-    rt: &R,
-    alloc: A,
-    actions: &mut [Belongings<A>],
-) -> io::Result<()> {
-    check_groups(rt, actions);
-    suspend_groups(rt, actions);
-    let found = suspend_all(rt, alloc, actions);
-    if let Err(error) = &found {
+// Reports an error that ended a search.
+fn report_search<R: Eprint>(rt: &R, found: &io::Result<()>) {
+    if let Err(error) = found {
         report_unstopped(rt, error);
     }
-    kill_all(rt, actions)?;
-    for action in actions {
-        action.is_complete = action.is_suspended && matches!(found, Ok(true));
-    }
-    Ok(())
 }
 
-// Forgets the known processes that have ended, and returns whether any is left.
-fn are_left<R: ProcFiles, A: Allocator + Copy>(rt: &R, actions: &mut [Belongings<A>]) -> bool {
-    let mut are_left = false;
-    for action in actions {
-        action.known.retain(|process| still_lives(rt, process));
-        are_left |= !action.known.is_empty();
-    }
-    are_left
-}
-
-/// Waits for killed processes, a tenth of a second at most. Each action then knows those that live on.
-pub fn await_actions<R: Clock + ProcFiles, A: Allocator + Copy>(
-    rt: &R,
-    actions: &mut [Belongings<A>],
-) {
-    let mut pauses = Pauses::after_kill();
-    while are_left(rt, actions) {
-        if !pauses.pause(rt) {
-            return;
-        }
-    }
-}
-
-// Reports the processes of an action that live on, except its agent.
-fn report_others<R: Eprint + ProcFiles, A: Allocator>(rt: &R, action: &Belongings<A>, agent: u32) {
-    for process in action.known.iter() {
-        if process.pid != agent {
-            report_all(rt, &[*process]);
-        }
-    }
-}
-
-/// Ends a child of this process with all that belongs to it, waits for that two tenths of a second at most, and returns whether the
-/// child lives on. Others that do are named on standard error.
-pub fn end_child<R: Clock + Eprint + ProcFiles + Signals, P: OpenProcess, A: Allocator + Copy>(
-    rt: &R,
+/// Kills all processes that belong to the due ones of these actions, which are all that was given up, and has each of these know those
+/// that it found. First their groups are suspended (SIGSTOP), then what a search finds, until it finds no more, so that none starts
+/// others unseen; then all get SIGKILL. It does not wait for their end.
+///
+/// Groups and agents get SIGKILL also where no memory is left for the search or `/proc` cannot be read. An error that ended the search
+/// is reported on standard error. It fails if the search or a request for SIGKILL did.
+pub fn kill_actions<R: AgentSystem + Eprint, T: Drop, A: Allocator + Copy>(
+    rt: &mut R,
     alloc: A,
-    child: &mut Child<P>,
-) -> bool {
-    let pid = child.id();
+    actions: &mut [GivenUpAction<T, R::Child, A>],
+) -> io::Result<()>
+    requires given_up { AreGivenUp R.process_of (R.view rt.old).sights actions.old }
+    ensures given_up { AreGivenUp R.process_of (R.view rt.new).sights actions.new }
+    ensures same { AreSameActions actions.old actions.new }
+    ensures ends { OnlyEnds (R.view rt.old) (R.view rt.new) }
+    ensures killed { AllDue (IsKilled (R.view rt.old) (R.view rt.new)) actions.new }
+    ensures searched { OnOk result (AllDue (IsSearched (R.view rt.new).sights.table) actions.new) }
+{
+    let are_suspended = stop_groups(rt, actions);
+    let found = search(rt, alloc, actions, are_suspended);
+    report_search(&*rt, &found);
+    let sent = kill_all(rt, actions);
+    found?;
+    sent
+}
+
+// Kills all processes of an action, which is all that was given up. Without memory for a search it kills those that need none.
+fn killed<R: AgentSystem + Eprint, A: Allocator + Copy>(
+    rt: &mut R,
+    alloc: A,
+    action: GivenUpAction<(), R::Child, A>,
+) -> GivenUpAction<(), R::Child, A>
+    requires given_up { (R.view rt.old).sights.given_up ≡ given_up_of action ∷ [] }
+    requires matched { IsMatched R.process_of action }
+    requires due { action.is_due ≡ true }
+    ensures given_up { (R.view rt.new).sights.given_up ≡ given_up_of result ∷ [] }
+    ensures matched { IsMatched R.process_of result }
+    ensures process { result.process ≡ action.process }
+    ensures ends { OnlyEnds (R.view rt.old) (R.view rt.new) }
+    ensures killed { IsKilled (R.view rt.old) (R.view rt.new) (given_up_of result) }
+{
     let mut actions = Vec::new(alloc);
-    if actions.push(Belongings::of_child(alloc, pid)).is_err() {
-        // without memory its group is killed at least
-        let _ = rt.send(Signal::Kill, &[Target::Group(pid)]);
+    if let Err(failed) = actions.push(action) {
+        let mut action = failed.value;
+        let _ = action.kill(rt, 0);
+        return action;
     }
-    let sent = kill_actions(rt, alloc, actions.as_mut_slice());
-    let _ = child.kill();
-    if sent.is_err() {
-        // the shell that sends signals may be spawned now that the child was killed
-        let _ = kill_all(rt, actions.as_slice());
+    let _ = kill_actions(rt, alloc, actions.as_mut_slice());
+    actions.remove(0)
+}
+
+// Waits for the end of an action that was killed, two tenths of a second at most. Returns whether a process of it may live on.
+fn outlives<R: AgentSystem + Clock, T: Drop, A: Allocator + Copy>(
+    rt: &mut R,
+    alloc: A,
+    action: &mut GivenUpAction<T, R::Child, A>,
+) -> bool
+    requires given_up { IsGivenUpAt R.process_of (R.view rt.old).sights 0 action.old }
+    ensures given_up { IsChangedAt R.process_of (R.view rt.old).sights (R.view rt.new).sights 0
+        action.new }
+    ensures same { IsSameAction action.old action.new }
+    ensures ends { OnlyEnds (R.view rt.old) (R.view rt.new) }
+    ensures over { result ≡ false → IsOver (R.view rt.new).sights (given_up_of action.new) }
+{
+    let mut pauses = Pauses::within(200);
+    while action.lives(rt, alloc, 0) {
+        if !pauses.pause(rt) {
+            return true;
+        }
     }
-    let outlives = outlives(rt, child, Pauses::after_kill());
-    await_actions(rt, actions.as_mut_slice());
-    for action in actions {
-        report_others(rt, &action, pid);
+    false
+}
+
+// Reports a process of an action that lives on, if it is not its agent.
+fn report_other<R: AgentSystem + Eprint>(rt: &mut R, process: &Process, agent: u32)
+    ensures signals { OnlySignals (R.view rt.old) (R.view rt.new) }
+{
+    if process.pid != agent && lives_now(rt, process) {
+        report_all(&*rt, slice::from_ref(process));
     }
-    outlives
+}
+
+// Reports the processes of an action that live on.
+fn report_left<R: AgentSystem + Eprint, T: Drop, A: Allocator + Copy>(
+    rt: &mut R,
+    action: &GivenUpAction<T, R::Child, A>,
+    whose: &str,
+)
+    ensures signals { OnlySignals (R.view rt.old) (R.view rt.new) }
+{
+    let agent = action.process.pid;
+    if action.child.is_some() {
+        report_alive(rt, agent, whose);
+    }
+    for process in action.known.iter() {
+        report_other(rt, process, agent);
+    }
+}
+
+/// Gives an agent up and ends it with all that belongs to it, and waits for that two tenths of a second at most. What lives on is named on
+/// standard error, the agent as that of `whose`. Returns whether all of it has ended: then nothing is given up any more.
+pub fn end_agent<R: AgentSystem + Clock + Eprint, A: Allocator + Copy>(
+    rt: &mut R,
+    alloc: A,
+    child: R::Child,
+    whose: &str,
+) -> bool
+    requires lives { Contains (R.view rt.old).sights.live (R.process_of child) }
+    requires alone { (R.view rt.old).sights.given_up ≡ [] }
+    ensures live { (R.view rt.new).sights.live
+        ≡ without_process (R.process_of child).run (R.view rt.old).sights.live }
+    ensures killed { HasKilled (R.view rt.old) (R.view rt.new) (R.process_of child) }
+    ensures over { result ≡ true → (R.view rt.new).sights.given_up ≡ [] }
+    ensures own { (R.view rt.new).sights.own ≡ (R.view rt.old).sights.own }
+    ensures spawned { (R.view rt.new).spawned ≡ (R.view rt.old).spawned }
+    ensures asked { (R.view rt.new).asked ≡ (R.view rt.old).asked }
+    ensures let_run { (R.view rt.new).let_run ≡ (R.view rt.old).let_run }
+    ensures polled { (R.view rt.new).polled ≡ (R.view rt.old).polled }
+    ensures found { (R.view rt.new).found ≡ (R.view rt.old).found }
+{
+    let process = rt.process(&child);
+    rt.give_up(&child);
+    let mut action = killed(
+        rt,
+        alloc,
+        GivenUpAction {
+            what: (),
+            process,
+            child: Some(child),
+            known: Vec::new(alloc),
+            is_due: true,
+        },
+    );
+    if outlives(rt, alloc, &mut action) {
+        report_left(rt, &action, whose);
+        return false;
+    }
+    rt.release(0);
+    true
 }

@@ -2,22 +2,19 @@
 use crate::line::BoundedLine;
 use crate::patience::{Deadline, Pauses, outlives};
 use crate::ready::{is_readable, is_writable};
-use crate::signals::Target;
+use agent_system::Target;
 use std::alloc::{AllocError, Global};
 use std::io::{self, ErrorKind, Read, Write};
 use std::os::fd::AsRawFd;
 use std::process::{Child, ChildStdin, ChildStdout, Command, Processes, Stdio, SystemProcess};
 use std::rt::Clock;
 
-// What it runs: each line that it reads is a signal and its targets, and each is answered by a line: where there is one target, 0 exactly
-// when it got the signal. `kill` is built into the shell, so no process is made for it. POSIX, sh and kill.
+// What it runs: each line that it reads is a signal and its target, and each is answered by a line: 0 exactly when the target got the
+// signal. `kill` is built into the shell, so no process is made for it. POSIX, sh and kill.
 const SCRIPT: &str = "trap '' HUP INT QUIT TERM
-while read -r signal targets; do
-  if kill -s \"$signal\" -- $targets; then echo 0; else echo 1; fi
+while read -r signal target; do
+  if kill -s \"$signal\" -- $target; then echo 0; else echo 1; fi
 done";
-
-// How many targets a line has at most: each is a number of 32 bits, with a sign and a space before it.
-pub const TARGETS: usize = 256;
 
 // How long an answer may take, in milliseconds.
 const LIMIT: u32 = 1_000;
@@ -33,15 +30,13 @@ pub struct Killer {
     answers: ChildStdout,
 }
 
-/// The line that has the shell send a signal to these targets. Those that POSIX takes for a multitude are left out.
-pub fn line_of(signal: &str, targets: &[Target]) -> BoundedLine {
+/// The line that has the shell send a signal to a target. One that POSIX takes for a multitude is left out.
+pub fn line_of(signal: &str, target: Target) -> BoundedLine {
     let mut line = BoundedLine::new();
     // what does not fit is cut; that is no error
     let _ = write!(line, "{signal}");
-    for target in targets {
-        if target.is_one() {
-            let _ = write!(line, " {target}");
-        }
+    if target.is_one() {
+        let _ = write!(line, " {target}");
     }
     line.end();
     line
@@ -77,6 +72,7 @@ fn spawned(rt: &HostRuntime) -> io::Result<Child<SystemProcess>> {
 impl Killer {
     /// Spawns the shell.
     pub fn start(rt: &HostRuntime) -> io::Result<Killer> {
+        // TRUSTED: this shell sends the signals that its lines name, and no others.
         let mut child = spawned(rt)?;
         match (child.stdin.take(), child.stdout.take()) {
             (Some(lines), Some(answers)) => Ok(Killer {
@@ -100,7 +96,7 @@ impl Killer {
         Ok(())
     }
 
-    // Its answer to the last line, whether the target got the signal, if there is one.
+    // Its answer to the last line: whether the target got the signal.
     fn answer(&mut self, clock: &impl Clock) -> io::Result<bool> {
         let deadline = Deadline::after(clock, LIMIT);
         let mut answer = [0u8; 2];
@@ -121,7 +117,7 @@ impl Killer {
         Err(io::Error::from(ErrorKind::TimedOut))
     }
 
-    /// Has it send what a line says, and returns whether the target got the signal, if there is one. It fails where the shell is gone or
+    /// Has it send what a line says, and returns whether the target got the signal. It fails where the shell is gone or
     /// does not answer in a second.
     pub fn ask(&mut self, clock: &impl Clock, line: &BoundedLine) -> io::Result<bool> {
         self.write(line)?;
@@ -130,6 +126,7 @@ impl Killer {
 
     /// Ends the shell.
     pub fn end(mut self, clock: &impl Clock) {
+        // TRUSTED: SIGKILL is requested for the shell alone.
         let _ = self.child.kill();
         outlives(clock, &mut self.child, Pauses::after_kill());
     }

@@ -1,18 +1,8 @@
 //! Programs that may be run.
 use libc::{PATH_MAX, X_OK, access};
-use std::alloc::{AllocError, Allocator};
+use std::alloc::Allocator;
 use std::io::{self, ErrorKind};
 use std::{env, fs};
-
-/// The programs of a system.
-pub trait Programs {
-    /// Whether the file at this path may be run; otherwise the error that its execution meets, as `NotFound` or `PermissionDenied`.
-    /// What its first line names is not looked at. POSIX, execve.
-    fn check_program(&self, path: &str) -> io::Result<()>;
-
-    /// The path of this program. It fails where `/proc` cannot be read.
-    fn own_path<A: Allocator + Copy>(&self, alloc: A) -> io::Result<String<A>>;
-}
 
 // Whether this process may run the file at this path. POSIX, access.
 fn may_run(path: &str) -> bool {
@@ -26,26 +16,17 @@ fn may_run(path: &str) -> bool {
     unsafe { access(&text, X_OK) == 0 }
 }
 
-impl Programs for HostRuntime {
-    fn check_program(&self, path: &str) -> io::Result<()> {
-        if !fs::metadata(self, path)?.is_file() || !may_run(path) {
-            return Err(io::Error::from(ErrorKind::PermissionDenied));
-        }
-        Ok(())
+/// Whether the file at this path may be run; otherwise the error that its execution meets, as `NotFound` or `PermissionDenied`.
+/// What its first line names is not looked at. POSIX, execve.
+pub fn check_program(rt: &HostRuntime, path: &str) -> io::Result<()> {
+    if !fs::metadata(rt, path)?.is_file() || !may_run(path) {
+        return Err(io::Error::from(ErrorKind::PermissionDenied));
     }
-
-    fn own_path<A: Allocator + Copy>(&self, alloc: A) -> io::Result<String<A>> {
-        let path = env::current_exe(self)?;
-        Ok(String::from_str(alloc, path.as_str())?)
-    }
+    Ok(())
 }
 
-impl<R: Programs> Programs for &R {
-    fn check_program(&self, path: &str) -> io::Result<()> {
-        (**self).check_program(path)
-    }
-
-    fn own_path<A: Allocator + Copy>(&self, alloc: A) -> io::Result<String<A>> {
-        (**self).own_path(alloc)
-    }
+/// The path of this program. It fails where `/proc` cannot be read.
+pub fn own_path<A: Allocator + Copy>(rt: &HostRuntime, alloc: A) -> io::Result<String<A>> {
+    let path = env::current_exe(rt)?;
+    Ok(String::from_str(alloc, path.as_str())?)
 }

@@ -1,15 +1,15 @@
 //! Reports on standard error about processes that were to be ended.
-use proc_files::{ProcFiles, Process};
+use agent_system::AgentSystem;
+use proc_files::Process;
 use std::fmt::Display;
 use std::io::{self, Eprint};
-use std::process::{Child, OpenProcess};
 use std::str;
 
 // How many bytes of a command's name are read.
 const NAME_LIMIT: usize = 256;
 
 // The name of a process's command, empty where it cannot be read.
-fn name_of<'a, R: ProcFiles>(rt: &R, pid: u32, room: &'a mut [u8]) -> &'a str {
+fn name_of<'a, R: AgentSystem>(rt: &R, pid: u32, room: &'a mut [u8]) -> &'a str {
     let length = rt.name_of(pid, room);
     str::from_utf8(&room[..length])
         .unwrap_or_default()
@@ -17,12 +17,7 @@ fn name_of<'a, R: ProcFiles>(rt: &R, pid: u32, room: &'a mut [u8]) -> &'a str {
 }
 
 /// Reports a child that was killed and lives on, by its number, its command and what it belongs to.
-pub fn report_alive<R: Eprint + ProcFiles, P: OpenProcess, W: Display + Drop>(
-    rt: &R,
-    child: &Child<P>,
-    whose: W,
-) {
-    let pid = child.id();
+pub fn report_alive<R: AgentSystem + Eprint, W: Display + Drop>(rt: &R, pid: u32, whose: W) {
     let mut room = [0u8; NAME_LIMIT];
     let name = name_of(rt, pid, &mut room);
     let _ = rt.eprintln(format_args!(
@@ -31,7 +26,7 @@ pub fn report_alive<R: Eprint + ProcFiles, P: OpenProcess, W: Display + Drop>(
 }
 
 // Reports a process that was killed and lives on, by its number and its command.
-fn report_left<R: Eprint + ProcFiles>(rt: &R, process: &Process) {
+fn report_left<R: AgentSystem + Eprint>(rt: &R, process: &Process) {
     let pid = process.pid;
     let mut room = [0u8; NAME_LIMIT];
     let name = name_of(rt, pid, &mut room);
@@ -41,7 +36,7 @@ fn report_left<R: Eprint + ProcFiles>(rt: &R, process: &Process) {
 }
 
 /// Reports processes that were killed and live on.
-pub fn report_all<R: Eprint + ProcFiles>(rt: &R, processes: &[Process]) {
+pub fn report_all<R: AgentSystem + Eprint>(rt: &R, processes: &[Process]) {
     for process in processes {
         report_left(rt, process);
     }

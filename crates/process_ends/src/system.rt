@@ -1,20 +1,14 @@
-//! The system calls that an executor uses.
+//! The system as a program uses it.
 use crate::errors::ErrorLines;
-use crate::killer::{Killer, TARGETS, line_of};
+use crate::killer::Killer;
 use crate::line::BoundedLine;
-use crate::programs::Programs;
-use crate::signals::{Signal, Signals, Target};
-use proc_files::{ProcFiles, Process};
-use std::alloc::Allocator;
 use std::cell::Cell;
 use std::fmt::Display;
 use std::io::{self, Eprint};
-use std::process::{Child, Command, Processes, Stdio, SystemProcess};
 use std::rt::Clock;
 use std::time::Duration;
 
-/// The system as an executor uses it: its processes, its clocks, the files of `/proc`, a shell that sends signals, and a standard
-/// error that never blocks.
+/// The system as a program uses it: its handle, its clocks, a shell that sends signals, and a standard error that never blocks.
 #[derive(Drop)]
 pub struct System<'a> {
     rt: &'a HostRuntime,
@@ -54,8 +48,7 @@ impl<'a> System<'a> {
         }
     }
 
-    // Has the shell send what a line says, and returns whether the target got the signal, if there is one. A shell that is gone or stuck
-    // is ended.
+    // Has the shell send what a line says, and returns whether the target got the signal. A shell that is gone or stuck is ended.
     fn ask_once(&self, line: &BoundedLine) -> io::Result<bool> {
         let mut killer = self.taken_killer()?;
         let asked = killer.ask(self.rt, line);
@@ -66,8 +59,8 @@ impl<'a> System<'a> {
         asked
     }
 
-    // The same; a shell that is gone or stuck is replaced.
-    fn ask(&self, line: &BoundedLine) -> io::Result<bool> {
+    /// Has the shell send what a line says, and returns whether the target got the signal. A shell that is gone or stuck is replaced.
+    pub(crate) fn ask(&self, line: &BoundedLine) -> io::Result<bool> {
         match self.ask_once(line) {
             Err(_) => self.ask_once(line),
             asked => asked,
@@ -101,60 +94,5 @@ impl Clock for System<'_> {
 
     fn sleep(&self, duration: Duration) {
         self.rt.sleep(duration);
-    }
-}
-
-impl Processes for System<'_> {
-    type Started = SystemProcess;
-
-    fn spawn<B: Allocator + Clone>(
-        &self,
-        command: &Command<B>,
-        stdin: &Stdio,
-        stdout: &Stdio,
-        stderr: &Stdio,
-    ) -> io::Result<Child<SystemProcess>> {
-        self.rt.spawn(command, stdin, stdout, stderr)
-    }
-}
-
-impl ProcFiles for System<'_> {
-    fn own(&self) -> io::Result<Process> {
-        self.rt.own()
-    }
-
-    fn process_of(&self, pid: u32) -> io::Result<Option<Process>> {
-        self.rt.process_of(pid)
-    }
-
-    fn processes<A: Allocator + Copy>(&self, alloc: A) -> io::Result<Vec<Process, A>> {
-        self.rt.processes(alloc)
-    }
-
-    fn name_of(&self, pid: u32, room: &mut [u8]) -> usize {
-        self.rt.name_of(pid, room)
-    }
-}
-
-impl Signals for System<'_> {
-    fn send(&self, signal: Signal, targets: &[Target]) -> io::Result<()> {
-        for some in targets.chunks(TARGETS) {
-            self.ask(&line_of(signal.name(), some))?;
-        }
-        Ok(())
-    }
-
-    fn has_members(&self, group: u32) -> Option<bool> {
-        self.ask(&line_of("0", &[Target::Group(group)])).ok()
-    }
-}
-
-impl Programs for System<'_> {
-    fn check_program(&self, path: &str) -> io::Result<()> {
-        self.rt.check_program(path)
-    }
-
-    fn own_path<A: Allocator + Copy>(&self, alloc: A) -> io::Result<String<A>> {
-        self.rt.own_path(alloc)
     }
 }

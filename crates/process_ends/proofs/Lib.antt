@@ -1,0 +1,5 @@
+pub mod BelongingLemmas
+pub mod EndingLemmas
+pub mod IndexLemmas
+pub mod OverLemmas
+mod SystemLemmas
