@@ -1,4 +1,11 @@
 pub mod AgentLemmas
 pub mod CommandLemmas
-pub mod MetaLemmas
+pub mod GivingUp
+pub mod KeeperLemmas
+pub mod Keeping
+pub mod Knowing
+pub mod Launching
+pub mod OneAtATime
+pub mod OpeningLemmas
 pub mod WaitLemmas
+pub mod Waiting

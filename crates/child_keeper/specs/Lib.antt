@@ -1,10 +1,7 @@
 pub mod Scripts
 pub mod Scripted
 pub mod Agents
-pub mod Commands
-pub mod Ends
-pub mod Codes
+pub mod Keepers
+pub mod Openings
 pub mod Processes
 pub mod Waits
-pub mod MetaOutputs
-pub mod MetaChildren

@@ -1,20 +1,24 @@
 //! What an earlier executor left running, by the record of who runs.
-ghost use Rattle.std.specs.Prelude.{IsTrue, OnErr};
+ghost use Rattle.std.specs.Prelude.{◌≡◌, ◌+◌, ◌*◌, ◌++◌, ◌<◌, ◌≤◌, List, [], ◌∷◌, All, Contains, IfOk, IsTrue, OnErr, OnOk, Some, false, length, map, option_map, take, true, vec_len};
+ghost use Rattle.std.specs.Vec.{vec_capacity};
+ghost use Rattle.agent_system.specs.Sights.{HasEnded};
+ghost use Rattle.agent_system.specs.SystemView.{after_adopt, after_open, process_in};
+ghost use Rattle.agents_file.specs.declared.entry.AgentEntry.{AgentEntry};
+ghost use Rattle.child_keeper.specs.Openings.{AreFound, IsFound, IsSeenEnded, OnlyAdopts, OnlyLooks, OnlyOpens, left_of};
+ghost use Rattle.process_ends.specs.Endings.{AreGivenUp, processes};
 
 use crate::moments::{killed_at, millis_now, timeout_until};
-use crate::open_record::OpenRecord;
 use crate::record::Record;
-use crate::wait::Wait;
+use crate::wait::{Wait, wait_in};
 use crate::wait_lines::report_orphan;
-use crate::waits::Waits;
-use agents_file::{AgentEntry, Kept};
+use crate::waits::{WAIT_LIMIT, Waits};
+use agent_system::{AgentSystem, Leading, leading_of};
+use agents_file::{AgentEntry, Kept, SLOTS};
 use exec_commands::Left;
 use growth::{Grows, push};
-use proc_files::ProcFiles;
-use process_ends::{Belongings, Leading, Programs, Signals, leading_of};
-use std::alloc::{AllocError, Allocator, Global};
+use proc_files::Process;
+use std::alloc::{AllocError, Allocator};
 use std::io::Eprint;
-use std::process::OpenProcess;
 use std::rt::Clock;
 
 /// How the executor looks after the processes of agents, as its options say.
@@ -31,7 +35,7 @@ pub struct Upkeep<'a> {
 }
 
 /// How agents are spawned, so that each leads a process group of its own, if that is wanted.
-pub fn leading<R: Eprint + Programs, A: Grows>(
+pub fn leading<R: AgentSystem + Eprint, A: Grows>(
     rt: &R,
     alloc: A,
     wanted: bool,
@@ -42,15 +46,13 @@ pub fn leading<R: Eprint + Programs, A: Grows>(
     A::library_growth(leading_of(rt, alloc, wanted))
 }
 
-/// Opens the record, with the entries that it has. A record that cannot be opened is reported, and then none is kept; one that was
-/// replaced is reported too.
-pub fn open_record<R: Eprint + OpenRecord>(
-    rt: &R,
-    directory: Option<&str>,
-) -> (Record, Option<Vec<Kept>>) {
-    let Some(directory) = directory else {
-        return (Record::new(None), None);
-    };
+// Opens the record of who runs, and returns the entries that it has. A record that cannot be opened is reported, and then none is kept;
+// one that was replaced is reported too.
+fn opened<R: AgentSystem + Eprint>(rt: &mut R, directory: Option<&str>) -> Option<Vec<Kept>>
+    ensures { R.view rt.new
+        ≡ after_open (R.view rt.old) (option_map (λ kept. map (λ k. k.entry) kept.items) result) }
+{
+    let directory = directory?;
     match rt.open_record(directory) {
         Ok(found) => {
             if found.was_foreign {
@@ -58,29 +60,112 @@ pub fn open_record<R: Eprint + OpenRecord>(
                     "ocfexec: {directory}/agents was not written since this boot of the system, and is made anew"
                 ));
             }
-            (Record::new(Some(found.file)), Some(found.entries))
+            Some(found.entries)
         }
         Err(error) => {
             let _ = rt.eprintln(format_args!(
                 "ocfexec: {directory}/agents: {error}; no later executor will know which agents run"
             ));
-            (Record::new(None), None)
+            None
         }
     }
 }
 
-// Whether a process of the action of an entry lives.
-fn lives<R: ProcFiles + Signals, A: Allocator + Copy>(
-    rt: &R,
+// Whether a group has a member that has not ended, as is listed; where that cannot be, as the system says, for which a process that was
+// not reaped is a member.
+fn has_member<R: AgentSystem, A: Allocator + Copy>(rt: &mut R, alloc: A, group: u32) -> bool
+    ensures { OnlyLooks (R.view rt.old) (R.view rt.new) }
+{
+    let asked = rt.has_members(group);
+    if asked == Some(false) {
+        return false;
+    }
+    match rt.list(alloc) {
+        Ok(table) => table
+            .iter()
+            .any(|process| process.group == group && !process.has_ended),
+        Err(_) => asked == Some(true),
+    }
+}
+
+// Whether an answer about the number of an entry's process shows that this has ended.
+fn has_ended(entry: &AgentEntry, answer: &Option<Process>) -> bool
+    ensures { result ≡ true → HasEnded (Some entry.now.start) (Some answer.now) }
+{
+    match answer {
+        Some(process) => process.has_ended || process.start != entry.start,
+        None => true,
+    }
+}
+
+// Whether such an answer shows another process.
+fn is_other(entry: &AgentEntry, answer: &Option<Process>) -> bool {
+    match answer {
+        Some(process) => process.start != entry.start,
+        None => false,
+    }
+}
+
+// Whether the agent of an entry, or a member of its group, lives, as far as the system shows it. A number that is another process's was
+// free in between, so no process was left in the group then. POSIX, fork.
+fn lives<R: AgentSystem, A: Allocator + Copy>(rt: &mut R, alloc: A, entry: &AgentEntry) -> bool
+    ensures looks { OnlyLooks (R.view rt.old) (R.view rt.new) }
+    ensures ended { result ≡ false → IsSeenEnded (R.view rt.old) (R.view rt.new) entry.now }
+{
+    let Ok(answer) = rt.look(entry.pid) else {
+        return true;
+    };
+    if !has_ended(entry, &answer) {
+        return true;
+    }
+    !is_other(entry, &answer) && has_member(rt, alloc, entry.pid)
+}
+
+// The entry of an agent that is killed at this reading of the monotonic clock: then it ends.
+fn ending_at(entry: &AgentEntry, until: u64) -> AgentEntry {
+    AgentEntry {
+        run: entry.run,
+        id: entry.id.copied(),
+        action: entry.action,
+        pid: entry.pid,
+        start: entry.start,
+        began: entry.began,
+        timeout: timeout_until(entry, until),
+    }
+}
+
+// Has a resource wait for the end of an agent that lives. Its entry is rewritten, so that it ends when the agent is killed.
+fn hold<R: AgentSystem + Clock + Eprint, A: Allocator + Copy>(
+    rt: &mut R,
     alloc: A,
-    entry: &AgentEntry,
-) -> bool {
-    let mut belongings = Belongings::of_agent(alloc, entry.pid, entry.start);
-    belongings.live(rt, alloc)
+    waits: &mut Vec<Wait<R::Child, A>, A>,
+    record: Record,
+    kept: &Kept,
+    limit: u64,
+)
+    requires room { vec_len waits.old < vec_capacity waits.old }
+    requires found { Contains (R.view rt.old).found kept.now.entry }
+    requires given_up { AreGivenUp R.process_of (R.view rt.old).sights waits.old.items }
+    ensures given_up { AreGivenUp R.process_of (R.view rt.new).sights waits.new.items }
+    ensures adopted { R.view rt.new ≡ after_adopt (R.view rt.old) kept.now.entry }
+    ensures added { processes waits.new.items
+        ≡ processes waits.old.items ++ process_in kept.now.entry ∷ [] }
+    ensures len { vec_len waits.new ≡ vec_len waits.old + 1 }
+    ensures capacity { vec_capacity waits.new ≡ vec_capacity waits.old }
+{
+    let now = millis_now(rt);
+    let until = killed_at(&kept.entry, limit, now);
+    record.rewrite(rt, kept.slot, &ending_at(&kept.entry, until));
+    rt.adopt(&kept.entry);
+    let wait = wait_in(alloc, kept, until);
+    report_orphan(rt, &wait, until.saturating_sub(now));
+    waits.push_reserved(wait);
 }
 
 // How an agent is listed that lives.
-fn left_of(entry: &AgentEntry) -> Left {
+fn left_of(entry: &AgentEntry) -> Left
+    ensures { result ≡ left_of entry.now }
+{
     Left {
         run: entry.run,
         pid: entry.pid,
@@ -89,84 +174,109 @@ fn left_of(entry: &AgentEntry) -> Left {
 
 /// What is found of an earlier executor's agents.
 #[derive(Drop)]
-pub struct Orphans<P: OpenProcess + Drop, A: Allocator> {
-    pub roster: Record,
-    pub waits: Waits<P, A>,
+pub struct Orphans<C: Drop, A: Allocator> {
+    pub record: Record,
+    pub waits: Waits<C, A>,
     /// Those that live.
     pub left: Vec<Left, A>,
 }
 
-// The wait for an agent that lives. Its entry is rewritten, so that it ends when the agent is killed.
-fn held<R: Clock + Eprint, P: OpenProcess + Drop, A: Allocator + Copy>(
-    rt: &R,
-    alloc: A,
-    kept: Kept,
-    limit: u64,
-    roster: &mut Record,
-) -> Wait<P, A> {
-    let now = millis_now(rt);
-    let until = killed_at(&kept.entry, limit, now);
-    let Kept { slot, mut entry } = kept;
-    entry.timeout = timeout_until(&entry, until);
-    roster.rewrite(rt, slot, &entry);
-    let wait = Wait::of_entry(alloc, entry, slot, until);
-    report_orphan(rt, &wait, until.saturating_sub(now));
-    wait
-}
-
-// Lists the agents of these entries that live, and frees the others' entries. If the options say that agents are left to themselves, it
-// frees all.
-fn living<R: Eprint + ProcFiles + Signals, A: Grows>(
-    rt: &R,
-    alloc: A,
-    entries: Vec<Kept>,
-    roster: &mut Record,
-    leave: bool,
-) -> Result<(Vec<Left, A>, Vec<Kept, A>), AllocError>
-    ensures memory { OnErr result (IsTrue A.refuses) }
-{
-    let mut left = Vec::new(alloc);
-    let mut living = Vec::new(alloc);
-    for kept in entries {
+impl<C: Drop, A: Grows> Orphans<C, A> {
+    // Looks for the agent of an entry. One that lives is listed, and its resource waits for its end, unless it is left to itself. The
+    // entry of any other is freed.
+    fn find<R: AgentSystem<Child = C> + Clock + Eprint>(
+        &mut self,
+        rt: &mut R,
+        alloc: A,
+        kept: &Kept,
+        upkeep: Upkeep<'_>,
+    ) -> Result<(), AllocError>
+        requires room { vec_len self.old.waits.waits < SLOTS }
+        requires found { Contains (R.view rt.old).found kept.now.entry }
+        requires given_up { AreGivenUp R.process_of (R.view rt.old).sights self.old.waits.waits.items }
+        ensures given_up { AreGivenUp R.process_of (R.view rt.new).sights self.new.waits.waits.items }
+        ensures adopts { OnlyAdopts (R.view rt.old) (R.view rt.new) }
+        ensures found { OnOk result (IsFound (R.view rt.old) (R.view rt.new) upkeep.entry.leave kept.now.entry
+            (processes self.old.waits.waits.items) (processes self.new.waits.waits.items)
+            self.old.left.items self.new.left.items) }
+        ensures len { vec_len self.new.waits.waits ≤ vec_len self.old.waits.waits + 1 }
+        ensures memory { OnErr result (IsTrue A.refuses) }
+    {
         let is_alive = lives(rt, alloc, &kept.entry);
-        if is_alive {
-            push(&mut left, left_of(&kept.entry))?;
-        }
-        if is_alive && !leave {
-            push(&mut living, kept)?;
+        if is_alive && !upkeep.leave {
+            hold(
+                rt,
+                alloc,
+                &mut self.waits.waits,
+                self.record,
+                kept,
+                upkeep.limit,
+            );
         } else {
-            roster.clear(rt, Some(kept.slot));
+            self.record.clear(rt, Some(kept.slot));
         }
+        if is_alive {
+            push(&mut self.left, left_of(&kept.entry))?;
+        }
+        Ok(())
     }
-    Ok((left, living))
+
+    // Looks for the agents of entries.
+    fn find_all<R: AgentSystem<Child = C> + Clock + Eprint>(
+        &mut self,
+        rt: &mut R,
+        alloc: A,
+        entries: &[Kept],
+        upkeep: Upkeep<'_>,
+    ) -> Result<(), AllocError>
+        requires few { length entries.now ≤ SLOTS }
+        requires found { All (λ k. Contains (R.view rt.old).found k.entry) entries.now }
+        requires none { self.old.waits.waits.items ≡ [] }
+        requires unlisted { self.old.left.items ≡ [] }
+        requires given_up { (R.view rt.old).sights.given_up ≡ [] }
+        ensures given_up { AreGivenUp R.process_of (R.view rt.new).sights self.new.waits.waits.items }
+        ensures adopts { OnlyAdopts (R.view rt.old) (R.view rt.new) }
+        ensures found { OnOk result (AreFound (R.view rt.old) (R.view rt.new) upkeep.entry.leave
+            (map (λ k. k.entry) entries.now) (processes self.new.waits.waits.items) self.new.left.items) }
+        ensures few { vec_len self.new.waits.waits ≤ length entries.now }
+        ensures memory { OnErr result (IsTrue A.refuses) }
+    {
+        for kept in entries {
+            self.find(rt, alloc, kept, upkeep)?;
+        }
+        Ok(())
+    }
 }
 
 /// Finds the agents of an earlier executor that live, by the record of who runs, and has their resources wait for their end, as the
-/// options say.
-pub fn find_orphans<
-    R: Clock + Eprint + ProcFiles + Signals + OpenRecord,
-    P: OpenProcess + Drop,
-    A: Grows,
->(rt: &R, alloc: A, upkeep: Upkeep<'_>) -> Result<Orphans<P, A>, AllocError>
+/// options say. Where agents are left to themselves, the record is emptied.
+pub fn find_orphans<R: AgentSystem + Clock + Eprint, A: Grows>(
+    rt: &mut R,
+    alloc: A,
+    upkeep: Upkeep<'_>,
+) -> Result<Orphans<R::Child, A>, AllocError>
+    requires { (R.view rt.old).sights.given_up ≡ [] }
+    ensures given_up { IfOk result
+        (λ orphans. AreGivenUp R.process_of (R.view rt.new).sights orphans.waits.waits.items) }
+    ensures opens { OnlyOpens (R.view rt.old) (R.view rt.new) }
+    ensures found { IfOk result (λ orphans. (entries : List AgentEntry)
+        × ((R.view rt.new).found ≡ (R.view rt.old).found ++ entries)
+        × AreFound (R.view rt.old) (R.view rt.new) upkeep.entry.leave (take SLOTS entries)
+        (processes orphans.waits.waits.items) orphans.left.items) }
+    ensures few { IfOk result (λ orphans. vec_len orphans.waits.waits ≤ WAIT_LIMIT) }
     ensures memory { OnErr result (IsTrue A.refuses) }
 {
-    let mut waits = Waits::new(alloc)?;
-    let (mut roster, entries) = open_record(rt, upkeep.directory);
-    let Some(entries) = entries else {
-        let left = Vec::new(alloc);
-        return Ok(Orphans {
-            roster,
-            waits,
-            left,
-        });
+    let mut orphans = Orphans {
+        record: Record::new(false),
+        waits: Waits::new(alloc)?,
+        left: Vec::new(alloc),
     };
-    let (left, living) = living(rt, alloc, entries, &mut roster, upkeep.leave)?;
-    for kept in living {
-        waits.add(rt, held(rt, alloc, kept, upkeep.limit, &mut roster));
-    }
-    Ok(Orphans {
-        roster,
-        waits,
-        left,
-    })
+    let Some(mut entries) = opened(rt, upkeep.directory) else {
+        return Ok(orphans);
+    };
+    orphans.record = Record::new(true);
+    // the file has no more slots
+    entries.truncate(SLOTS);
+    orphans.find_all(rt, alloc, entries.as_slice(), upkeep)?;
+    Ok(orphans)
 }

@@ -1,14 +1,16 @@
 //! The record of who runs, in the journal's directory.
-use crate::refused::name_text;
-use agents_file::{AgentEntry, AgentsFile};
+ghost use Rattle.std.specs.Prelude.{◌≡◌};
+
+use agent_system::{AgentSystem, name_text};
+use agents_file::AgentEntry;
 use ocf_types::Action;
 use std::io::{self, Eprint, ErrorKind};
 
 /// The record of who runs, if it is kept. The death of this process leaves it as it is. It need not survive that of the machine, so it
 /// is not synced.
-#[derive(Drop)]
+#[derive(Clone, Copy)]
 pub struct Record {
-    file: Option<AgentsFile>,
+    is_kept: bool,
 }
 
 // Reports that a write to the record failed.
@@ -27,22 +29,24 @@ fn report_unrecorded<R: Eprint>(rt: &R, entry: &AgentEntry, error: &io::Error) {
 }
 
 impl Record {
-    /// The record in this file, or none.
-    pub fn new(file: Option<AgentsFile>) -> Record {
-        Record { file }
+    /// The record that was opened, or none.
+    pub fn new(is_kept: bool) -> Record {
+        Record { is_kept }
     }
 
     /// Whether it is kept.
     pub fn is_kept(&self) -> bool {
-        self.file.is_some()
+        self.is_kept
     }
 
     // Writes an entry, and returns its slot: `None` if no record is kept.
-    fn put(&mut self, entry: &AgentEntry) -> io::Result<Option<usize>> {
-        let Some(file) = &mut self.file else {
+    fn put<R: AgentSystem>(&self, rt: &mut R, entry: &AgentEntry) -> io::Result<Option<usize>>
+        ensures same { R.view rt.new ≡ R.view rt.old }
+    {
+        if !self.is_kept {
             return Ok(None);
-        };
-        match file.put(entry)? {
+        }
+        match rt.put_entry(entry)? {
             Some(slot) => Ok(Some(slot)),
             None => Err(io::Error::new(ErrorKind::StorageFull, "the file agents is full")),
         }
@@ -50,8 +54,14 @@ impl Record {
 
     /// Writes an entry, and returns its slot: `None` if no record is kept. A stop has none either where its entry cannot be written, which
     /// is reported: it has to be possible at any time, and beside a later action it leaves nothing up.
-    pub fn enter<R: Eprint>(&mut self, rt: &R, entry: &AgentEntry) -> io::Result<Option<usize>> {
-        match self.put(entry) {
+    pub fn enter<R: AgentSystem + Eprint>(
+        &self,
+        rt: &mut R,
+        entry: &AgentEntry,
+    ) -> io::Result<Option<usize>>
+        ensures same { R.view rt.new ≡ R.view rt.old }
+    {
+        match self.put(rt, entry) {
             Err(error) if entry.action == Action::Stop => {
                 report_unrecorded(rt, entry, &error);
                 Ok(None)
@@ -61,17 +71,23 @@ impl Record {
     }
 
     /// Writes an entry in place of another. A failure is reported.
-    pub fn rewrite<R: Eprint>(&mut self, rt: &R, slot: usize, entry: &AgentEntry) {
-        if let Some(file) = &mut self.file {
-            report_failed(rt, &file.rewrite(slot, entry));
+    pub fn rewrite<R: AgentSystem + Eprint>(&self, rt: &mut R, slot: usize, entry: &AgentEntry)
+        ensures same { R.view rt.new ≡ R.view rt.old }
+    {
+        if self.is_kept {
+            let written = rt.rewrite_entry(slot, entry);
+            report_failed(rt, &written);
         }
     }
 
     /// Frees the slot of an entry whose processes have ended, if it has one. A failure is reported, since the next executor would wait
     /// for what may have that number then.
-    pub fn clear<R: Eprint>(&mut self, rt: &R, slot: Option<usize>) {
-        if let (Some(file), Some(slot)) = (&mut self.file, slot) {
-            report_failed(rt, &file.clear(slot));
+    pub fn clear<R: AgentSystem + Eprint>(&self, rt: &mut R, slot: Option<usize>)
+        ensures same { R.view rt.new ≡ R.view rt.old }
+    {
+        if let (true, Some(slot)) = (self.is_kept, slot) {
+            let written = rt.clear_entry(slot);
+            report_failed(rt, &written);
         }
     }
 }

@@ -1,24 +1,41 @@
 //! Reports of waits for processes of earlier actions, on standard error.
-use crate::refused::name_text;
-use crate::wait::Wait;
-use proc_files::ProcFiles;
+use crate::wait::{Wait, pid_of};
+use agent_system::{AgentSystem, name_text};
 use std::alloc::Allocator;
 use std::io::Eprint;
-use std::process::OpenProcess;
 use std::str;
 
 // How many bytes of a command's name are read.
 const NAME_LIMIT: usize = 256;
 
+// Whether the name of a process's command can be read: a process that was reaped has none.
+fn has_name<R: AgentSystem>(rt: &R, pid: u32) -> bool {
+    let mut room = [0u8; 1];
+    rt.name_of(pid, &mut room) > 0
+}
+
+// The number of a process that lives on: the agent's until that was reaped, then that of a process that was found last.
+fn pid_left<R: AgentSystem, C: Drop, A: Allocator>(rt: &R, wait: &Wait<C, A>) -> u32 {
+    if wait.child.is_some() {
+        return wait.process.pid;
+    }
+    match wait
+        .known
+        .iter()
+        .rev()
+        .find(|process| has_name(rt, process.pid))
+    {
+        Some(process) => process.pid,
+        None => wait.process.pid,
+    }
+}
+
 /// Reports that a resource waits for a process that was killed and lives on.
-pub fn report_begun<R: Eprint + ProcFiles, P: OpenProcess + Drop, A: Allocator + Copy>(
-    rt: &R,
-    wait: &Wait<P, A>,
-) {
+pub fn report_begun<R: AgentSystem + Eprint, C: Drop, A: Allocator>(rt: &R, wait: &Wait<C, A>) {
     let (id, pid, action) = (
-        name_text(wait.id.as_bytes()),
-        wait.pid(),
-        wait.action.word(),
+        name_text(wait.process.id.as_bytes()),
+        pid_left(rt, wait),
+        wait.what.action.word(),
     );
     let mut room = [0u8; NAME_LIMIT];
     let length = rt.name_of(pid, &mut room);
@@ -31,15 +48,11 @@ pub fn report_begun<R: Eprint + ProcFiles, P: OpenProcess + Drop, A: Allocator +
 }
 
 /// Reports that a resource waits for a process of an earlier executor, for at most this many milliseconds.
-pub fn report_orphan<R: Eprint, P: OpenProcess + Drop, A: Allocator + Copy>(
-    rt: &R,
-    wait: &Wait<P, A>,
-    millis: u64,
-) {
+pub fn report_orphan<R: Eprint, C: Drop, A: Allocator>(rt: &R, wait: &Wait<C, A>, millis: u64) {
     let (id, pid, action) = (
-        name_text(wait.id.as_bytes()),
-        wait.pid(),
-        wait.action.word(),
+        name_text(wait.process.id.as_bytes()),
+        pid_of(wait),
+        wait.what.action.word(),
     );
     let seconds = millis.div_ceil(1_000);
     let _ = rt.eprintln(format_args!(
@@ -48,14 +61,11 @@ pub fn report_orphan<R: Eprint, P: OpenProcess + Drop, A: Allocator + Copy>(
 }
 
 /// Reports that the time of a process of an earlier executor is over.
-pub fn report_overdue<R: Eprint, P: OpenProcess + Drop, A: Allocator + Copy>(
-    rt: &R,
-    wait: &Wait<P, A>,
-) {
+pub fn report_overdue<R: Eprint, C: Drop, A: Allocator>(rt: &R, wait: &Wait<C, A>) {
     let (id, pid, action) = (
-        name_text(wait.id.as_bytes()),
-        wait.pid(),
-        wait.action.word(),
+        name_text(wait.process.id.as_bytes()),
+        pid_of(wait),
+        wait.what.action.word(),
     );
     let _ = rt.eprintln(format_args!(
         "ocfexec: {id}: the time of pid {pid} of {action} is over, and it is killed"
@@ -63,34 +73,16 @@ pub fn report_overdue<R: Eprint, P: OpenProcess + Drop, A: Allocator + Copy>(
 }
 
 /// Reports that a wait is over, if its begin was reported.
-pub fn report_over<R: Eprint, P: OpenProcess + Drop, A: Allocator + Copy>(
-    rt: &R,
-    wait: &Wait<P, A>,
-) {
-    if !wait.is_told {
+pub fn report_over<R: Eprint, C: Drop, A: Allocator>(rt: &R, wait: &Wait<C, A>) {
+    if !wait.what.is_told {
         return;
     }
     let (id, pid, action) = (
-        name_text(wait.id.as_bytes()),
-        wait.pid(),
-        wait.action.word(),
+        name_text(wait.process.id.as_bytes()),
+        pid_of(wait),
+        wait.what.action.word(),
     );
     let _ = rt.eprintln(format_args!(
         "ocfexec: {id} waits no longer: pid {pid} of {action} has ended"
-    ));
-}
-
-/// Reports that a wait is forgotten, for lack of room.
-pub fn report_forgotten<R: Eprint, P: OpenProcess + Drop, A: Allocator + Copy>(
-    rt: &R,
-    wait: &Wait<P, A>,
-) {
-    let (id, pid, action) = (
-        name_text(wait.id.as_bytes()),
-        wait.pid(),
-        wait.action.word(),
-    );
-    let _ = rt.eprintln(format_args!(
-        "ocfexec: {id} waits no longer, since too much is waited for: pid {pid} of {action} may be alive"
     ));
 }

@@ -1,27 +1,31 @@
 //! Resources that are held until the processes of an earlier action have ended.
-ghost use Rattle.std.specs.Prelude.{◌≡◌, ◌*◌, ◌≤◌, ◌<◌, [], IfOk, IsTrue, OnErr, vec_len};
-ghost use Rattle.std.specs.List.{list_any};
+ghost use Rattle.std.specs.Prelude.{◌≡◌, ◌*◌, ◌+◌, ◌++◌, ◌≤◌, ◌<◌, [], ◌∷◌, All, IfOk, IsTrue, OnErr, if◌then◌else◌, length, map, not, vec_len};
+ghost use Rattle.std.specs.List.{list_any, remove};
 ghost use Rattle.std.specs.Str.{bytes_eq};
 ghost use Rattle.std.specs.Vec.{vec_capacity};
-ghost use Rattle.child_keeper.specs.Waits.{ids_of};
+ghost use Rattle.agent_system.specs.May.{IsOverAt};
+ghost use Rattle.child_keeper.specs.Waits.{IsFresh, IsPart, IsWaitFor, ids_of, marked, settled, told};
 ghost use Rattle.child_model.specs.Children.{is_held, live_limit};
+ghost use Rattle.child_keeper.specs.declared.wait.WaitOf.{WaitOf};
+ghost use Rattle.process_ends.specs.Endings.{AreGivenUp, HasKilled, OnlyEnds, processes};
+ghost use Rattle.process_ends.specs.declared.given_up.GivenUpAction.{GivenUpAction};
 
+use crate::agents::Agent;
 use crate::live::LIVE_LIMIT;
 use crate::moments::millis_now;
 use crate::record::Record;
-use crate::wait::Wait;
-use crate::wait_lines::{report_begun, report_forgotten, report_over, report_overdue};
+use crate::wait::{Wait, wait_for};
+use crate::wait_lines::{report_begun, report_over, report_overdue};
+use agent_system::AgentSystem;
 use growth::{Grows, with_capacity};
 use ocf_types::RscId;
-use proc_files::ProcFiles;
-use process_ends::{Belongings, Pauses, Signals, kill_actions};
+use process_ends::{Pauses, kill_actions};
 use std::alloc::{AllocError, Allocator};
 use std::io::Eprint;
-use std::process::OpenProcess;
 use std::rt::Clock;
 
-// How many waits there are at most: for those that are held, and for all that are given up at once.
-const LIMIT: usize = 2 * LIVE_LIMIT;
+/// How many waits there are at most: for those that the record of who runs may have at an opening, and for all that are given up at once.
+pub const WAIT_LIMIT: usize = 3 * LIVE_LIMIT;
 
 // How many milliseconds are between two looks at the processes that are waited for.
 const BETWEEN_LOOKS: u64 = 20;
@@ -31,232 +35,277 @@ const BETWEEN_KILLS: u64 = 1_000;
 
 /// Waits for processes of earlier actions, oldest first.
 #[derive(Drop)]
-pub struct Waits<P: OpenProcess + Drop, A: Allocator> {
-    pub waits: Vec<Wait<P, A>, A>,
-    // The processes that are being killed, taken out of their waits.
-    pub killed: Vec<Belongings<A>, A>,
+pub struct Waits<C: Drop, A: Allocator> {
+    pub waits: Vec<Wait<C, A>, A>,
     // When the processes are looked at again, in milliseconds of the monotonic clock.
     pub next_look: u64,
-    pub ghost room: { 2 * live_limit ≤ vec_capacity waits },
-    pub ghost room_killed: { 2 * live_limit ≤ vec_capacity killed },
+    pub ghost room: { 3 * live_limit ≤ vec_capacity waits },
 }
 
-// Whether one of these waits is that of a resource.
-fn any_of<P: OpenProcess + Drop, A: Allocator + Copy>(
-    waits: &Vec<Wait<P, A>, A>,
-    id: &RscId,
-) -> bool
-    ensures { result ≡ list_any (λ w. bytes_eq id.now w.id) waits.now.items }
+/// Whether one of these waits is that of a resource.
+pub fn any_of<C: Drop, A: Allocator>(waits: &[Wait<C, A>], id: &RscId) -> bool
+    ensures { result ≡ list_any (λ w. bytes_eq id.now w.process.id) waits.now }
 {
-    waits.iter().any(|wait| *id == wait.id)
+    waits.iter().any(|wait| *id == wait.process.id)
 }
 
-// Whether a process lives of a wait that was not reported yet.
-fn any_fresh_lives<R: ProcFiles + Signals, P: OpenProcess + Drop, A: Allocator + Copy>(
-    rt: &R,
-    alloc: A,
-    waits: &mut [Wait<P, A>],
-) -> bool {
-    for wait in waits {
-        if !wait.is_told && wait.lives(rt, alloc) {
-            return true;
-        }
-    }
-    false
-}
-
-// Waits for the end of the processes of waits that were not reported yet, up to a tenth of a second.
-fn await_fresh<R: Clock + ProcFiles + Signals, P: OpenProcess + Drop, A: Allocator + Copy>(
-    rt: &R,
-    alloc: A,
-    waits: &mut [Wait<P, A>],
-) {
-    let mut pauses = Pauses::after_kill();
-    while any_fresh_lives(rt, alloc, waits) {
-        if !pauses.pause(rt) {
-            return;
-        }
-    }
-}
-
-// Takes the processes of a wait, if it is due.
-fn lend_due<P: OpenProcess + Drop, A: Allocator + Copy>(
-    alloc: A,
-    wait: &mut Wait<P, A>,
-    killed: &mut Vec<Belongings<A>, A>,
-    now: u64,
-)
-    requires room { 2 * live_limit ≤ vec_capacity killed.old }
-    ensures capacity { vec_capacity killed.new ≡ vec_capacity killed.old }
+// Whether one of these waits was not reported.
+fn any_untold<C: Drop, A: Allocator>(waits: &[Wait<C, A>]) -> bool
+    ensures { result ≡ list_any (λ w. not w.what.is_told) waits.now }
 {
-    if wait.is_due(now) && killed.len() < LIMIT {
-        killed.push_reserved(wait.lend(alloc));
-    }
+    waits.iter().any(|wait| !wait.what.is_told)
 }
 
-// Takes the processes of each wait that is due.
-fn lend<P: OpenProcess + Drop, A: Allocator + Copy>(
-    alloc: A,
-    waits: &mut [Wait<P, A>],
-    killed: &mut Vec<Belongings<A>, A>,
-    now: u64,
-)
-    requires room { 2 * live_limit ≤ vec_capacity killed.old }
-    ensures capacity { vec_capacity killed.new ≡ vec_capacity killed.old }
+// Whether the processes of one of these waits are to be killed.
+fn any_due<C: Drop, A: Allocator>(waits: &[Wait<C, A>]) -> bool
+    ensures { result ≡ list_any (λ w. w.is_due) waits.now }
+{
+    waits.iter().any(|wait| wait.is_due)
+}
+
+// Marks the waits whose processes are to be killed at this reading of the monotonic clock.
+fn mark_due<C: Drop, A: Allocator>(waits: &mut [Wait<C, A>], now: u64)
+    ensures { waits.new ≡ map (marked now) waits.old }
 {
     for wait in waits {
-        lend_due(alloc, wait, killed, now);
+        wait.is_due = wait.what.until <= now;
     }
 }
 
-// Sends SIGKILL to the agents of the waits that are due.
-fn kill_children<P: OpenProcess + Drop, A: Allocator + Copy>(waits: &mut [Wait<P, A>], now: u64) {
-    for wait in waits {
-        if wait.is_due(now) {
-            wait.kill_child();
-        }
-    }
-}
-
-// Puts the processes of a wait back, which were killed, if it was due.
-fn give_back_due<P: OpenProcess + Drop, A: Allocator + Copy>(
-    wait: &mut Wait<P, A>,
-    killed: &mut Vec<Belongings<A>, A>,
-    now: u64,
-)
-    ensures capacity { vec_capacity killed.new ≡ vec_capacity killed.old }
+// Notes of a wait whose processes were killed, if they were, that they are killed again at this reading of the monotonic clock.
+fn settle<C: Drop, A: Allocator>(wait: &mut Wait<C, A>, until: u64)
+    ensures { wait.new ≡ settled until wait.old }
 {
-    if wait.is_due(now)
-        && let Some(belongings) = killed.pop()
-    {
-        wait.give_back(belongings, now.saturating_add(BETWEEN_KILLS));
+    if wait.is_due {
+        wait.is_due = false;
+        wait.what.until = until;
+        wait.what.is_killed = true;
     }
 }
 
-// Puts the processes back that were killed: those of the first wait are the last.
-fn give_back<P: OpenProcess + Drop, A: Allocator + Copy>(
-    waits: &mut [Wait<P, A>],
-    killed: &mut Vec<Belongings<A>, A>,
-    now: u64,
-)
-    ensures capacity { vec_capacity killed.new ≡ vec_capacity killed.old }
+// Notes of the waits whose processes were killed that they are killed again at this reading of the monotonic clock.
+fn settle_all<C: Drop, A: Allocator>(waits: &mut [Wait<C, A>], until: u64)
+    ensures { waits.new ≡ map (settled until) waits.old }
 {
     for wait in waits {
-        give_back_due(wait, killed, now);
+        settle(wait, until);
     }
 }
 
 // Reports the waits for processes whose time is over and that are killed for the first time now.
-fn report_due<R: Eprint, P: OpenProcess + Drop, A: Allocator + Copy>(
-    rt: &R,
-    waits: &[Wait<P, A>],
-    now: u64,
-) {
+fn report_due<R: Eprint, C: Drop, A: Allocator>(rt: &R, waits: &[Wait<C, A>]) {
     for wait in waits {
-        if wait.is_told && !wait.is_killed && wait.is_due(now) {
+        if wait.is_due && wait.what.is_told && !wait.what.is_killed {
             report_overdue(rt, wait);
         }
     }
 }
 
-// Reports the waits that were not reported yet.
-fn report_fresh<R: Eprint + ProcFiles, P: OpenProcess + Drop, A: Allocator + Copy>(
-    rt: &R,
-    waits: &mut [Wait<P, A>],
-) {
-    for wait in waits {
-        if !wait.is_told {
-            report_begun(rt, wait);
-            wait.is_told = true;
+// Kills the processes of the waits that are due, all together.
+fn kill_due<R: AgentSystem + Eprint, A: Allocator + Copy>(
+    rt: &mut R,
+    alloc: A,
+    waits: &mut [Wait<R::Child, A>],
+    now: u64,
+)
+    requires given_up { AreGivenUp R.process_of (R.view rt.old).sights waits.old }
+    ensures given_up { AreGivenUp R.process_of (R.view rt.new).sights waits.new }
+    ensures ends { OnlyEnds (R.view rt.old) (R.view rt.new) }
+    ensures same { processes waits.new ≡ processes waits.old }
+    ensures killed { All (λ w. w.what.until ≤ now
+        → HasKilled (R.view rt.old) (R.view rt.new) w.process) waits.old }
+{
+    mark_due(waits, now);
+    if !any_due(waits) {
+        return;
+    }
+    report_due(rt, waits);
+    // what was not killed is killed again in a second
+    let _ = kill_actions(rt, alloc, waits);
+    settle_all(waits, now.saturating_add(BETWEEN_KILLS));
+}
+
+// The same for all waits that there are.
+fn end_due<R: AgentSystem + Eprint, A: Allocator + Copy>(
+    rt: &mut R,
+    alloc: A,
+    waits: &mut Vec<Wait<R::Child, A>, A>,
+    now: u64,
+)
+    requires given_up { AreGivenUp R.process_of (R.view rt.old).sights waits.old.items }
+    ensures given_up { AreGivenUp R.process_of (R.view rt.new).sights waits.new.items }
+    ensures ends { OnlyEnds (R.view rt.old) (R.view rt.new) }
+    ensures same { processes waits.new.items ≡ processes waits.old.items }
+    ensures killed { All (λ w. w.what.until ≤ now
+        → HasKilled (R.view rt.old) (R.view rt.new) w.process) waits.old.items }
+    ensures capacity { vec_capacity waits.new ≡ vec_capacity waits.old }
+{
+    kill_due(rt, alloc, waits.as_mut_slice(), now);
+}
+
+// Removes a wait whose processes have ended, and frees its entry in the record.
+fn end_wait<R: AgentSystem + Eprint, A: Allocator + Copy>(
+    rt: &mut R,
+    waits: &mut Vec<Wait<R::Child, A>, A>,
+    record: Record,
+    at: usize,
+)
+    requires within { at < vec_len waits.old }
+    requires given_up { AreGivenUp R.process_of (R.view rt.old).sights waits.old.items }
+    requires over { IsOverAt (R.view rt.old).sights at }
+    ensures given_up { AreGivenUp R.process_of (R.view rt.new).sights waits.new.items }
+    ensures ends { OnlyEnds (R.view rt.old) (R.view rt.new) }
+    ensures gone { waits.new.items ≡ remove waits.old.items at }
+    ensures fewer { vec_len waits.new + 1 ≡ vec_len waits.old }
+    ensures capacity { vec_capacity waits.new ≡ vec_capacity waits.old }
+{
+    let wait = waits.remove(at);
+    rt.release(at);
+    report_over(rt, &wait);
+    record.clear(rt, wait.what.slot);
+}
+
+// Whether a wait goes on. If its processes have ended, it is removed, and its entry in the record is freed.
+fn goes_on<R: AgentSystem + Eprint, A: Allocator + Copy>(
+    rt: &mut R,
+    alloc: A,
+    waits: &mut Vec<Wait<R::Child, A>, A>,
+    record: Record,
+    at: usize,
+) -> bool
+    requires within { at < vec_len waits.old }
+    requires given_up { AreGivenUp R.process_of (R.view rt.old).sights waits.old.items }
+    ensures given_up { AreGivenUp R.process_of (R.view rt.new).sights waits.new.items }
+    ensures ends { OnlyEnds (R.view rt.old) (R.view rt.new) }
+    ensures processes { processes waits.new.items
+        ≡ (if result then processes waits.old.items else remove (processes waits.old.items) at) }
+    ensures capacity { vec_capacity waits.new ≡ vec_capacity waits.old }
+{
+    let wait = &mut waits[at];
+    if wait.lives(rt, alloc, at) {
+        return true;
+    }
+    end_wait(rt, waits, record, at);
+    false
+}
+
+// Removes the waits whose processes have ended, and frees their entries in the record.
+fn remove_ended<R: AgentSystem + Eprint, A: Allocator + Copy>(
+    rt: &mut R,
+    alloc: A,
+    waits: &mut Vec<Wait<R::Child, A>, A>,
+    record: Record,
+)
+    requires given_up { AreGivenUp R.process_of (R.view rt.old).sights waits.old.items }
+    ensures given_up { AreGivenUp R.process_of (R.view rt.new).sights waits.new.items }
+    ensures ends { OnlyEnds (R.view rt.old) (R.view rt.new) }
+    ensures rest { IsPart (processes waits.new.items) (processes waits.old.items) }
+    ensures capacity { vec_capacity waits.new ≡ vec_capacity waits.old }
+{
+    let mut at = 0;
+    while at < waits.len() {
+        if goes_on(rt, alloc, waits, record, at) {
+            at += 1;
         }
     }
 }
 
-impl<P: OpenProcess + Drop, A: Grows> Waits<P, A> {
+// The same; while there are waits that were not reported yet, it waits for the end of their processes, up to a tenth of a second.
+fn await_ended<R: AgentSystem + Clock + Eprint, A: Allocator + Copy>(
+    rt: &mut R,
+    alloc: A,
+    waits: &mut Vec<Wait<R::Child, A>, A>,
+    record: Record,
+)
+    requires given_up { AreGivenUp R.process_of (R.view rt.old).sights waits.old.items }
+    ensures given_up { AreGivenUp R.process_of (R.view rt.new).sights waits.new.items }
+    ensures ends { OnlyEnds (R.view rt.old) (R.view rt.new) }
+    ensures rest { IsPart (processes waits.new.items) (processes waits.old.items) }
+    ensures capacity { vec_capacity waits.new ≡ vec_capacity waits.old }
+{
+    let mut pauses = Pauses::after_kill();
+    remove_ended(rt, alloc, waits, record);
+    while any_untold(waits.as_slice()) && pauses.pause(rt) {
+        remove_ended(rt, alloc, waits, record);
+    }
+}
+
+// Reports a wait, if it was not reported yet.
+fn report<R: AgentSystem + Eprint, C: Drop, A: Allocator>(rt: &R, wait: &mut Wait<C, A>)
+    ensures { wait.new ≡ told wait.old }
+{
+    if !wait.what.is_told {
+        report_begun(rt, wait);
+        wait.what.is_told = true;
+    }
+}
+
+// Reports the waits that were not reported yet.
+fn report_fresh<R: AgentSystem + Eprint, C: Drop, A: Allocator>(
+    rt: &R,
+    waits: &mut Vec<Wait<C, A>, A>,
+)
+    ensures told { waits.new.items ≡ map told waits.old.items }
+    ensures capacity { vec_capacity waits.new ≡ vec_capacity waits.old }
+{
+    for wait in waits.as_mut_slice() {
+        report(rt, wait);
+    }
+}
+
+impl<C: Drop, A: Grows> Waits<C, A> {
     /// No waits, with the capacity for all that there may be. It fails only where memory is refused.
-    pub fn new(alloc: A) -> Result<Waits<P, A>, AllocError>
-        ensures none { IfOk result (λ w. ids_of w.waits.items ≡ []) }
+    pub fn new(alloc: A) -> Result<Waits<C, A>, AllocError>
+        ensures none { IfOk result (λ w. w.waits.items ≡ []) }
         ensures memory { OnErr result (IsTrue A.refuses) }
     {
         Ok(Waits {
-            waits: with_capacity(alloc, LIMIT)?,
-            killed: with_capacity(alloc, LIMIT)?,
+            waits: with_capacity(alloc, WAIT_LIMIT)?,
             next_look: 0,
         })
     }
 }
 
-impl<P: OpenProcess + Drop, A: Allocator + Copy> Waits<P, A> {
-    /// Adds a wait. It takes no memory: where there are too many, the oldest one is forgotten, which is reported.
-    pub fn add<R: Eprint>(&mut self, rt: &R, wait: Wait<P, A>) {
-        if self.waits.len() >= LIMIT {
-            report_forgotten(rt, &self.waits.remove(0));
-        }
-        self.waits.push_reserved(wait);
+impl<C: Drop, A: Allocator + Copy> Waits<C, A> {
+    /// Has a wait begin for an agent that was given up. It takes no memory.
+    pub fn add_agent(&mut self, alloc: A, agent: Agent<C>)
+        requires room { vec_len self.old.waits < WAIT_LIMIT }
+        ensures added { (w : GivenUpAction WaitOf _ _) × IsWaitFor agent w
+            × (self.new.waits.items ≡ self.old.waits.items ++ w ∷ []) }
+    {
+        self.waits.push_reserved(wait_for(alloc, agent));
     }
 
     /// Whether a resource is held.
     pub fn holds(&self, id: &RscId) -> bool
         ensures value { result ≡ is_held (ids_of self.now.waits.items) id.now }
     {
-        any_of(&self.waits, id)
-    }
-
-    // Kills the processes of the waits that are due, all together.
-    fn kill_due<R: Clock + Eprint + ProcFiles + Signals>(&mut self, rt: &R, alloc: A, now: u64) {
-        report_due(rt, self.waits.as_slice(), now);
-        lend(alloc, self.waits.as_mut_slice(), &mut self.killed, now);
-        if self.killed.is_empty() {
-            return;
-        }
-        let sent = kill_actions(rt, alloc, self.killed.as_mut_slice());
-        kill_children(self.waits.as_mut_slice(), now);
-        if sent.is_err() {
-            // the shell that sends signals may be spawned now that the agents were killed
-            let _ = kill_actions(rt, alloc, self.killed.as_mut_slice());
-        }
-        self.killed.reverse();
-        give_back(self.waits.as_mut_slice(), &mut self.killed, now);
-        self.killed.clear();
-    }
-
-    // Removes the waits whose processes have ended, and frees their entries in the record.
-    fn remove_ended<R: Eprint + ProcFiles + Signals>(
-        &mut self,
-        rt: &R,
-        alloc: A,
-        roster: &mut Record,
-    ) {
-        self.waits.retain_mut(|wait| {
-            let lives = wait.lives(rt, alloc);
-            if !lives {
-                report_over(rt, wait);
-                roster.clear(rt, wait.slot);
-            }
-            lives
-        });
+        any_of(self.waits.as_slice(), id)
     }
 
     /// Kills the processes of the waits that are due, and ends those waits whose processes have ended. After a kill of processes for the
     /// first time it waits a tenth of a second at most for their end. It looks at the processes once in 20 milliseconds at most, unless
     /// there are waits that were not reported yet.
-    pub fn go_on<R: Clock + Eprint + ProcFiles + Signals>(
+    pub fn go_on<R: AgentSystem<Child = C> + Clock + Eprint>(
         &mut self,
-        rt: &R,
+        rt: &mut R,
         alloc: A,
-        roster: &mut Record,
-    ) {
+        record: Record,
+    )
+        requires { AreGivenUp R.process_of (R.view rt.old).sights self.old.waits.items }
+        ensures given_up { AreGivenUp R.process_of (R.view rt.new).sights self.new.waits.items }
+        ensures ends { OnlyEnds (R.view rt.old) (R.view rt.new) }
+        ensures killed { All (λ w. IsFresh w
+            → HasKilled (R.view rt.old) (R.view rt.new) w.process) self.old.waits.items }
+        ensures rest { IsPart (processes self.new.waits.items) (processes self.old.waits.items) }
+    {
         let now = millis_now(rt);
-        let is_fresh = self.waits.iter().any(|wait| !wait.is_told);
-        if !is_fresh && now < self.next_look {
+        if now < self.next_look && !any_untold(self.waits.as_slice()) {
             return;
         }
         self.next_look = now.saturating_add(BETWEEN_LOOKS);
-        self.kill_due(rt, alloc, now);
-        if is_fresh {
-            await_fresh(rt, alloc, self.waits.as_mut_slice());
-        }
-        self.remove_ended(rt, alloc, roster);
-        report_fresh(rt, self.waits.as_mut_slice());
+        end_due(rt, alloc, &mut self.waits, now);
+        await_ended(rt, alloc, &mut self.waits, record);
+        report_fresh(rt, &mut self.waits);
     }
 }

@@ -1,5 +1,4 @@
 use Rattle.std.proofs.Common.{◌≡◌, ap, arith, length, rules, vec_len}
-use Rattle.std.proofs.lemmas.List.{length-map}
 use Rattle.child_keeper.proofs.agents.Agents.add.Goals as goal
 
 pub invariant_of-self : goal.invariant_of-self
@@ -13,8 +12,6 @@ invariant_of-self g c =
         arith,
         lives,
         given_up,
-        length-map c.args.self.now.agents.items (λ a. a.run),
-        length-map c.args.self.now.given_up.items (λ a. a.run),
         ap length c.requires.ended,
         c.requires.few,
         c.push_reserved.ensures.len,

@@ -6,7 +6,7 @@ pub returns-in-Some : goal.returns-in-Some
 returns-in-Some g c =
     record {
       lives = (
-        λ _. found_lives (λ a. a.run) c.args.run c.in-Some.field-0 c.args.self.now.agents.items
+        λ _. found_lives (λ a. a.process.run) c.args.run c.in-Some.field-0 c.args.self.now.agents.items
             (sym c.first.ensures ∙ c.in-Some.is),
         λ _. refl,
       );
@@ -17,6 +17,6 @@ returns-in-None g c =
     record {
       lives = (
         λ found. absurd (let never : ⊥ = cc in never),
-        λ lives. absurd (not_found (λ a. a.run) c.args.run 0 c.args.self.now.agents.items (sym c.first.ensures ∙ c.in-None.is) lives),
+        λ lives. absurd (not_found (λ a. a.process.run) c.args.run 0 c.args.self.now.agents.items (sym c.first.ensures ∙ c.in-None.is) lives),
       );
     }

@@ -8,13 +8,13 @@ returns-clause-within g c =
     omega (
       arith,
       size,
-      found_within (λ a. a.run) c.args.run c.in-Some.index c.args.self.now.agents.items
+      found_within (λ a. a.process.run) c.args.run c.in-Some.index c.args.self.now.agents.items
           (sym c.first.ensures ∙ c.in-Some.is),
     )
 
 pub returns-clause-found : goal.returns-clause-found
-returns-clause-found g c = found (λ a. a.run) c.args.run c.in-Some.index c.args.self.now.agents.items (sym c.first.ensures ∙ c.in-Some.is)
+returns-clause-found g c = found (λ a. a.process.run) c.args.run c.in-Some.index c.args.self.now.agents.items (sym c.first.ensures ∙ c.in-Some.is)
 
 pub unreachable-requires : goal.unreachable-requires
 unreachable-requires g c =
-    not_found (λ a. a.run) c.args.run 0 c.args.self.now.agents.items (sym c.first.ensures ∙ c.in-None.is) c.requires.lives
+    not_found (λ a. a.process.run) c.args.run 0 c.args.self.now.agents.items (sym c.first.ensures ∙ c.in-None.is) c.requires.lives

@@ -9,27 +9,26 @@ use Rattle.child_keeper.proofs.agents.Agents.take.Goals as goal
 
 pub returns : goal.returns
 returns g c =
-    let children = c.args.self.now.agents.items in
+    let agents = c.args.self.now.agents.items in
     let index = c.index-index.result in
     let agent = c.remove-agent.result in
     let at = c.index-index.ensures.found in
-    let others : c.retain.new.self.items ≡ others_of c.args.run children =
-    taken (λ a. a.run) c.args.run index children c.remove-agent.new.self.items c.retain.new.self.items at c.remove-agent.ensures.items
-    (filter_same _ (λ a. not (a.run == c.args.run)) _ (λ x b f' t. search rules) _ _ c.retain.ensures.filtered) in
-    let size : length children ≡ vec_len c.args.self.now.agents = search rules in
-    let run_is = ap (λ a. a.run) c.remove-agent.ensures.value ∙ run_at (λ a. a.run) c.args.run index children agent at in
-    let gone = ap runs_of others ∙ runs-others (λ a. a.run) c.args.run children in
+    let others : c.retain.new.self.items ≡ others_of c.args.run agents =
+    taken (λ a. a.process.run) c.args.run index agents c.remove-agent.new.self.items c.retain.new.self.items at c.remove-agent.ensures.items
+    (filter_same _ (λ a. not (a.process.run == c.args.run)) _ (λ x b f' t. search rules) _ _ c.retain.ensures.filtered) in
+    let size : length agents ≡ vec_len c.args.self.now.agents = search rules in
+    let run_is = ap (λ a. a.process.run) c.remove-agent.ensures.value ∙ run_at (λ a. a.process.run) c.args.run index agents agent at in
+    let gone = ap runs_of others ∙ runs-others (λ a. a.process.run) c.args.run agents in
     let left : length c.retain.new.self.items ≡ vec_len c.retain.new.self = search rules in
     record {
-      gone = gone;
       fewer = omega (
         arith,
         size,
         left,
-        length-map children (λ a. a.run),
-        length-map c.retain.new.self.items (λ a. a.run),
+        length-map agents (λ a. a.process.run),
+        length-map c.retain.new.self.items (λ a. a.process.run),
         ap length gone,
-        fewer c.args.run (runs_of children) c.requires.lives,
+        fewer c.args.run (runs_of agents) c.requires.lives,
       );
       given_up = refl;
       agent = (index, omega (arith, size, c.index-index.ensures.within), sym c.remove-agent.ensures.value);

@@ -1,0 +1,7 @@
+use Rattle.std.proofs.Common.{◌≡◌, ◌++◌, drop, map, take}
+use Rattle.child_keeper.specs.Waits.{marked}
+use Rattle.child_keeper.proofs.waits.mark_due.Given as goal
+
+abbrev pub invariant-loop-wait : goal.invariant-loop-wait
+invariant-loop-wait g l =
+    l.wait-items ≡ map (marked l.now) (take l.wait-index l.initial.wait-items) ++ drop l.wait-index l.initial.wait-items
