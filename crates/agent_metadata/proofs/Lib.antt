@@ -1,0 +1,2 @@
+pub mod MetaLemmas
+pub mod RunLemmas
