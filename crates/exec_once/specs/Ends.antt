@@ -1,8 +1,12 @@
 -- The end of an action that was run once, and the exit status that reports it.
-use Rattle.std.specs.Prelude.{◌≡◌, ◌+◌, ◌%◌, ℕ, ⊤, Option, Some, None, pos}
+use Rattle.std.specs.Prelude.{◌≡◌, ◌+◌, ◌%◌, ℕ, ⊤, List, [], ◌∷◌, ◌++◌, Option, Some, None, Result, Ok, Err, pos}
 use Rattle.std.specs.Process.{exit_code}
+use Rattle.std.specs.declared.io.Error.{Error}
 use Rattle.std.specs.declared.process.ExitStatus.{ExitStatus}
-use Rattle.child_keeper.specs.Ends.{signal_of}
+use Rattle.agent_system.specs.Ends.{signal_of}
+use Rattle.agent_system.specs.SystemView.{Polled, SystemView}
+use Rattle.agent_system.specs.declared.agent_process.AgentProcess.{AgentProcess}
+use Rattle.agent_metadata.specs.Asking.{IsAlone, IsIdle}
 use Rattle.exec_once.specs.declared.ending.OnceEnd.{OnceEnd}
 use Rattle.exec_once.specs.declared.ending.OnceEnd.TheVariants.{Exited, Signaled, TimedOut, Lost, NotStarted}
 
@@ -21,15 +25,32 @@ ReportsStatus status (Exited code) = exit_code status ≡ Some (pos code)
 ReportsStatus status (Signaled signal) = (exit_code status ≡ None) × (signal_of status ≡ pos signal)
 ReportsStatus status _ = ⊥
 
--- an end is reported by the status that the system gave, or is not known
-abbrev pub IsEndOf : ExitStatus → OnceEnd → Type 0
-IsEndOf status Lost = ⊤
-IsEndOf status end = ReportsStatus status end
+-- the agent has not ended
+abbrev pub IsTimeout : OnceEnd → Type 0
+IsTimeout TimedOut = ⊤
+IsTimeout _ = ⊥
 
--- the report by the system's answer to a poll, with the milliseconds that are left: without a status only a timeout when none is left, or
--- an end that is not known
-abbrev pub IsEndNow : Option ExitStatus → ℕ → OnceEnd → Type 0
-IsEndNow (Some status) left end = IsEndOf status end
-IsEndNow None left TimedOut = left ≡ 0
-IsEndNow None left Lost = ⊤
-IsEndNow None left _ = ⊥
+-- the end is not known
+abbrev pub IsLost : OnceEnd → Type 0
+IsLost Lost = ⊤
+IsLost _ = ⊥
+
+-- the report of an end by the system's answer to a poll: a timeout only if the agent had not ended, and an end that is not known only if the
+-- poll failed
+abbrev pub IsEndBy : Result (Option ExitStatus) Error → OnceEnd → Type 0
+IsEndBy (Ok (Some status)) end = ReportsStatus status end
+IsEndBy (Ok None) end = IsTimeout end
+IsEndBy (Err error) end = IsLost end
+
+-- the last poll is of this process, and the end is reported by the system's answer to it
+pub record EndsAs (v : SystemView) (p : AgentProcess) (end : OnceEnd) : Type 0 where
+  pub before : List Polled
+  pub answer : Result (Option ExitStatus) Error
+  pub polled : v.polled ≡ before ++ record { process = p; answer = answer } ∷ []
+  pub is : IsEndBy answer end
+
+-- an agent of which no status came lives still
+abbrev pub IsLeft : SystemView → AgentProcess → OnceEnd → Type 0
+IsLeft v p TimedOut = IsAlone v.sights p
+IsLeft v p Lost = IsAlone v.sights p
+IsLeft v p end = IsIdle v.sights

@@ -1,11 +1,13 @@
 //! The end of an action that was run once.
-ghost use Rattle.std.specs.Prelude.{◌≡◌, ◌<◌, IfSome, IfNone, pos};
-ghost use Rattle.std.specs.Process.{child_status};
-ghost use Rattle.child_keeper.specs.Ends.{signal_of};
-ghost use Rattle.exec_once.specs.Ends.{IsEndNow, ReportsStatus, once_status};
+ghost use Rattle.std.specs.Prelude.{◌≡◌, ◌<◌, IfNone, Some, pos, unwrap_or};
+ghost use Rattle.agent_metadata.specs.Asking.{IsAlone, OnlyPolls};
+ghost use Rattle.agent_system.specs.Ends.{signal_of};
+ghost use Rattle.exec_once.specs.Ends.{EndsAs, IsLeft, ReportsStatus, once_status};
+ghost use Rattle.exec_once.specs.declared.ending.OnceEnd.TheVariants.{TimedOut};
 
+use agent_system::AgentSystem;
 use std::os::unix::process::ExitStatusExt;
-use std::process::{Child, ExitStatus, OpenProcess};
+use std::process::ExitStatus;
 
 /// How an action ended that was run once.
 #[derive(Clone, Copy, Debug, PartialEq, Eq)]
@@ -54,11 +56,16 @@ fn end_of(status: ExitStatus) -> OnceEnd
 }
 
 /// How an agent that has this many milliseconds left has ended: `None` if it is to be polled again.
-pub fn end_now<P: OpenProcess>(child: &mut Child<P>, left: u32) -> Option<OnceEnd>
-    ensures ended { IfSome result (IsEndNow (child_status child.new) left) }
+pub fn end_now<R: AgentSystem>(rt: &mut R, child: &mut R::Child, left: u32) -> Option<OnceEnd>
+    requires alone { IsAlone (R.view rt.old).sights (R.process_of child.old) }
+    ensures same { R.process_of child.new ≡ R.process_of child.old }
+    ensures polls { OnlyPolls (R.view rt.old) (R.view rt.new) }
+    ensures ended { EndsAs (R.view rt.new) (R.process_of child.new) (unwrap_or result TimedOut) }
+    ensures left { IsLeft (R.view rt.new) (R.process_of child.new) (unwrap_or result TimedOut) }
+    ensures timeout { result ≡ Some TimedOut → left ≡ 0 }
     ensures none { IfNone result (0 < left) }
 {
-    match child.try_wait() {
+    match rt.poll(child) {
         Ok(Some(status)) => Some(end_of(status)),
         Ok(None) if left > 0 => None,
         Ok(None) => Some(OnceEnd::TimedOut),

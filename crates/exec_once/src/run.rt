@@ -1,19 +1,20 @@
 //! Runs an action once.
-ghost use Rattle.std.specs.Prelude.{IfOk, OnErr, IsTrue};
-ghost use Rattle.std.specs.Process.{SameDir, SameEnv, SameProgramAndArgs};
-ghost use Rattle.child_keeper.specs.Commands.{leader_of};
-ghost use Rattle.exec_once.specs.Calls.{AsksForCall};
+ghost use Rattle.std.specs.Prelude.{◌≡◌, [], IfOk, OnErr, OnOk};
+ghost use Rattle.agent_metadata.specs.Asking.{AsksNone, EndsOne, IsAlone, IsIdle, IsRefused, OnlyPolls, RunsOne, SendsNone};
+ghost use Rattle.agent_system.specs.Commands.{leader_of};
+ghost use Rattle.exec_once.specs.Ends.{EndsAs, IsLeft};
+ghost use Rattle.exec_once.specs.Runs.{IsKilledAt, IsRunBy};
 
-use crate::call::{OnceCall, invocation_of};
+use crate::call::{OnceCall, What, invocation_of};
 use crate::ending::{OnceEnd, end_now};
-use child_keeper::{Deadline, Leading, check_program, command_by, open_gate};
-use growth::Grows;
+use agent_metadata::{ask_agent, end_one};
+use agent_system::{AgentSystem, How, Leading, Whose};
 use ocf_env::{Invocation, Site};
-use proc_files::ProcFiles;
-use process_ends::{Pauses, Programs, Signals, end_child, report_alive};
-use std::alloc::{AllocError, Allocator, Global};
+use ocf_types::RunId;
+use process_ends::{Deadline, Pauses};
+use std::alloc::{Allocator, Global};
 use std::io::{self, Eprint};
-use std::process::{Child, Command, OpenProcess, Processes, Stdio};
+use std::process::Stdio;
 use std::rt::Clock;
 
 /// Where agents are, and how they are spawned.
@@ -23,104 +24,113 @@ pub struct OnceSite<'a, S: Allocator> {
     pub leading: &'a Leading,
 }
 
-// Has a command write to this program's standard output and standard error.
-fn write_here(command: &mut Command)
-    ensures call { SameProgramAndArgs command.old command.new }
-    ensures environment { SameEnv command.old command.new }
-    ensures directory { SameDir command.old command.new }
-{
-    command.stdout(Stdio::inherit());
-    command.stderr(Stdio::inherit());
+// Whose the agent's process is. Metadata are of no run, and have the first one.
+fn whose(call: &OnceCall) -> Whose {
+    let run = match (call.what, RunId::new(1)) {
+        (What::Action(running), _) => running.run,
+        (What::MetaData, Some(run)) => run,
+        (What::MetaData, None) => unreachable!(),
+    };
+    Whose {
+        run,
+        id: call.id.copied(),
+    }
 }
 
-// A command that is to be spawned, and the program that it runs in the end.
-#[derive(Drop)]
-struct Called {
-    invocation: Invocation,
-    command: Command,
-}
-
-// The command that is spawned: exactly the call of the agent.
-#[tactic(auto, using(crate::proofs::CallLemmas::still_asks))]
-fn command_for<S: Allocator>(
-    alloc: Global,
-    at: &OnceSite<'_, S>,
-    call: &OnceCall,
-) -> Result<Called, AllocError>
-    ensures asks { IfOk result
-        (λ c. AsksForCall (leader_of at.now.leading.now) at.now.site.now call.now c.command) }
-    ensures memory { OnErr result (IsTrue ⟦<Global as Grows>⟧.refuses) }
-{
-    let invocation = invocation_of(alloc, at.site, call)?;
-    let mut command = command_by(alloc, at.leading, &invocation)?;
-    write_here(&mut command);
-    Ok(Called {
-        invocation,
-        command,
-    })
-}
-
-// Spawns the agent and lets it run. The launcher ends by itself if it is not let run.
-fn spawned<R: Processes + Programs>(
-    rt: &R,
+// Spawns the agent and lets it run, with this program's standard output and standard error for its own.
+fn asked<R: AgentSystem + Clock + Eprint>(
+    rt: &mut R,
     alloc: Global,
     leading: &Leading,
-    called: &mut Called,
-) -> io::Result<Child<R::Started>> {
-    check_program(rt, alloc, leading, &called.invocation)?;
-    let mut child = called.command.spawn(rt)?;
-    open_gate(&mut child)?;
-    Ok(child)
+    call: &OnceCall,
+    invocation: &Invocation,
+) -> io::Result<R::Child>
+    requires idle { IsIdle (R.view rt.old).sights }
+    ensures asked { IfOk result (λ child. RunsOne (leader_of leading.now) invocation.now
+        (R.view rt.old) (R.view rt.new) (R.process_of child)) }
+    ensures alone { IfOk result
+        (λ child. IsAlone (R.view rt.new).sights (R.process_of child)) }
+    ensures quiet { OnOk result (SendsNone (R.view rt.old) (R.view rt.new)) }
+    ensures refused { OnErr result (IsRefused (leader_of leading.now) invocation.now
+        (R.view rt.old) (R.view rt.new)) }
+{
+    let how = How {
+        leading,
+        output: Stdio::inherit(),
+        errors: Stdio::inherit(),
+    };
+    ask_agent(rt, alloc, &whose(call), invocation, how, "the agent")
 }
 
-// Polls an agent until it has ended or its time is up.
-fn await_end<R: Clock, P: OpenProcess>(rt: &R, child: &mut Child<P>, millis: u32) -> OnceEnd {
-    let deadline = Deadline::after(rt, millis);
-    let mut pauses = Pauses::within(millis);
-    for _ in 0..u64::MAX {
-        if let Some(end) = end_now(child, deadline.left(rt)) {
+// Polls an agent until it has ended or its time is up: nothing is left of the deadline, or of these pauses, which are all that come in
+// between.
+fn await_end<R: AgentSystem + Clock>(
+    rt: &mut R,
+    child: &mut R::Child,
+    deadline: Deadline,
+    pauses: &mut Pauses,
+) -> OnceEnd
+    requires alone { IsAlone (R.view rt.old).sights (R.process_of child.old) }
+    ensures same { R.process_of child.new ≡ R.process_of child.old }
+    ensures polls { OnlyPolls (R.view rt.old) (R.view rt.new) }
+    ensures ended { EndsAs (R.view rt.new) (R.process_of child.new) result }
+    ensures left { IsLeft (R.view rt.new) (R.process_of child.new) result }
+{
+    loop {
+        if let Some(end) = end_now(rt, child, deadline.left(rt)) {
             return end;
         }
-        pauses.pause(rt);
+        if !pauses.pause(rt) {
+            return end_now(rt, child, 0).unwrap_or(OnceEnd::TimedOut);
+        }
     }
-    OnceEnd::Lost
 }
 
-// Ends an agent with all that belongs to it. If it lives on, that is reported on standard error.
-fn end<R: Clock + Eprint + ProcFiles + Signals, P: OpenProcess>(
-    rt: &R,
+// Ends an agent of which no status came, with all that belongs to it. If it lives on, that is reported on standard error.
+fn end_left<R: AgentSystem + Clock + Eprint>(
+    rt: &mut R,
     alloc: Global,
-    child: &mut Child<P>,
-) {
-    if end_child(rt, alloc, child) {
-        report_alive(rt, child, "the agent");
+    child: R::Child,
+    end: OnceEnd,
+)
+    requires left { IsLeft (R.view rt.old) (R.process_of child) end }
+    ensures none { AsksNone (R.view rt.old) (R.view rt.new) }
+    ensures polled { (R.view rt.new).polled ≡ (R.view rt.old).polled }
+    ensures live { (R.view rt.new).sights.live ≡ [] }
+    ensures killed { IsKilledAt (R.view rt.old) (R.view rt.new) (R.process_of child) end }
+{
+    match end {
+        OnceEnd::TimedOut | OnceEnd::Lost => end_one(rt, alloc, child, "the agent"),
+        OnceEnd::Exited(_) | OnceEnd::Signaled(_) | OnceEnd::NotStarted => {}
     }
 }
 
 /// Runs an action, and waits for its end for at most this many milliseconds; then the agent is killed, with its process group and all its
 /// descendants. The agent's standard input is empty, and its output goes to this program's. If it is not spawned, the cause is reported
 /// on standard error.
-pub fn run_once<R: Processes + Clock + Eprint + ProcFiles + Signals + Programs, S: Allocator>(
-    rt: &R,
+pub fn run_once<R: AgentSystem + Clock + Eprint, S: Allocator>(
+    rt: &mut R,
     alloc: Global,
     at: &OnceSite<'_, S>,
     call: &OnceCall,
     millis: u32,
 ) -> OnceEnd
-where
-    R::Started: Drop,
+    requires idle { IsIdle (R.view rt.old).sights }
+    ensures run { IsRunBy (leader_of at.now.leading.now) at.now.site.now call.now
+        (R.view rt.old) (R.view rt.new) result }
+    ensures live { (R.view rt.new).sights.live ≡ [] }
 {
-    let Ok(mut called) = command_for(alloc, at, call) else {
+    let Ok(invocation) = invocation_of(alloc, at.site, call) else {
         let _ = rt.eprintln("ocfexec: no memory to start the agent");
         return OnceEnd::NotStarted;
     };
-    match spawned(rt, alloc, at.leading, &mut called) {
+    match asked(rt, alloc, at.leading, call, &invocation) {
         Ok(mut child) => {
-            let end_of = await_end(rt, &mut child, millis);
-            if matches!(end_of, OnceEnd::TimedOut | OnceEnd::Lost) {
-                end(rt, alloc, &mut child);
-            }
-            end_of
+            let deadline = Deadline::after(rt, millis);
+            let mut pauses = Pauses::within(millis);
+            let end = await_end(rt, &mut child, deadline, &mut pauses);
+            end_left(rt, alloc, child, end);
+            end
         }
         Err(error) => {
             let _ = rt.eprintln(format_args!("ocfexec: the agent was not started: {error}"));
