@@ -25,7 +25,7 @@ use journal_directory::{
     FaultForm, found, not_emptied, open_files, report_device, settled_identity, show_files, show_on,
 };
 use ocf_env::Site;
-use process_ends::System;
+use process_ends::{System, SystemAgents};
 use std::alloc::{AllocError, Global};
 use std::io::{self, BufReader, Eprint, StdinLock};
 use std::rt::Stdout;
@@ -67,7 +67,7 @@ impl<'a> Host for SystemHost<'a> {
 
     type Log = Log;
 
-    type Agents = Processes<&'a System<'a>>;
+    type Agents = Processes<SystemAgents<'a>>;
 
     type Source = SiteMetadata<'a>;
 
@@ -132,7 +132,7 @@ impl<'a> Host for SystemHost<'a> {
         upkeep: Upkeep<'_>,
         log: Log,
         book: usize,
-    ) -> Result<(Processes<&'a System<'a>>, Vec<Left>), AllocError> {
+    ) -> Result<(Processes<SystemAgents<'a>>, Vec<Left>), AllocError> {
         self.system.start_killer();
         let upkeep = child_keeper::Upkeep {
             directory: upkeep.directory,
@@ -140,7 +140,13 @@ impl<'a> Host for SystemHost<'a> {
             leave: upkeep.leave,
             groups: upkeep.groups,
         };
-        Processes::new(self.system, self.alloc(), log, book, upkeep)
+        Processes::new(
+            SystemAgents::new(self.system),
+            self.alloc(),
+            log,
+            book,
+            upkeep,
+        )
     }
 
     // TRUSTED: the agents that are asked are those of this site.

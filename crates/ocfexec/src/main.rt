@@ -13,7 +13,7 @@ mod log;
 mod metadata;
 mod moment;
 mod once;
-mod quiet;
+mod question;
 mod reasons;
 
 use arguments::{arguments_of, named_journal};

@@ -2,38 +2,15 @@
 ghost use Rattle.std.specs.Prelude.{◌≤◌, length, IfOk};
 ghost use Rattle.ocf_types.specs.Limits.{metadata_limit};
 
-use crate::quiet::Quiet;
-use child_keeper::{MetaCall, MetaChild, MetaPoll, run_meta};
+use crate::question::{Polled, Question};
+use agent_metadata::{MetaCall, run_meta};
+use agent_system::{Leading, leading_for};
 use exec_session::Metadata;
 use ocf_env::Site;
 use ocf_types::{AgentType, MetaFault, Provider};
-use process_ends::{Leading, System, leading_of};
+use process_ends::{System, SystemAgents};
 use std::alloc::Global;
 use std::cell::Cell;
-use std::process::SystemProcess;
-
-// An agent that is asked for its metadata.
-struct Asked {
-    provider: Provider,
-    agent: AgentType,
-    child: MetaChild<SystemProcess, Global>,
-}
-
-impl Asked {
-    // Whether it is the agent of this provider and this type.
-    fn is(&self, provider: &Provider, agent: &AgentType) -> bool {
-        self.provider.as_bytes() == provider.as_bytes() && self.agent.as_bytes() == agent.as_bytes()
-    }
-
-    fn into_child(self) -> MetaChild<SystemProcess, Global> {
-        let Asked {
-            provider: _,
-            agent: _,
-            child,
-        } = self;
-        child
-    }
-}
 
 /// The metadata of a site's agents, which are asked one at a time. It cannot be dropped, only given up, so no agent that was asked is
 /// left running.
@@ -42,13 +19,13 @@ pub struct SiteMetadata<'a> {
     site: Site,
     // Whether each agent runs in a process group of its own.
     groups: bool,
-    asked: Cell<Option<Asked>>,
+    asked: Cell<Option<Question<'a>>>,
 }
 
 // Ends the agent that was asked, if there was one.
-fn end(system: &System<'_>, asked: Option<Asked>) {
+fn end(alloc: Global, asked: Option<Question<'_>>) {
     if let Some(asked) = asked {
-        asked.into_child().give_up(system, system.host().alloc());
+        asked.give_up(alloc);
     }
 }
 
@@ -63,12 +40,9 @@ impl<'a> SiteMetadata<'a> {
         }
     }
 
-    // How agents are spawned.
+    // How agents are spawned. It was reported when the agents of the session were made.
     fn leading(&self, alloc: Global) -> Result<Leading, MetaFault> {
-        let quiet = Quiet {
-            system: self.system,
-        };
-        match leading_of(&quiet, alloc, self.groups) {
+        match leading_for(&SystemAgents::new(self.system), alloc, self.groups) {
             Ok(leading) => Ok(leading),
             Err(_) => Err(MetaFault::Memory),
         }
@@ -81,10 +55,12 @@ impl<'a> SiteMetadata<'a> {
         provider: &Provider,
         agent: &AgentType,
         limit: Option<u32>,
-    ) -> Result<MetaChild<SystemProcess, Global>, MetaFault> {
-        match self.asked.replace(None) {
-            Some(asked) if asked.is(provider, agent) => return Ok(asked.into_child()),
-            other => end(self.system, other),
+    ) -> Result<Question<'a>, MetaFault> {
+        if let Some(asked) = self.asked.replace(None) {
+            match asked.to(provider, agent) {
+                Ok(asked) => return Ok(asked),
+                Err(other) => other.give_up(alloc),
+            }
         }
         let leading = self.leading(alloc)?;
         let call = MetaCall {
@@ -93,12 +69,12 @@ impl<'a> SiteMetadata<'a> {
             agent,
             leading: &leading,
         };
-        MetaChild::start(self.system, alloc, &call, limit)
+        Question::start(self.system, &call, limit)
     }
 
     // Keeps an agent that has not answered. If another one is being asked, it is ended.
-    fn keep(&self, asked: Asked) {
-        end(self.system, self.asked.replace(Some(asked)));
+    fn keep(&self, alloc: Global, asked: Question<'a>) {
+        end(alloc, self.asked.replace(Some(asked)));
     }
 
     /// Ends the agent that is being asked, if there is one, with all its descendants.
@@ -109,7 +85,7 @@ impl<'a> SiteMetadata<'a> {
             groups: _,
             asked,
         } = self;
-        end(system, asked.into_inner());
+        end(system.host().alloc(), asked.into_inner());
     }
 }
 
@@ -130,7 +106,7 @@ impl Metadata for SiteMetadata<'_> {
             agent,
             leading: &leading,
         };
-        run_meta(self.system, alloc, &call, limit)
+        run_meta(&mut SystemAgents::new(self.system), alloc, &call, limit)
     }
 
     fn poll_metadata(
@@ -140,20 +116,16 @@ impl Metadata for SiteMetadata<'_> {
         agent: &AgentType,
         limit: Option<u32>,
     ) -> Option<Result<Vec<u8>, MetaFault>> {
-        let child = match self.take(alloc, provider, agent, limit) {
-            Ok(child) => child,
+        let asked = match self.take(alloc, provider, agent, limit) {
+            Ok(asked) => asked,
             Err(fault) => return Some(Err(fault)),
         };
-        match child.poll(self.system, alloc) {
-            MetaPoll::Waits(child) => {
-                self.keep(Asked {
-                    provider: provider.copied(),
-                    agent: agent.copied(),
-                    child,
-                });
+        match asked.poll(alloc) {
+            Polled::Waits(asked) => {
+                self.keep(alloc, asked);
                 None
             }
-            MetaPoll::Answered(answer) => Some(answer),
+            Polled::Answered(answer) => Some(answer),
         }
     }
 }

@@ -1,4 +1,5 @@
 //! An action that is run once.
+use agent_system::leading_of;
 use diagnostics::{children_ignored, report, report_ignored};
 use exec_faults::Fault;
 use exec_once::{
@@ -9,7 +10,7 @@ use exec_options::{JournalResource, NamedAgent, OnceOptions, OnceTarget};
 use exec_program::site_of_once;
 use journal_directory::registered;
 use ocf_env::Site;
-use process_ends::{System, leading_of};
+use process_ends::{System, SystemAgents};
 use std::alloc::Global;
 use std::io::Eprint;
 
@@ -91,7 +92,8 @@ fn refused(system: &System<'_>, why: NotRun) -> u8 {
 // Calls the agent of this site, and returns the exit status that reports its end.
 fn called(system: &System<'_>, site: &Site, call: &OnceCall, options: &OnceOptions<'_>) -> u8 {
     let alloc = system.host().alloc();
-    let Ok(leading) = leading_of(system, alloc, !options.no_groups) else {
+    let mut agents = SystemAgents::new(system);
+    let Ok(leading) = leading_of(&agents, alloc, !options.no_groups) else {
         return not_run(system, "no memory");
     };
     let at = OnceSite {
@@ -99,7 +101,7 @@ fn called(system: &System<'_>, site: &Site, call: &OnceCall, options: &OnceOptio
         leading: &leading,
     };
     system.start_killer();
-    run_once(system, alloc, &at, call, options.timeout).status()
+    run_once(&mut agents, alloc, &at, call, options.timeout).status()
 }
 
 /// Runs an action once, and returns the exit status that reports its end.

@@ -1,0 +1,11 @@
+-- The answer to a question for metadata.
+use Rattle.std.specs.Prelude.{ℕ, ⊤, Result}
+use Rattle.std.specs.Global.{Vec}
+use Rattle.ocf_types.specs.declared.outcome.MetaFault.{MetaFault}
+use Rattle.ocfexec.specs.declared.question.Polled.{Polled}
+use Rattle.ocfexec.specs.declared.question.Polled.TheVariants.{Waits, Answered}
+
+-- a fact about the answer to a question, if it was answered
+abbrev pub IfAnswered : Polled → (Result (Vec ℕ) MetaFault → Type 0) → Type 0
+IfAnswered (Waits question) F = ⊤
+IfAnswered (Answered answer) F = F answer

@@ -1,0 +1,103 @@
+//! An agent that is asked for its metadata.
+ghost use Rattle.std.specs.Prelude.{◌≤◌, length, IfOk};
+ghost use Rattle.agent_metadata.specs.Asking.{IsAlone};
+ghost use Rattle.agent_metadata.specs.MetaChildren.{asked_process};
+ghost use Rattle.ocf_types.specs.Limits.{metadata_limit};
+ghost use Rattle.process_ends.specs.SystemAgents.{child_process};
+
+use agent_metadata::{MetaCall, MetaChild, MetaPoll};
+use ocf_env::Site;
+use ocf_types::{AgentType, MetaFault, Provider};
+use process_ends::{System, SystemAgents};
+use std::alloc::Global;
+
+/// The agent of a provider and a type, which is asked for its metadata and has not answered yet, by a handle of the system of its own. It
+/// cannot be dropped: it is polled until it answers, or given up.
+pub struct Question<'a> {
+    provider: Provider,
+    agent: AgentType,
+    agents: SystemAgents<'a>,
+    child: MetaChild<SystemAgents<'a>, Global>,
+    // It lives, and is the only one that this handle asked.
+    pub ghost alone: { IsAlone agents.sights (asked_process child_process child) },
+}
+
+/// The result of a poll of a question.
+pub enum Polled<'a> {
+    /// It was not answered yet.
+    Waits(Question<'a>),
+    /// The metadata, or why there are none.
+    Answered(Result<Vec<u8>, MetaFault>),
+}
+
+impl<'a> Question<'a> {
+    ghost use Rattle.ocfexec.specs.Questions.{IfAnswered};
+
+    /// Asks an agent. It has `limit` milliseconds, or as long as it takes where there is no limit.
+    pub fn start(
+        system: &'a System<'a>,
+        call: &MetaCall<'_, Global>,
+        limit: Option<u32>,
+    ) -> Result<Question<'a>, MetaFault> {
+        let mut agents = SystemAgents::new(system);
+        let child = MetaChild::start(&mut agents, system.host().alloc(), call, limit)?;
+        Ok(Question {
+            provider: call.provider.copied(),
+            agent: call.agent.copied(),
+            agents,
+            child,
+        })
+    }
+
+    /// The question, if it is to the agent of this provider and this type; otherwise it is the error.
+    pub fn to(self, provider: &Provider, agent: &AgentType) -> Result<Question<'a>, Question<'a>> {
+        let Question {
+            provider: its_provider,
+            agent: its_agent,
+            agents,
+            child,
+        } = self;
+        let is_to = its_provider.as_bytes() == provider.as_bytes()
+            && its_agent.as_bytes() == agent.as_bytes();
+        let question = Question {
+            provider: its_provider,
+            agent: its_agent,
+            agents,
+            child,
+        };
+        if is_to { Ok(question) } else { Err(question) }
+    }
+
+    /// Returns the answer if there is one, without waiting for it.
+    pub fn poll(self, alloc: Global) -> Polled<'a>
+        ensures length { IfAnswered result
+            (λ answer. IfOk answer (λ bytes. length bytes.items ≤ metadata_limit)) }
+    {
+        let Question {
+            provider,
+            agent,
+            mut agents,
+            child,
+        } = self;
+        match child.poll(&mut agents, alloc) {
+            MetaPoll::Waits(child) => Polled::Waits(Question {
+                provider,
+                agent,
+                agents,
+                child,
+            }),
+            MetaPoll::Answered(answer) => Polled::Answered(answer),
+        }
+    }
+
+    /// Gives the agent up and ends it with all its descendants. An agent that lives on is named on standard error.
+    pub fn give_up(self, alloc: Global) {
+        let Question {
+            provider: _,
+            agent: _,
+            mut agents,
+            child,
+        } = self;
+        child.give_up(&mut agents, alloc);
+    }
+}
