@@ -31,7 +31,7 @@ use Rattle.exec_session.specs.Leaving.{WindsDown, at_first, further as more_wind
 use Rattle.exec_session.specs.Rules.{Rules, MakesRoom, is_tidy_due}
 use Rattle.exec_session.specs.Progress.{Answers}
 use Rattle.exec_session.specs.Polls.{Lines}
-use Rattle.exec_session.specs.Runs.{GoesByCalls, MakesOwnTurn, NewsSo, OwnTurn, Reaches, answers, here, looks, news, no_news, passes, reads, batch, turn as one_turn, waits}
+use Rattle.exec_session.specs.Runs.{GoesByCalls, MakesOwnTurn, NewsSo, OwnTurn, Reaches, answers, here, parts, news, no_news, passes, peeks, polls, reads, batch, turn as one_turn, waits}
 use Rattle.exec_session.specs.SessionViews.{Pauses, SessionPosition, SessionView, SendsAll, following}
 use Rattle.exec_session.specs.Together.{AnswersTogether}
 use Rattle.exec_session.specs.declared.drain.Terms.{Terms}
@@ -258,13 +258,17 @@ module _ {S : Type 0} (view : S → StoreView) where
     pub lines_go : (source : Source) (p : SessionPosition S) (own : OwnTurn) (n : ℕ) (lines : Lines) (q : SessionPosition S)
         → Reaches view source rules p own n lines q → Goes p.at q.at
     lines_go source p _ _ _ _ here = here_still p.at
-    lines_go source p _ _ _ _ (looks own n lines m event reaches is) =
+    lines_go source p _ _ _ _ (polls own n lines m ready reaches serves few) =
+        both_go p.at m.at _ (lines_go source p own n lines m reaches) (unmoved m.at _ refl refl)
+    lines_go source p _ _ _ _ (peeks own n lines m has_line reaches follows) =
+        both_go p.at m.at _ (lines_go source p own n lines m reaches) (unmoved m.at _ refl refl)
+    lines_go source p _ _ _ _ (waits own n lines m event reaches serves goes_on rests is) =
         both_go p.at m.at _ (lines_go source p own n lines m reaches) (unmoved m.at (following m.at event) refl refl)
-    lines_go source p _ _ _ _ (waits own n lines m event reaches goes_on rests is) =
-        both_go p.at m.at _ (lines_go source p own n lines m reaches) (unmoved m.at (following m.at event) refl refl)
-    lines_go source p _ _ _ _ (reads own n commands m left found reaches goes_on may read) =
+    lines_go source p _ _ _ _ (parts own n commands m reaches goes_on may there) =
         both_go p.at m.at _ (lines_go source p own n _ m reaches) (unmoved m.at _ refl refl)
-    lines_go source p _ _ _ _ (passes own n m left reaches goes_on may passed) = lines_go source p own n [] m reaches
+    lines_go source p _ _ _ _ (reads own n commands m left found reaches goes_on may there read) =
+        both_go p.at m.at _ (lines_go source p own n _ m reaches) (unmoved m.at _ refl refl)
+    lines_go source p _ _ _ _ (passes own n m left reaches goes_on passed) = lines_go source p own n [] m reaches
     lines_go source p _ _ _ _ (answers own n found m q reaches goes_on may given) =
         both_go p.at m.at q (lines_go source p own n (found ∷ []) m reaches) (line_goes source m.at q found given)
     lines_go source p _ _ _ _ (batch own n first others lines m q reaches is_open may together) =

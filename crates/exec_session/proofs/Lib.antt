@@ -5,6 +5,7 @@ pub mod DrainLemmas
 pub mod WaitLemmas
 pub mod RoundLemmas
 pub mod CallLemmas
+pub mod CountLemmas
 pub mod SendLemmas
 pub mod HeldLemmas
 pub mod LeaveLemmas

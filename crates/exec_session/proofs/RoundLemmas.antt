@@ -9,11 +9,11 @@ use Rattle.ocf_types.specs.declared.reply.TurnEnd.TheVariants.{Done}
 use Rattle.store_model.specs.StoreView.{StoreView}
 use Rattle.executor.specs.ExecutorView.{ExecutorView}
 use Rattle.exec_trace.specs.declared.event.IoEvent.{IoEvent}
-use Rattle.exec_trace.specs.declared.event.IoEvent.TheVariants.{Polled, Rested}
+use Rattle.exec_trace.specs.declared.event.IoEvent.TheVariants.{Polled, Rested, Shown}
 use Rattle.exec_session.specs.Answers.{Source}
 use Rattle.exec_session.specs.Breaks.{BreaksOff, OwnTurnBreaks, in_line, in_own_turn}
 use Rattle.exec_session.specs.Held.{asks, held_lines}
-use Rattle.exec_session.specs.Pausing.{IsQuietSince, IsUntilDue, MayPause}
+use Rattle.exec_session.specs.Pausing.{IsQuietSince, IsUntilDue, MayPause, waits_of}
 use Rattle.exec_state.specs.StateValue.{all_pairs}
 use Rattle.exec_trace.specs.Events.{last_shown}
 use Rattle.ocf_types.specs.Boot.{any_busy}
@@ -22,7 +22,7 @@ use Rattle.child_model.specs.declared.answer.Entry.{Entry}
 use Rattle.exec_session.specs.Pending.{IsClear}
 use Rattle.exec_session.specs.Rules.{Rules}
 use Rattle.exec_session.specs.Polls.{HasPolled, Lines, misses_in, reads_in}
-use Rattle.exec_session.specs.Runs.{IsWait, MakesOwnTurn, MakesTurns, MayGoOn, MayRest, MayTurn, OwnTurn, Reaches, ReachesFault, ReachesLeave, answers, of_command, turn, turned}
+use Rattle.exec_session.specs.Runs.{IsWait, MakesOwnTurn, MakesTurns, MayGoOn, MayRest, MayTurn, OwnTurn, Reaches, ReachesFault, ReachesLeave, answers, of_command, turn, turned, with_polls}
 use Rattle.exec_session.specs.SessionViews.{Lasts, MayBreakOff, SessionPosition, SessionView, SendsPart, following, noted, paused, session_position, session_view}
 use Rattle.exec_session.specs.Progress.{Answers, AnswersSo}
 use Rattle.exec_session.specs.Waiting.{Comes, ComesOrEnds, GoesRound, HasCome, HasComeRound, IsReadTo, IsRound, IsSince, PollsOnce, MayBegin, MayTakeAfter, MayWait, Midway, Rounds, Stage, Waits, WaitsForThere, midway, more, still}
@@ -51,17 +51,17 @@ pub open_serves : {S : Type 0} (mode : Mode) (x : ExecutorView S) → mode ≡ S
 open_serves Run x is goes_on = absurd cc
 open_serves Serve x is goes_on = goes_on
 
-zero_round : (mode : Mode) → mode ≡ Serve → (most : ℕ) → IsRound mode most → most ≡ 0
-zero_round Run is most round = absurd cc
-zero_round Serve is most round = round
+zero_round : (mode : Mode) → mode ≡ Serve → (own : OwnTurn) (most : ℕ) → IsRound mode own most → (most ≡ 0) × (own.polls ≡ 0)
+zero_round Run is own most round = absurd cc
+zero_round Serve is own most round = round
 
-any_round : (mode : Mode) → IsRound mode 0
-any_round Run = tt
-any_round Serve = refl
+any_round : (mode : Mode) (own : OwnTurn) → own.polls ≡ 0 → IsRound mode own 0
+any_round Run own none = tt
+any_round Serve own none = (refl, none)
 
-pub session_round : (mode : Mode) → mode ≡ Run → (most : ℕ) → IsRound mode most
-session_round Run is most = tt
-session_round Serve is most = absurd cc
+pub session_round : (mode : Mode) → mode ≡ Run → (own : OwnTurn) (most : ℕ) → IsRound mode own most
+session_round Run is own most = tt
+session_round Serve is own most = absurd cc
 
 -- a round may begin
 pub session_begins : {S : Type 0} (mode : Mode) (s : Midway S) → mode ≡ Run → MayWait mode s → WaitsForThere s → MayBegin mode s
@@ -108,40 +108,44 @@ due_none x es now micros idle shown brief none =
 
 -- waits, one after the other
 module _ {S : Type 0} (since now : ℕ) where
-  abbrev Waited : SessionPosition S → SessionPosition S → Type 0
-  Waited p q = Waits since now p q
+  abbrev Waited : SessionPosition S → ℕ → SessionPosition S → Type 0
+  Waited p n q = Waits since now p n q
 
-  pub waits_more : (p m q : SessionPosition S) (event : IoEvent) → Waited p m → IsWait since now m.at event → q ≡ noted m event → Waited p q
-  waits_more p m q event waits is same = subst (λ (w : SessionPosition S). Waited p w) (sym same) (more m event waits is)
+  pub waits_more : (p m q : SessionPosition S) (n : ℕ) (event : IoEvent) → Waited p n m → IsWait n since now m.at event → q ≡ noted m event
+      → Waited p (n + waits_of event) q
+  waits_more p m q n event waits is same = subst (λ (w : SessionPosition S). Waited p (n + waits_of event) w) (sym same) (more n m event waits is)
 
-  pub waits_last : (p q : SessionPosition S) → Waited p q → Lasts p.at q.at
-  waits_last p _ still = lasts_same p.at p.at refl
-  waits_last p _ (more m event waits is) =
-      lasts_both p.at m.at (following m.at event) (waits_last p m waits) (lasts_event m.at (following m.at event) event refl)
+  pub waits_last : (p q : SessionPosition S) (n : ℕ) → Waited p n q → Lasts p.at q.at
+  waits_last p _ _ still = lasts_same p.at p.at refl
+  waits_last p _ _ (more n m event waits is) =
+      lasts_both p.at m.at (following m.at event) (waits_last p m n waits) (lasts_event m.at (following m.at event) event refl)
 
-  pub waits_executor : (p q : SessionPosition S) → Waited p q → q.at.executor ≡ p.at.executor
-  waits_executor p _ still = refl
-  waits_executor p _ (more m event waits is) = waits_executor p m waits
+  pub waits_executor : (p q : SessionPosition S) (n : ℕ) → Waited p n q → q.at.executor ≡ p.at.executor
+  waits_executor p _ _ still = refl
+  waits_executor p _ _ (more n m event waits is) = waits_executor p m n waits
 
-  pub waits_once : (p q : SessionPosition S) (event : IoEvent) → IsWait since now p.at event → q ≡ noted p event → Waited p q
-  waits_once p q event is same = waits_more p p q event still is same
+  -- a clock reading
+  pub waits_shown : (p q : SessionPosition S) (moment : ℕ) → q ≡ noted p (Shown moment) → Waited p 0 q
+  waits_shown p q moment same = waits_more p p q 0 (Shown moment) still tt same
 
-  pub waits_none : (p q : SessionPosition S) → q ≡ p → Waited p q
-  waits_none p q same = subst (λ (w : SessionPosition S). Waited p w) (sym same) still
+  pub waits_none : (p q : SessionPosition S) → q ≡ p → Waited p 0 q
+  waits_none p q same = subst (λ (w : SessionPosition S). Waited p 0 w) (sym same) still
 
-  pub waits_rest : (p m q : SessionPosition S) (micros : ℕ) → MayPause since now m.at.executor m.at.events micros → Waited p m
-      → q ≡ session_position (paused m.at micros) m.left → Waited p q
+  pub waits_rest : (p m q : SessionPosition S) (micros : ℕ) → MayPause since now m.at.executor m.at.events micros → Waited p 0 m
+      → q ≡ session_position (paused m.at micros) m.left → (n : ℕ) × Waited p n q
   waits_rest p m q micros may waits same = by (nat_lt 0 micros) refl
     where
       at : Bool → SessionPosition S
       at b = session_position (session_view m.at.executor m.at.client_view (m.at.events ++ (if b then Rested micros ∷ [] else []))) m.left
 
-      by : (b : Bool) → nat_lt 0 micros ≡ b → Waited p q
-      by true is = waits_more p m q (Rested micros) waits may (same ∙ ap at is)
-      by false is =
-          subst (λ (w : SessionPosition S). Waited p w)
-          (sym (same ∙ ap at is
-          ∙ ap (λ (es : List IoEvent). session_position (session_view m.at.executor m.at.client_view es) m.left) (append-nil m.at.events))) waits
+      by : (b : Bool) → nat_lt 0 micros ≡ b → (n : ℕ) × Waited p n q
+      by true is = (1, waits_more p m q 0 (Rested micros) waits (refl, may) (same ∙ ap at is))
+      by false is = (
+        0,
+        subst (λ (w : SessionPosition S). Waited p 0 w)
+            (sym (same ∙ ap at is
+            ∙ ap (λ (es : List IoEvent). session_position (session_view m.at.executor m.at.client_view es) m.left) (append-nil m.at.events))) waits,
+      )
 
 -- a poll that a wait may make
 pub wait_looked : {S : Type 0} (mode : Mode) (p q : SessionPosition S) (pending : Pending) → PollsOnce p q → MayWait mode (midway p pending)
@@ -166,20 +170,28 @@ module _ {S : Type 0} (view : S → StoreView) (source : Source) (rules : Rules)
 
   -- one poll, or none
   pub looked_once : (most : ℕ) (commands : List Command) (held : Option Held) (kept : List ℕ) (point point' : SessionPosition S)
-      → rules.mode ≡ Serve → PollsOnce point point' → Come most point commands held kept → Come most point' commands held kept
-  looked_once most commands held kept point point' mode (inl same) come =
-      subst (λ (w : SessionPosition S). Come most w commands held kept) (sym same) come
-  looked_once most commands held kept point point' mode (inr (ready, same)) come =
-      polled view source rules p own most commands held kept point point' (Polled 0 ready) (turns_serve rules.mode mode, refl) same come
+      → rules.mode ≡ Serve → own.polls < 65 → PollsOnce point point' → Come most point commands held kept
+      → (k : ℕ) × (k ≤ own.polls + 1) × HasCome view source rules p (with_polls own k) most
+      (record { point = point'; commands = commands; held = held; kept = kept })
+  looked_once most commands held kept point point' mode few (inl same) come =
+      (own.polls, omega arith, subst (λ (w : SessionPosition S). Come most w commands held kept) (sym same) come)
+  looked_once most commands held kept point point' mode few (inr (ready, same)) come = (
+    own.polls + 1,
+    omega arith,
+    polled view source rules p own most commands held kept point point' ready (turns_serve rules.mode mode) few same come,
+  )
 
   -- waits, as steps of a session
-  pub waits_come : (most : ℕ) (commands : List Command) (held : Option Held) (kept : List ℕ) (point : SessionPosition S) (point' : SessionPosition S)
-      → commands ≡ [] → MayRest (held_lines held) → Waits own.since own.now point point' → Come most point commands held kept
-      → Come most point' commands held kept
-  waits_come most commands held kept point _ none rests still come = come
-  waits_come most commands held kept point _ none rests (more m event waits is) come =
-      waited view source rules p own most commands held kept m (session_position (following m.at event) m.left) event none rests is refl
-      (waits_come most commands held kept point m none rests waits come)
+  pub waits_come : rules.mode ≡ Serve → (most : ℕ) (commands : List Command) (held : Option Held) (kept : List ℕ)
+      (point point' : SessionPosition S) (n : ℕ) → commands ≡ [] → MayRest (held_lines held) → own.waits ≡ 0
+      → Waits own.since own.now point n point' → Come most point commands held kept
+      → HasCome view source rules p (record own { waits = n }) most (record { point = point'; commands = commands; held = held; kept = kept })
+  waits_come mode most commands held kept point _ _ none rests first still come =
+      subst (λ (n : ℕ). HasCome view source rules p (record own { waits = n }) most
+      (record { point = point; commands = commands; held = held; kept = kept })) first come
+  waits_come mode most commands held kept point _ _ none rests first (more n m event waits is) come =
+      waited view source rules p (record own { waits = n }) most commands held kept m (session_position (following m.at event) m.left) event
+      (turns_serve rules.mode mode) none rests is refl (waits_come mode most commands held kept point m n none rests first waits come)
 
   -- the lines that are unanswered where no command waits
   none_but_held : (count : ℕ) (commands : List Command) (held : Option Held) (q : SessionPosition S) → commands ≡ []
@@ -341,7 +353,7 @@ module _ {S : Type 0} (view : S → StoreView) (source : Source) (rules : Rules)
       → IsSince own quiet end (held_lines s.held) s.point.at → Comes view source rules p own most s r
       → GoesRound view source rules p quiet end s r
   round_read mode quiet end most s (Ok taken.More) since come =
-      record { most = most; own = own; round = session_round rules.mode mode most; since = since; come = come }
+      record { most = most; own = own; round = session_round rules.mode mode own most; since = since; come = come }
   round_read mode quiet end most s (Ok taken.End) since come = come
   round_read mode quiet end most s (Ok taken.Closed) since come = come
   round_read mode quiet end most s (Ok taken.Leaves) since come = come
@@ -429,16 +441,21 @@ round_err view source rules p quiet end s (Err e) bad breaks = breaks
 pub round_begins : {S : Type 0} (view : S → StoreView) (source : Source) (rules : Rules) (p : SessionPosition S) (quiet : ℕ) (end : TurnEnd)
     (s : Midway S) → rules.mode ≡ Serve → (come : HasComeRound view source rules p quiet end s) → HasCome view source rules p come.own 0 s
 round_begins view source rules p quiet end s mode come =
-    subst (λ (n : ℕ). HasCome view source rules p come.own n s) (zero_round rules.mode mode come.most come.round) come.come
+    subst (λ (n : ℕ). HasCome view source rules p come.own n s) (zero_round rules.mode mode come.own come.most come.round).0 come.come
 
--- the next round begins after a turn that ended like this
+pub round_first : {S : Type 0} (view : S → StoreView) (source : Source) (rules : Rules) (p : SessionPosition S) (quiet : ℕ) (end : TurnEnd)
+    (s : Midway S) → rules.mode ≡ Serve → (come : HasComeRound view source rules p quiet end s) → come.own.polls ≡ 0
+round_first view source rules p quiet end s mode come = (zero_round rules.mode mode come.own come.most come.round).1
+
+-- the next round begins after a turn that ended like this, and this number of waits
 pub round_again : {S : Type 0} (view : S → StoreView) (source : Source) (rules : Rules) (p : SessionPosition S) (now quiet : ℕ) (end : TurnEnd)
-    (q : SessionView S) (s : Midway S) → Lasts q s.point.at → HasCome view source rules p (turned now quiet end (held_lines s.held) q) 0 s
+    (q : SessionView S) (s : Midway S) (n : ℕ) → Lasts q s.point.at
+    → HasCome view source rules p (record (turned now quiet end (held_lines s.held) q) { waits = n }) 0 s
     → HasComeRound view source rules p quiet end s
-round_again view source rules p now quiet end q s lasts come = record {
+round_again view source rules p now quiet end q s n lasts come = record {
   most = 0;
-  own = turned now quiet end (held_lines s.held) q;
-  round = any_round rules.mode;
+  own = record (turned now quiet end (held_lines s.held) q) { waits = n };
+  round = any_round rules.mode (record (turned now quiet end (held_lines s.held) q) { waits = n }) refl;
   since = record {
     quiet = omega arith;
     ended = refl;
@@ -458,7 +475,7 @@ first_round view source rules p pending quiet end clear none is_open = (
   record {
     most = 0;
     own = turned 0 0 Done [] p.at;
-    round = any_round rules.mode;
+    round = any_round rules.mode (turned 0 0 Done [] p.at) refl;
     since = record {
       quiet = omega arith;
       ended = sym none;

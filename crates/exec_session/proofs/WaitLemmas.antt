@@ -1,5 +1,5 @@
 -- A session between two lines, step by step.
-use Rattle.std.proofs.Common.{◌≡◌, ◌≢◌, ℕ, ◌+◌, ◌≤◌, Bool, true, false, List, [], ◌∷◌, ◌++◌, length, map, Option, Some, None, Result, Ok, Err, IfOk, IsErr}
+use Rattle.std.proofs.Common.{◌≡◌, ◌≢◌, ℕ, ◌+◌, ◌<◌, ◌≤◌, Bool, true, false, List, [], ◌∷◌, ◌++◌, length, map, Option, Some, None, Result, Ok, Err, IfOk, IsErr}
 use Rattle.std.proofs.Common.{refl, sym, ap, subst, ◌∙◌, inl, inr, arith, length-append, take_all}
 use Rattle.std.proofs.lemmas.List.{append-nil, map-append}
 use Rattle.std.proofs.lemmas.List.Elements.{All-nil}
@@ -21,12 +21,12 @@ use Rattle.exec_session.specs.Held.{asks, held_lines}
 use Rattle.exec_session.specs.Pending.{IsClear}
 use Rattle.exec_session.specs.Progress.{ReadsInput}
 use Rattle.exec_session.specs.Rules.{Rules}
-use Rattle.exec_session.specs.Polls.{IsThere, Lines, MayRead}
-use Rattle.exec_session.specs.Runs.{IsLook, IsWait, MakesTurns, MayGoOn, MayRest, MayTake, OwnTurn, Reaches, ReachesFault, of_command, turned}
-use Rattle.exec_session.specs.Runs.{answers, here, looks, passes, reads, batch, waits}
+use Rattle.exec_session.specs.Polls.{FollowsRead, IsThere, Lines, MayRead}
+use Rattle.exec_session.specs.Runs.{IsWait, MakesTurns, MayGoOn, MayRest, MayTake, OwnTurn, Reaches, ReachesFault, of_command, turned}
+use Rattle.exec_session.specs.Runs.{after_wait, answers, here, parts, passes, peeks, polls, reads, batch, waits, with_polls}
 use Rattle.exec_session.specs.SessionViews.{MayBreakOff, SessionPosition, SessionView, following, noted, session_position}
 use Rattle.exec_session.specs.Together.{AnswersAll}
-use Rattle.exec_session.specs.Waiting.{Comes, ComesOrEnds, HasCome, HasFound, IsFound, IsReadTo, IsTaken, MayStay, MayTakeAfter, MayWait, Midway, TakesFound, WaitsForThere, found_lines, midway}
+use Rattle.exec_session.specs.Waiting.{Comes, ComesOrEnds, HasCome, HasFound, IsFound, IsReadTo, IsTaken, MayStay, MayTakeAfter, MayWait, Midway, TakesFound, WaitsForThere, counted, found_lines, midway}
 use Rattle.exec_session.specs.declared.context.Mode.{Mode}
 use Rattle.exec_session.specs.declared.context.Mode.TheVariants.{Run, Serve}
 use Rattle.exec_session.specs.declared.held.Held.{Held}
@@ -85,16 +85,28 @@ ok_always P (Ok x) always = always x
 ok_always P (Err e) always = tt
 
 -- a read may be made while these commands wait
-pub may_read : (commands : List Command) (events : List IoEvent) → (commands ≢ [] → IsThere events)
-    → MayRead (map of_command commands) events
-may_read [] events there = tt
-may_read (first ∷ others) events there = there (λ none. cc)
+pub may_read_run : (mode : Mode) (commands : List Command) (events : List IoEvent) → mode ≡ Run → (commands ≢ [] → IsThere events)
+    → MayRead mode (map of_command commands) events
+may_read_run Run [] events is there = tt
+may_read_run Run (first ∷ others) events is there = there (λ none. cc)
+may_read_run Serve commands events is there = absurd cc
 
-pub may_read_free : (commands : List Command) (held : Option Held) (events : List IoEvent) → held ≡ None
-    → (commands ≢ [] → IsThere events) → MayRead (map of_command commands ++ held_lines held) events
-may_read_free commands held events free there =
-    subst (λ (h : Option Held). MayRead (map of_command commands ++ held_lines h) events) (sym free)
-    (subst (λ (ls : Lines). MayRead ls events) (sym (append-nil (map of_command commands))) (may_read commands events there))
+pub may_read_there : (mode : Mode) (lines : Lines) (events : List IoEvent) → IsThere events → MayRead mode lines events
+may_read_there Run [] events there = tt
+may_read_there Run (line ∷ lines) events there = there
+may_read_there Serve lines events there = there
+
+-- the reads that are counted with what was found are one at most
+counted_few : (what : Found) → counted what ≤ 1
+counted_few (found.Line line) = omega arith
+counted_few found.Empty = omega arith
+counted_few found.End = omega arith
+
+-- the lines that are unanswered where none is held
+free_lines : (commands : List Command) (held : Option Held) → held ≡ None
+    → map of_command commands ++ held_lines held ≡ map of_command commands
+free_lines commands held free =
+    ap (λ (h : Option Held). map of_command commands ++ held_lines h) free ∙ append-nil (map of_command commands)
 
 -- the executor is open while commands wait
 pub open_while : {S : Type 0} (mode : Mode) (s : Midway S) → MayWait mode s → s.commands ≢ [] → s.point.at.executor.is_open ≡ true
@@ -154,33 +166,37 @@ module _ {S : Type 0} (view : S → StoreView) (source : Source) (rules : Rules)
   }
 
   -- a poll, and a wait
-  pub polled : (most : ℕ) (commands : List Command) (held : Option Held) (kept : List ℕ) (point point' : SessionPosition S) (event : IoEvent)
-      → IsLook rules.mode (map of_command commands ++ held_lines held) point.at.events event
-      → point' ≡ session_position (following point.at event) point.left → Come most point commands held kept
-      → Come most point' commands held kept
-  polled most commands held kept point point' event is same come =
-      subst (λ (w : SessionPosition S). Come most w commands held kept) (sym same) (record {
+  pub polled : (most : ℕ) (commands : List Command) (held : Option Held) (kept : List ℕ) (point point' : SessionPosition S) (ready : Bool)
+      → MakesTurns rules.mode → own.polls < 65 → point' ≡ session_position (following point.at (Polled 0 ready)) point.left
+      → Come most point commands held kept
+      → HasCome view source rules p (with_polls own (own.polls + 1)) most
+      (record { point = point'; commands = commands; held = held; kept = kept })
+  polled most commands held kept point point' ready serves few same come =
+      subst (λ (w : SessionPosition S). HasCome view source rules p (with_polls own (own.polls + 1)) most
+      (record { point = w; commands = commands; held = held; kept = kept })) (sym same) (record {
         count = come.count;
         few = come.few;
         left = come.left;
         mid = come.mid;
         reached =
-            looks own come.count (map of_command commands ++ held_lines held) (session_position point.at come.left) event come.reached is;
+            polls own come.count (map of_command commands ++ held_lines held) (session_position point.at come.left) ready come.reached serves few;
         goes_on = come.goes_on;
       })
 
   pub waited : (most : ℕ) (commands : List Command) (held : Option Held) (kept : List ℕ) (point point' : SessionPosition S) (event : IoEvent)
-      → commands ≡ [] → MayRest (held_lines held) → IsWait own.since own.now point.at event → point' ≡ session_position (following point.at event) point.left
-      → Come most point commands held kept → Come most point' commands held kept
-  waited most commands held kept point point' event none rests is same come =
-      subst (λ (w : SessionPosition S). Come most w commands held kept) (sym same) (record {
+      → MakesTurns rules.mode → commands ≡ [] → MayRest (held_lines held) → IsWait own.waits own.since own.now point.at event
+      → point' ≡ session_position (following point.at event) point.left → Come most point commands held kept
+      → HasCome view source rules p (after_wait own event) most (record { point = point'; commands = commands; held = held; kept = kept })
+  waited most commands held kept point point' event serves none rests is same come =
+      subst (λ (w : SessionPosition S). HasCome view source rules p (after_wait own event) most
+      (record { point = w; commands = commands; held = held; kept = kept })) (sym same) (record {
         count = come.count;
         few = come.few;
         left = come.left;
         mid = come.mid;
         reached =
             waits own come.count (map of_command commands ++ held_lines held) (session_position point.at come.left) event come.reached
-            come.goes_on (subst (λ (cs : List Command). MayRest (map of_command cs ++ held_lines held)) (sym none) rests) is;
+            serves come.goes_on (subst (λ (cs : List Command). MayRest (map of_command cs ++ held_lines held)) (sym none) rests) is;
         goes_on = come.goes_on;
       })
 
@@ -210,84 +226,89 @@ module _ {S : Type 0} (view : S → StoreView) (source : Source) (rules : Rules)
     cause = inr many;
   }
 
+  -- a read that completed no line
+  part_read : (most : ℕ) → MayTakeAfter rules.mode most → (commands : List Command) (held : Option Held) (kept : List ℕ)
+      (point point' : SessionPosition S) → held ≡ None → MayRead rules.mode (map of_command commands) point.at.events
+      → point'.at ≡ following point.at (Read true) → (come : Come most point commands held kept)
+      → At (come.count + 1) (map of_command commands) (session_position point'.at come.left)
+  part_read most may commands held kept point point' free there same come =
+      subst (λ (s : SessionView S). At (come.count + 1) (map of_command commands) (session_position s come.left)) (sym same)
+      (parts own come.count commands (session_position point.at come.left)
+      (subst (λ (ls : Lines). At come.count ls (session_position point.at come.left)) (free_lines commands held free) come.reached)
+      come.goes_on (may (come.count + length commands) come.few) there)
+
   -- a part of the next line was read
-  pub read_part : (most : ℕ) (commands : List Command) (held : Option Held) (kept kept' : List ℕ) (point point' : SessionPosition S)
-      → held ≡ None → (commands ≢ [] → IsThere point.at.events) → point'.at ≡ following point.at (Read true)
-      → (come : Come most point commands held kept) → IsMidLine come.left kept' point'.left → Come most point' commands held kept'
-  read_part most commands held kept kept' point point' free there same come mid = record {
-    count = come.count;
-    few = come.few;
+  pub read_part : (most : ℕ) → MayTakeAfter rules.mode most → (commands : List Command) (held : Option Held) (kept kept' : List ℕ)
+      (point point' : SessionPosition S) → held ≡ None → MayRead rules.mode (map of_command commands) point.at.events
+      → point'.at ≡ following point.at (Read true) → (come : Come most point commands held kept) → IsMidLine come.left kept' point'.left
+      → Come (most + 1) point' commands held kept'
+  read_part most may commands held kept kept' point point' free there same come mid = record {
+    count = come.count + 1;
+    few = omega (arith, come.few);
     left = come.left;
     mid = subst (λ (h : Option Held). IsReadTo h come.left kept' point'.left) (sym free) mid;
     reached =
-        subst (λ (s : SessionView S). At come.count (map of_command commands ++ held_lines held) (session_position s come.left)) (sym same)
-        (looks own come.count (map of_command commands ++ held_lines held) (session_position point.at come.left) (Read true) come.reached
-        (refl, may_read_free commands held point.at.events free there));
+        subst (λ (ls : Lines). At (come.count + 1) ls (session_position point'.at come.left)) (sym (free_lines commands held free))
+        (part_read most may commands held kept point point' free there same come);
     goes_on = subst (λ (s : SessionView S). MayGoOn rules.mode s.executor) (sym same) come.goes_on;
   }
 
   -- what comes next was read
-  pub found_next : (most : ℕ) (commands : List Command) (held : Option Held) (kept : List ℕ) (point point' : SessionPosition S) (what : Found)
-      → held ≡ None → (commands ≢ [] → IsThere point.at.events) → point'.at ≡ following point.at (Read true)
-      → (come : Come most point commands held kept) → ReadsInput rules.mode come.left point'.left what → Finds most commands what point'
-  found_next most commands held kept point point' what free there same come input = by what input
+  pub found_next : (most : ℕ) → MayTakeAfter rules.mode most → (commands : List Command) (held : Option Held) (kept : List ℕ)
+      (point point' : SessionPosition S) (what : Found) → held ≡ None → MayRead rules.mode (map of_command commands) point.at.events
+      → point'.at ≡ following point.at (Read true) → (come : Come most point commands held kept)
+      → ReadsInput rules.mode come.left point'.left what → Finds most commands what point'
+  found_next most may commands held kept point point' what free there same come input = by what input
     where
-      before : At come.count (map of_command commands ++ []) (session_position point.at come.left)
-      before =
-          subst (λ (h : Option Held). At come.count (map of_command commands ++ held_lines h) (session_position point.at come.left)) free
-          come.reached
-
       goes_on : MayGoOn rules.mode point'.at.executor
       goes_on = subst (λ (s : SessionView S). MayGoOn rules.mode s.executor) (sym same) come.goes_on
 
-      looked_at : At come.count (map of_command commands ++ []) (session_position point'.at come.left)
+      looked_at : At (come.count + 1) (map of_command commands ++ []) (session_position point'.at come.left)
       looked_at =
-          subst (λ (s : SessionView S). At come.count (map of_command commands ++ []) (session_position s come.left)) (sym same)
-          (looks own come.count (map of_command commands ++ []) (session_position point.at come.left) (Read true) before
-          (refl, may_read_free commands None point.at.events refl there))
+          subst (λ (ls : Lines). At (come.count + 1) ls (session_position point'.at come.left)) (sym (append-nil (map of_command commands)))
+          (part_read most may commands held kept point point' free there same come)
 
       by : (f : Found) → ReadsInput rules.mode come.left point'.left f → Finds most commands f point'
       by (found.Line line) input = record {
         count = come.count;
-        few = come.few;
+        few = omega (arith, come.few);
         left = point'.left;
         next = refl;
         reached =
             subst (λ (s : SessionView S). At come.count (map of_command commands ++ line ∷ []) (session_position s point'.left)) (sym same)
             (reads own come.count commands (session_position point.at come.left) point'.left line
-            (subst (λ (ls : Lines). At come.count ls (session_position point.at come.left)) (append-nil (map of_command commands)) before)
-            come.goes_on (may_read commands point.at.events there) input);
+            (subst (λ (ls : Lines). At come.count ls (session_position point.at come.left)) (free_lines commands held free) come.reached)
+            come.goes_on (may (come.count + length commands) come.few) there input);
         goes_on = goes_on;
       }
       by found.Empty input = record {
-        count = come.count;
-        few = come.few;
+        count = come.count + 1;
+        few = omega (arith, come.few);
         left = come.left;
         next = input;
         reached = looked_at;
         goes_on = goes_on;
       }
       by found.End input = record {
-        count = come.count;
-        few = come.few;
+        count = come.count + 1;
+        few = omega (arith, come.few);
         left = come.left;
         next = input;
         reached = looked_at;
         goes_on = goes_on;
       }
 
-  -- then there was a poll
-  pub found_looked : (most : ℕ) (commands : List Command) (what : Found) (q q' : SessionPosition S) (event : IoEvent)
-      → IsLook rules.mode (map of_command commands ++ found_lines what) q.at.events event
-      → q' ≡ session_position (following q.at event) q.left → Finds most commands what q → Finds most commands what q'
-  found_looked most commands what q q' event is same finds =
+  -- then it was asked whether what was read holds a further line
+  pub found_peeked : (most : ℕ) (commands : List Command) (what : Found) (q q' : SessionPosition S) (has_line : Bool) → FollowsRead q.at.events
+      → q' ≡ session_position (following q.at (Peeked has_line)) q.left → Finds most commands what q → Finds most commands what q'
+  found_peeked most commands what q q' has_line follows same finds =
       subst (λ (w : SessionPosition S). Finds most commands what w) (sym same) (record {
         count = finds.count;
         few = finds.few;
         left = finds.left;
         next = finds.next;
         reached =
-            looks own finds.count (map of_command commands ++ found_lines what) (session_position q.at finds.left) event finds.reached is;
+            peeks own finds.count (map of_command commands ++ found_lines what) (session_position q.at finds.left) has_line finds.reached follows;
         goes_on = finds.goes_on;
       })
 
@@ -408,12 +429,12 @@ module _ {S : Type 0} (view : S → StoreView) (source : Source) (rules : Rules)
       }
 
   -- the same before the line that was read is answered
-  pub found_answered : (most : ℕ) → ((n : ℕ) → n + 1 ≤ most → MayTake rules.mode n) → (commands : List Command) (what : Found)
+  pub found_answered : (most : ℕ) → MayTakeAfter rules.mode most → (commands : List Command) (what : Found)
       (q q' : SessionPosition S) → (commands ≢ [] → q.at.executor.is_open ≡ true) → q'.left ≡ q.left → Finds most commands what q
       → AnswersAll view rules commands q.at q'.at → MayGoOn rules.mode q'.at.executor → Finds most [] what q'
   found_answered most may commands what q q' is_open same finds answered goes_on =
-      let (n, few, reached) = batch_reached finds.count most may commands (found_lines what) q.at q'.at finds.left finds.few is_open
-      finds.reached answered in
+      let (n, few, reached) = batch_reached finds.count (most + counted what) (λ n few. may n (omega (arith, few, counted_few what))) commands
+      (found_lines what) q.at q'.at finds.left finds.few is_open finds.reached answered in
       record {
         count = n;
         few = omega (arith, few);
@@ -423,13 +444,13 @@ module _ {S : Type 0} (view : S → StoreView) (source : Source) (rules : Rules)
         goes_on = goes_on;
       }
 
-  pub found_closed : (most : ℕ) → ((n : ℕ) → n + 1 ≤ most → MayTake rules.mode n) → (commands : List Command) (what : Found)
+  pub found_closed : (most : ℕ) → MayTakeAfter rules.mode most → (commands : List Command) (what : Found)
       (q q' : SessionPosition S) → (commands ≢ [] → q.at.executor.is_open ≡ true) → Finds most commands what q
       → AnswersAll view rules commands q.at q'.at → MakesTurns rules.mode → q'.at.executor.is_open ≡ false
       → ReachesFault view source rules p q'.at
   found_closed most may commands what q q' is_open finds answered serves closed =
-      let (n, few, reached) = batch_reached finds.count most may commands (found_lines what) q.at q'.at finds.left finds.few is_open
-      finds.reached answered in
+      let (n, few, reached) = batch_reached finds.count (most + counted what) (λ n few. may n (omega (arith, few, counted_few what))) commands
+      (found_lines what) q.at q'.at finds.left finds.few is_open finds.reached answered in
       record {
         serves = serves;
         own = own;
@@ -441,7 +462,7 @@ module _ {S : Type 0} (view : S → StoreView) (source : Source) (rules : Rules)
       }
 
   -- a session that does not go on after them ends where it is
-  pub step_ends : (most : ℕ) → ((n : ℕ) → n + 1 ≤ most → MayTake rules.mode n) → (commands commands' : List Command) (held : Option Held)
+  pub step_ends : (most : ℕ) → MayTakeAfter rules.mode most → (commands commands' : List Command) (held : Option Held)
       (kept : List ℕ) (what : Found) (q q' : SessionPosition S) (step : Taken) → (commands ≢ [] → q.at.executor.is_open ≡ true)
       → Finds most commands what q → AnswersAll view rules commands q.at q'.at → step ≢ taken.More
       → IsTaken rules.mode q'.at.executor false step
@@ -521,9 +542,9 @@ module _ {S : Type 0} (view : S → StoreView) (source : Source) (rules : Rules)
           (answers own it.count line (session_position q.at it.left) q'.at it.reached it.goes_on (may it.count (omega (arith, it.few))) answered)
           step (subst (λ (b : Bool). IsTaken rules.mode q'.at.executor b step) not_ended is)
       by found.Empty it (not_ended, same_at) =
-          further q.left (it.count + 1) (omega (arith, it.few)) (sym same)
-          (subst (λ (s : SessionView S). At (it.count + 1) [] (session_position s q.left)) (sym same_at)
-          (passes own it.count (session_position q.at it.left) q.left it.reached it.goes_on (may it.count (omega (arith, it.few))) it.next))
+          further q.left it.count (omega (arith, it.few)) (sym same)
+          (subst (λ (s : SessionView S). At it.count [] (session_position s q.left)) (sym same_at)
+          (passes own it.count (session_position q.at it.left) q.left it.reached it.goes_on it.next))
           step (subst (λ (b : Bool). IsTaken rules.mode q'.at.executor b step) not_ended is)
       by found.End it (at_end, same_at) =
           ended it same_at step (subst (λ (b : Bool). IsTaken rules.mode q'.at.executor b step) at_end is)

@@ -14,6 +14,7 @@ pub mod Reports
 pub mod Rules
 pub mod Progress
 pub mod Runs
+pub mod Counts
 pub mod SessionViews
 pub mod Steps
 pub mod Together

@@ -9,6 +9,10 @@ lines_a_turn = 64
 abbrev pub reads_a_turn : ℕ
 reads_a_turn = 64
 
+-- the most polls between two turns in `serve` that do not wait: one before each read, and one that finds nothing
+abbrev pub polls_a_turn : ℕ
+polls_a_turn = 65
+
 -- the most commands of a group commit
 abbrev pub most_together : ℕ
 most_together = 64

@@ -10,6 +10,7 @@ use Rattle.exec_state.specs.StateValue.{all_pairs}
 use Rattle.executor.specs.ExecutorView.{ExecutorView}
 use Rattle.exec_trace.specs.Events.{last_shown}
 use Rattle.exec_trace.specs.declared.event.IoEvent.{IoEvent}
+use Rattle.exec_trace.specs.declared.event.IoEvent.TheVariants.{Polled, Rested}
 use Rattle.exec_session.specs.Limits.{longest_pause, longest_wait, short_pause}
 
 -- an agent process that was polled still runs
@@ -44,3 +45,9 @@ pub record IsUntilDue {S : Type 0} (x : ExecutorView S) (events : List IoEvent) 
 -- A wait may take `micros` microseconds after a turn at `now`, where no action has ended or begun since `since`.
 abbrev pub MayPause : {S : Type 0} → ℕ → ℕ → ExecutorView S → List IoEvent → ℕ → Type 0
 MayPause since now x events micros = IsShort since now micros ⊎ IsUntilDue x events micros
+
+-- 1 for a poll of the input or a pause
+abbrev pub waits_of : IoEvent → ℕ
+waits_of (Polled millis ready) = 1
+waits_of (Rested micros) = 1
+waits_of _ = 0

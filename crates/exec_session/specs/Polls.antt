@@ -5,6 +5,8 @@ use Rattle.exec_commands.specs.declared.line.Line.{Line}
 use Rattle.exec_trace.specs.declared.event.IoEvent.{IoEvent}
 use Rattle.exec_trace.specs.declared.event.IoEvent.TheVariants.{Polled, Peeked, Read}
 use Rattle.exec_session.specs.Limits.{reads_a_turn}
+use Rattle.exec_session.specs.declared.context.Mode.{Mode}
+use Rattle.exec_session.specs.declared.context.Mode.TheVariants.{Run, Serve}
 
 -- lines that were read, as this or refused, and are not answered yet
 abbrev pub Lines : Type 0
@@ -23,10 +25,12 @@ pub record IsThere (events : List IoEvent) : Type 0 where
   pub is_last : events ≡ before ++ last ∷ []
   pub there : found_input last ≡ true
 
--- With these lines unanswered a read may be made: there are none, or input is there.
-abbrev pub MayRead : Lines → List IoEvent → Type 0
-MayRead [] events = ⊤
-MayRead (line ∷ lines) events = IsThere events
+-- In this mode, with these lines unanswered, a read may be made: input is there; or, in `run`, no line is unanswered. So `serve` never
+-- blocks in a read.
+abbrev pub MayRead : Mode → Lines → List IoEvent → Type 0
+MayRead Run [] events = ⊤
+MayRead Run (line ∷ lines) events = IsThere events
+MayRead Serve lines events = IsThere events
 
 -- the last event is a read that succeeded
 abbrev pub FollowsRead : List IoEvent → Type 0

@@ -1,5 +1,5 @@
 -- Whole sessions.
-use Rattle.std.specs.Prelude.{◌≡◌, ◌≢◌, ◌⊎◌, ℕ, ◌+◌, ◌*◌, ◌<◌, ⊤, List, [], ◌∷◌, ◌++◌, length, map, true, false, Option, Result, Ok}
+use Rattle.std.specs.Prelude.{◌≡◌, ◌≢◌, ◌⊎◌, ℕ, ◌+◌, ◌*◌, ◌<◌, ⊤, List, [], ◌∷◌, ◌++◌, length, map, Bool, true, false, Option, Result, Ok}
 use Rattle.std.specs.Io.KnownBytes.{IsAtEnd}
 use Rattle.store_model.specs.StoreView.{StoreView}
 use Rattle.executor.specs.ExecutorView.{ExecutorView}
@@ -20,8 +20,8 @@ use Rattle.exec_trace.specs.declared.event.IoEvent.{IoEvent}
 use Rattle.exec_trace.specs.declared.event.IoEvent.TheVariants.{Asked, Polled, Peeked, Read, Rested, Shown}
 use Rattle.exec_session.specs.Drains.{MakesTurn}
 use Rattle.exec_session.specs.Leaving.{LeavesFrom}
-use Rattle.exec_session.specs.Limits.{lines_a_turn}
-use Rattle.exec_session.specs.Pausing.{IsQuietSince, MayPause}
+use Rattle.exec_session.specs.Limits.{lines_a_turn, polls_a_turn}
+use Rattle.exec_session.specs.Pausing.{IsQuietSince, MayPause, waits_of}
 use Rattle.exec_session.specs.Polls.{FollowsRead, HasPolled, Lines, MayRead, misses_in, reads_in}
 use Rattle.exec_session.specs.Reports.{ended}
 use Rattle.exec_session.specs.Rules.{Rules}
@@ -33,7 +33,7 @@ use Rattle.exec_session.specs.Together.{AnswersTogether}
 abbrev pub IsNew : {S : Type 0} → ClientView S → ExecutorView S → Type 0
 IsNew client_view x = (client_view.opened ≡ x) × (client_view.reported ≡ []) × (x.is_open ≡ true)
 
--- in this mode a session may take a line after this many since its last turn
+-- in this mode a session may answer a line, or read, after this many lines and reads since its last turn
 abbrev pub MayTake : Mode → ℕ → Type 0
 MayTake Run n = ⊤
 MayTake Serve n = n < lines_a_turn
@@ -74,24 +74,16 @@ of_command command = Ok (line.Request (asked.Command command))
 abbrev pub read_to : {S : Type 0} → SessionPosition S → Option (List ℕ) → SessionPosition S
 read_to p left = session_position (following p.at (Read true)) left
 
--- A question that a session asks, after these events and with these lines unanswered, before it has its next line: in `serve` a
--- poll of the input that does not wait; right after a read, whether what was read holds a further line; or a read that
--- completes no line.
-abbrev pub IsLook : Mode → Lines → List IoEvent → IoEvent → Type 0
-IsLook mode lines events (Polled millis ready) = MakesTurns mode × (millis ≡ 0)
-IsLook mode lines events (Peeked has_line) = FollowsRead events
-IsLook mode lines events (Read done) = (done ≡ true) × MayRead lines events
-IsLook mode lines events _ = ⊥
-
--- A question that a session asks while it waits after a turn at `now`, where no action has ended or begun since `since`: a poll
--- of the input, as long as a short pause or until the first monitor is due, and a second at most; a pause as long as that; a
--- clock reading; or whether anybody still reads the output, with the answer that somebody does.
-abbrev pub IsWait : {S : Type 0} → ℕ → ℕ → SessionView S → IoEvent → Type 0
-IsWait since now p (Polled millis ready) = MayPause since now p.executor p.events (millis * 1000)
-IsWait since now p (Rested micros) = MayPause since now p.executor p.events micros
-IsWait since now p (Shown moment) = ⊤
-IsWait since now p (Asked still_reads) = still_reads ≡ true
-IsWait since now p _ = ⊥
+-- A question that a session asks while it waits after a turn at `now`, where no action has ended or begun since `since`, and after which
+-- it has waited `waits` times: if it has not waited yet, a poll of the input, as long as a short pause or until the first monitor is due,
+-- and a second at most, or a pause as long as that; a clock reading; or whether anybody still reads the output, with the answer that
+-- somebody does.
+abbrev pub IsWait : {S : Type 0} → ℕ → ℕ → ℕ → SessionView S → IoEvent → Type 0
+IsWait waits since now p (Polled millis ready) = (waits ≡ 0) × MayPause since now p.executor p.events (millis * 1000)
+IsWait waits since now p (Rested micros) = (waits ≡ 0) × MayPause since now p.executor p.events micros
+IsWait waits since now p (Shown moment) = ⊤
+IsWait waits since now p (Asked still_reads) = still_reads ≡ true
+IsWait waits since now p _ = ⊥
 
 -- With these lines a session may wait, and may make a turn: each line that was read is answered, except one that asks an agent for
 -- metadata.
@@ -101,7 +93,8 @@ MayRest (Ok (line.Meta provider agent limit) ∷ []) = ⊤
 MayRest _ = ⊥
 
 -- The last turn that a session made by itself: its time, the time since which nothing has ended or begun, how it ended, the line, if any,
--- that was unanswered meanwhile, and the number of reads and of polls that found nothing up to its end.
+-- that was unanswered meanwhile, the number of reads and of polls that found nothing up to its end, and the number of waits after it,
+-- and of polls that do not wait.
 pub record OwnTurn : Type 0 where
   pub now : ℕ
   pub since : ℕ
@@ -109,6 +102,8 @@ pub record OwnTurn : Type 0 where
   pub lines : Lines
   pub reads : ℕ
   pub misses : ℕ
+  pub waits : ℕ
+  pub polls : ℕ
 
 -- an own turn that ended here, like this, with these lines unanswered
 abbrev pub turned : {S : Type 0} → ℕ → ℕ → TurnEnd → Lines → SessionView S → OwnTurn
@@ -119,7 +114,17 @@ turned now since end lines p = record {
   lines = lines;
   reads = reads_in p.events;
   misses = misses_in p.events;
+  waits = 0;
+  polls = 0;
 }
+
+-- the same own turn, after this question of a wait
+abbrev pub after_wait : OwnTurn → IoEvent → OwnTurn
+after_wait own event = record own { waits = own.waits + waits_of event }
+
+-- the same own turn, with this number of polls after it that do not wait
+abbrev pub with_polls : OwnTurn → ℕ → OwnTurn
+with_polls own n = record own { polls = n }
 
 -- After the own turn `own`, with these lines unanswered, a session may make another turn: the mode is `serve`, its executor is
 -- open, and each line that was read is answered, except one that asks an agent for metadata. It has also polled for lines since
@@ -131,25 +136,36 @@ pub record MayTurn {S : Type 0} (mode : Mode) (own : OwnTurn) (lines : Lines) (p
   pub polled : HasPolled own.reads own.misses (own.lines ++ lines) p.events
 
 -- A session has come from position `p` to another one; the arguments after `p` are its last own turn, the number of lines that
--- were answered or passed over (as empty) since that turn, the lines that were read and are not answered, and where it is. It
--- read line after line, in their order, without a gap. It answered all others in that order; commands that were read one after
--- the other may be a group commit. In `serve` it made turns between lines, and polled for lines after each turn before it made
--- the next one. No command waits for a line that is not there. Each clock reading of an answer or a turn comes after the read
--- of the last line before it. Only in `run` does a session go on once its executor is closed.
+-- were answered since that turn and of reads since it that completed no line, the lines that were read and are not answered, and
+-- where it is. It read line after line, in their order, without a gap, passing over the empty ones. It answered all others in
+-- that order; commands that were read one after the other may be a group commit. In `serve` it made turns between lines, and
+-- polled for lines after each turn before it made the next one; it read only what was there, and between two of these turns it
+-- waited once at most. Right after a read it may ask whether what was read holds a further line. No command waits for a line
+-- that is not there. Each clock reading of an answer or a turn comes after the read of the last line before it. Only in `run`
+-- does a session go on once its executor is closed.
 pub data Reaches {S : Type 0} (view : S → StoreView) (source : Source) (rules : Rules) (p : SessionPosition S)
     : OwnTurn → ℕ → Lines → SessionPosition S → Type 0 where
   here : Reaches view source rules p (turned 0 0 Done [] p.at) 0 [] p
-  looks : (own : OwnTurn) (n : ℕ) (lines : Lines) (m : SessionPosition S) (event : IoEvent) → Reaches view source rules p own n lines m
-      → IsLook rules.mode lines m.at.events event → Reaches view source rules p own n lines (session_position (following m.at event) m.left)
+  polls : (own : OwnTurn) (n : ℕ) (lines : Lines) (m : SessionPosition S) (ready : Bool) → Reaches view source rules p own n lines m
+      → MakesTurns rules.mode → own.polls < polls_a_turn
+      → Reaches view source rules p (with_polls own (own.polls + 1)) n lines (session_position (following m.at (Polled 0 ready)) m.left)
+  peeks : (own : OwnTurn) (n : ℕ) (lines : Lines) (m : SessionPosition S) (has_line : Bool) → Reaches view source rules p own n lines m
+      → FollowsRead m.at.events → Reaches view source rules p own n lines (session_position (following m.at (Peeked has_line)) m.left)
   waits : (own : OwnTurn) (n : ℕ) (lines : Lines) (m : SessionPosition S) (event : IoEvent) → Reaches view source rules p own n lines m
-      → MayGoOn rules.mode m.at.executor → MayRest lines → IsWait own.since own.now m.at event → Reaches view source rules p own n lines (session_position (following m.at event) m.left)
+      → MakesTurns rules.mode → MayGoOn rules.mode m.at.executor → MayRest lines → IsWait own.waits own.since own.now m.at event
+      → Reaches view source rules p (after_wait own event) n lines (session_position (following m.at event) m.left)
+  parts : (own : OwnTurn) (n : ℕ) (commands : List Command) (m : SessionPosition S)
+      → Reaches view source rules p own n (map of_command commands) m → MayGoOn rules.mode m.at.executor
+      → MayTake rules.mode (n + length commands) → MayRead rules.mode (map of_command commands) m.at.events
+      → Reaches view source rules p own (n + 1) (map of_command commands) (read_to m m.left)
   reads : (own : OwnTurn) (n : ℕ) (commands : List Command) (m : SessionPosition S) (left : Option (List ℕ)) (found : Result Line Refusal)
       → Reaches view source rules p own n (map of_command commands) m → MayGoOn rules.mode m.at.executor
-      → MayRead (map of_command commands) m.at.events → ReadsLine rules.mode m.left left found
+      → MayTake rules.mode (n + length commands) → MayRead rules.mode (map of_command commands) m.at.events
+      → ReadsLine rules.mode m.left left found
       → Reaches view source rules p own n (map of_command commands ++ found ∷ []) (read_to m left)
   passes : (own : OwnTurn) (n : ℕ) (m : SessionPosition S) (left : Option (List ℕ)) → Reaches view source rules p own n [] m
-      → MayGoOn rules.mode m.at.executor → MayTake rules.mode n → PassesLine m.left left
-      → Reaches view source rules p own (n + 1) [] (session_position m.at left)
+      → MayGoOn rules.mode m.at.executor → PassesLine m.left left
+      → Reaches view source rules p own n [] (session_position m.at left)
   answers : (own : OwnTurn) (n : ℕ) (found : Result Line Refusal) (m : SessionPosition S) (q : SessionView S)
       → Reaches view source rules p own n (found ∷ []) m → MayGoOn rules.mode m.at.executor → MayTake rules.mode n
       → Answers view source rules found m.at q → Reaches view source rules p own (n + 1) [] (session_position q m.left)

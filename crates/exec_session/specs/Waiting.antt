@@ -14,10 +14,11 @@ use Rattle.exec_session.specs.Breaks.{AnswerBreaks, BreaksOff}
 use Rattle.exec_session.specs.Gathered.{waiting}
 use Rattle.exec_session.specs.Held.{held_lines}
 use Rattle.exec_session.specs.Limits.{lines_a_turn, most_together}
+use Rattle.exec_session.specs.Pausing.{waits_of}
 use Rattle.exec_session.specs.Progress.{Answers, PassesLine}
 use Rattle.exec_session.specs.Rules.{Rules}
 use Rattle.exec_session.specs.Polls.{IsThere, Lines, misses_in, reads_in}
-use Rattle.exec_session.specs.Runs.{IsWait, MakesTurns, MayGoOn, MayTake, OwnTurn, Reaches, ReachesEnd, ReachesFault, ReachesLeave, of_command}
+use Rattle.exec_session.specs.Runs.{IsWait, MakesTurns, MayGoOn, MayTake, OwnTurn, Reaches, ReachesEnd, ReachesFault, ReachesLeave, of_command, with_polls}
 use Rattle.exec_session.specs.SessionViews.{Lasts, MayBreakOff, SessionPosition, SessionView, following, session_position}
 use Rattle.exec_session.specs.declared.context.Mode.{Mode}
 use Rattle.exec_session.specs.declared.context.Mode.TheVariants.{Run, Serve}
@@ -72,8 +73,8 @@ IsReadTo None left kept now = IsMidLine left kept now
 IsReadTo (Some held) left kept now = (now ≡ left) × (kept ≡ [])
 
 -- A session has come to `s` from the position `p`, and its last own turn is `own`. The commands that wait and a line that is
--- held were read and are not answered. Since that turn `count` lines were answered or passed over; these and the commands that
--- wait are `most` at most.
+-- held were read and are not answered. Since that turn `count` lines were answered, or reads made that completed none; these and
+-- the commands that wait are `most` at most.
 pub record HasCome {S : Type 0} (view : S → StoreView) (source : Source) (rules : Rules)
     (p : SessionPosition S) (own : OwnTurn) (most : ℕ) (s : Midway S) : Type 0 where
   pub count : ℕ
@@ -89,11 +90,11 @@ abbrev pub PollsOnce : {S : Type 0} → SessionPosition S → SessionPosition S 
 PollsOnce p q = (q ≡ p) ⊎ ((ready : Bool) × (q ≡ session_position (following p.at (Polled 0 ready)) p.left))
 
 -- A session waited after a turn at `now`, where no action has ended or begun since `since`: it asked one question after
--- another, each of them one that `IsWait` allows.
-pub data Waits {S : Type 0} (since now : ℕ) (p : SessionPosition S) : SessionPosition S → Type 0 where
-  still : Waits since now p p
-  more : (m : SessionPosition S) (event : IoEvent) → Waits since now p m → IsWait since now m.at event
-      → Waits since now p (session_position (following m.at event) m.left)
+-- another, each of them one that `IsWait` allows. The argument after `p` is the number of waits.
+pub data Waits {S : Type 0} (since now : ℕ) (p : SessionPosition S) : ℕ → SessionPosition S → Type 0 where
+  still : Waits since now p 0 p
+  more : (n : ℕ) (m : SessionPosition S) (event : IoEvent) → Waits since now p n m → IsWait n since now m.at event
+      → Waits since now p (n + waits_of event) (session_position (following m.at event) m.left)
 
 -- the line, if this is one, that is not answered yet
 abbrev pub found_lines : Found → Lines
@@ -107,11 +108,16 @@ IsFound (found.Line line) left now = left ≡ now
 IsFound found.Empty left now = PassesLine left now
 IsFound found.End left now = IsAtEnd left
 
+-- the number of reads that are counted once this was found: that of a line is not, as the line is counted when it is answered
+abbrev pub counted : Found → ℕ
+counted (found.Line line) = 0
+counted _ = 1
+
 -- A session has come so far that these commands wait, and has read what comes next, which is not answered.
 pub record HasFound {S : Type 0} (view : S → StoreView) (source : Source) (rules : Rules)
     (p : SessionPosition S) (own : OwnTurn) (most : ℕ) (commands : List Command) (found : Found) (q : SessionPosition S) : Type 0 where
   pub count : ℕ
-  pub few : count + length commands ≤ most
+  pub few : count + length commands ≤ most + counted found
   pub left : Option (List ℕ)
   pub next : IsFound found left q.left
   pub reached : Reaches view source rules p own count (map of_command commands ++ found_lines found) (session_position q.at left)
@@ -137,7 +143,7 @@ abbrev pub Comes : {S E : Type 0} → (S → StoreView) → Source → Rules →
 Comes view source rules p own most s (Ok taken) = ComesOrEnds view source rules p own most s taken
 Comes view source rules p own most s (Err fault) = BreaksOff view source rules p s.point.at
 
--- in this mode a session may take a line after at most this many since its last turn
+-- in this mode a session may answer a line, or read, after at most this many lines and reads since its last turn
 abbrev pub MayTakeAfter : Mode → ℕ → Type 0
 MayTakeAfter mode most = (n : ℕ) → n ≤ most → MayTake mode n
 
@@ -152,13 +158,13 @@ pub record Takes {S E : Type 0} (view : S → StoreView) (source : Source) (rule
   pub comes : (p : SessionPosition S) (own : OwnTurn) (most : ℕ) → MayTakeAfter rules.mode most
       → HasFound view source rules p own most s.commands found s.point → Comes view source rules p own (most + 1) t result
 
--- The lines that are there are taken: the log grows, and a session that has taken no line since its last turn comes further, by as many
--- lines as there may be between two turns, or ends, or breaks off.
+-- The lines that are there are taken: the log grows, and a session that has taken no line since its last turn, and has not polled but in a
+-- wait, comes further, by as many lines as there may be between two turns, or ends, or breaks off.
 pub record TakesLines {S E : Type 0} (view : S → StoreView) (source : Source) (rules : Rules) (s t : Midway S) (result : Result Taken E)
     : Type 0 where
   pub lasts : Lasts s.point.at t.point.at
-  pub comes : (p : SessionPosition S) (own : OwnTurn) → HasCome view source rules p own 0 s
-      → Comes view source rules p own lines_a_turn t result
+  pub comes : (p : SessionPosition S) (own : OwnTurn) → own.polls ≡ 0 → HasCome view source rules p own 0 s
+      → (k : ℕ) × Comes view source rules p (with_polls own k) lines_a_turn t result
 
 -- whether the input has ended, and whether the session goes on: in `serve` it does not once its executor is closed
 abbrev pub IsTaken : {S : Type 0} → Mode → ExecutorView S → Bool → Taken → Type 0
@@ -172,10 +178,10 @@ pub record MayBegin {S : Type 0} (mode : Mode) (s : Midway S) : Type 0 where
   pub stays : MayStay mode s
   pub serves : mode ≡ Serve → (s.point.at.executor.is_open ≡ true) × (s.commands ≡ [])
 
--- In `serve` a round begins after a turn, with no line after that; in `run` anywhere.
-abbrev pub IsRound : Mode → ℕ → Type 0
-IsRound Run most = ⊤
-IsRound Serve most = most ≡ 0
+-- In `serve` a round begins after a turn, with no line after that, and no poll but that of a wait; in `run` anywhere.
+abbrev pub IsRound : Mode → OwnTurn → ℕ → Type 0
+IsRound Run own most = ⊤
+IsRound Serve own most = (most ≡ 0) × (own.polls ≡ 0)
 
 -- The own turn `own` ended with `end`, with these lines unanswered. Up to it no action had ended or begun since `since`, and
 -- the numbers of reads and of polls that found nothing are no lower now than at its end.
@@ -191,7 +197,7 @@ pub record HasComeRound {S : Type 0} (view : S → StoreView) (source : Source) 
     (s : Midway S) : Type 0 where
   pub most : ℕ
   pub own : OwnTurn
-  pub round : IsRound rules.mode most
+  pub round : IsRound rules.mode own most
   pub since : IsSince own quiet end (held_lines s.held) s.point.at
   pub come : HasCome view source rules p own most s
 

@@ -1,9 +1,9 @@
 //! Answers lines, one by one or as a group commit.
-ghost use Rattle.std.specs.Prelude.{◌≡◌, ◌≢◌, ℕ, ◌+◌, ◌<◌, [], true, length, IfOk, None};
+ghost use Rattle.std.specs.Prelude.{◌≡◌, ◌≢◌, ℕ, ◌+◌, ◌<◌, [], true, length, map, IfOk, None};
 ghost use Rattle.exec_session.specs.Gathered.{waiting};
 ghost use Rattle.exec_session.specs.Held.{MayTakeAtOnce};
 ghost use Rattle.exec_session.specs.Limits.{most_together};
-ghost use Rattle.exec_session.specs.Polls.{IsThere, reads_in};
+ghost use Rattle.exec_session.specs.Polls.{IsThere, MayRead, reads_in};
 ghost use Rattle.exec_session.specs.Rules.{rules_of};
 ghost use Rattle.exec_session.specs.Runs.{MayGoOn, OwnTurn, of_command};
 ghost use Rattle.exec_session.specs.SessionViews.{Lasts, SessionPosition};
@@ -162,7 +162,8 @@ impl<'a, R: Input, S: Store + Drop, C: Children + Drop, T: Client<S, C>, K: Cloc
     ) -> Result<Taken, Failed>
         requires free { self.old.pending.held ≡ None }
         requires waits { MayWait context.now.mode (midway self.old.worker self.old.pending) }
-        requires there { WaitsForThere (midway self.old.worker self.old.pending) }
+        requires there { MayRead context.now.mode (map of_command (waiting self.old.pending.gathered))
+            self.old.worker.at.events }
         ensures waits { MayWait context.now.mode (midway self.new.worker self.new.pending) }
         ensures there { IfOk result (λ taken. taken ≡ More
             → WaitsForThere (midway self.new.worker self.new.pending)) }

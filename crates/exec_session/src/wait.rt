@@ -1,5 +1,5 @@
 //! The wait after a turn of a session in `serve`.
-ghost use Rattle.std.specs.Prelude.{◌≡◌, ◌≤◌, ◌*◌};
+ghost use Rattle.std.specs.Prelude.{◌≡◌, ◌≤◌, ◌*◌, ℕ};
 ghost use Rattle.exec_session.specs.Pausing.{IsQuietSince, MayPause};
 ghost use Rattle.exec_session.specs.SessionViews.{SessionPosition, noted};
 ghost use Rattle.exec_session.specs.Waiting.{Waits};
@@ -18,7 +18,7 @@ const LONGEST_WAIT: u32 = 1_000;
 
 // How long to wait for input after a turn, in microseconds: 0 if an action ended or began in it; while nothing is queued or
 // running, until the next monitor is due, and a second at most; else, and if a monitor is due already, a short pause.
-#[tactic(auto, using(crate::proofs::RoundLemmas::waits_none, crate::proofs::RoundLemmas::waits_once))]
+#[tactic(auto, using(crate::proofs::RoundLemmas::waits_none, crate::proofs::RoundLemmas::waits_shown))]
 fn wait_micros<R: Input, S: Store + Drop, C: Children + Drop, T: Client<S, C>, K: Clock>(
     worker: &mut Worker<'_, R, S, C, T, K>,
     pause: &mut Pause,
@@ -26,7 +26,7 @@ fn wait_micros<R: Input, S: Store + Drop, C: Children + Drop, T: Client<S, C>, K
     ensures moment { pause.new.moment ≡ pause.old.moment }
     ensures quiet { IsQuietSince worker.old.at.executor.children.book pause.old.moment pause.old.since
         pause.new.since }
-    ensures waits { Waits pause.new.since pause.new.moment worker.old worker.new }
+    ensures waits { Waits pause.new.since pause.new.moment worker.old 0 worker.new }
     ensures may { MayPause pause.new.since pause.new.moment worker.new.at.executor
         worker.new.at.events result }
 {
@@ -58,7 +58,7 @@ fn wait_for_line<R: Input, S: Store + Drop, C: Children + Drop, T: Client<S, C>,
     ensures moment { pause.new.moment ≡ pause.old.moment }
     ensures quiet { IsQuietSince worker.old.at.executor.children.book pause.old.moment pause.old.since
         pause.new.since }
-    ensures waits { Waits pause.new.since pause.new.moment worker.old worker.new }
+    ensures waits { (n : ℕ) × Waits pause.new.since pause.new.moment worker.old n worker.new }
 {
     let micros = wait_micros(worker, pause);
     if micros < 1_000 {
@@ -79,7 +79,7 @@ pub fn wait<R: Input, S: Store + Drop, C: Children + Drop, T: Client<S, C>, K: C
     ensures moment { pause.new.moment ≡ pause.old.moment }
     ensures quiet { IsQuietSince worker.old.at.executor.children.book pause.old.moment pause.old.since
         pause.new.since }
-    ensures waits { (m : SessionPosition S) × Waits pause.new.since pause.new.moment worker.old m
+    ensures waits { (n : ℕ) × (m : SessionPosition S) × Waits pause.new.since pause.new.moment worker.old n m
         × (worker.new ≡ noted m (Asked result)) }
 {
     pause.holds(holds);

@@ -11,4 +11,5 @@ returns-then-holds-clause-waits g c =
     let moment = c.pauses.new.pause.moment in
     let (micros, short, same) = c.pauses.ensures.paused in
     let m = session_position (paused old.at micros) old.left in
-    (m, waits_rest since moment old old m micros (inl short) still refl, position_is c.pauses.new.self _ old.left same c.pauses.ensures.left)
+    let (n, waits) = waits_rest since moment old old m micros (inl short) still refl in
+    (n, m, waits, position_is c.pauses.new.self _ old.left same c.pauses.ensures.left)

@@ -1,23 +1,22 @@
 use Rattle.std.proofs.Common.{◌*◌, ◌∙◌, ap, inr, rules}
 use Rattle.ocf_types.specs.Boot.{any_busy}
 use Rattle.exec_trace.specs.Events.{last_shown}
-use Rattle.exec_trace.specs.declared.event.IoEvent.TheVariants.{Shown}
 use Rattle.exec_session.specs.SessionViews.{SessionPosition}
 use Rattle.exec_session.proofs.EventLemmas.{shown_last}
-use Rattle.exec_session.proofs.RoundLemmas.{due_none, due_some, not_busy, waits_once}
+use Rattle.exec_session.proofs.RoundLemmas.{due_none, due_some, not_busy, waits_shown}
 use Rattle.exec_session.proofs.wait.wait_micros.Goals as goal
 
 pub returns-in-Some-clause-waits : goal.returns-in-Some-clause-waits
 returns-in-Some-clause-waits g c =
-    waits_once _ _ c.args.worker.now c.now-now.new.self (Shown c.now-now.result) tt c.now-now.ensures.noted
+    waits_shown _ _ c.args.worker.now c.now-now.new.self c.now-now.result c.now-now.ensures.noted
 
 pub returns-in-Some-2-clause-waits : goal.returns-in-Some-2-clause-waits
 returns-in-Some-2-clause-waits g c =
-    waits_once _ _ c.args.worker.now c.now-now.new.self (Shown c.now-now.result) tt c.now-now.ensures.noted
+    waits_shown _ _ c.args.worker.now c.now-now.new.self c.now-now.result c.now-now.ensures.noted
 
 pub returns-in-None-clause-waits : goal.returns-in-None-clause-waits
 returns-in-None-clause-waits g c =
-    waits_once _ _ c.args.worker.now c.now-now.new.self (Shown c.now-now.result) tt c.now-now.ensures.noted
+    waits_shown _ _ c.args.worker.now c.now-now.new.self c.now-now.result c.now-now.ensures.noted
 
 pub returns-in-Some-2-clause-may : goal.returns-in-Some-2-clause-may
 returns-in-Some-2-clause-may g c =

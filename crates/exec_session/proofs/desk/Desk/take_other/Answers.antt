@@ -1,4 +1,4 @@
-use Rattle.std.proofs.Common.{◌≡◌, false, arith, rules, subst}
+use Rattle.std.proofs.Common.{◌≡◌, false, rules, subst}
 use Rattle.exec_lines.specs.Buffer.{line_bytes}
 use Rattle.exec_trace.specs.declared.failed.Failed.{Failed}
 use Rattle.exec_session.specs.Gathered.{waiting}
@@ -23,7 +23,7 @@ returns-then-ne g c = record {
             let held = rules_of c.args.context.now in
             let old = c.args.self.now in
             let new = c.answer_gathered.new in
-            step_ends view source held p own most (λ n few. may n (omega (arith, few))) (waiting old.pending.gathered) (waiting new.gathered)
+            step_ends view source held p own most may (waiting old.pending.gathered) (waiting new.gathered)
             old.pending.held (line_bytes old.pending.buffer) c.args.found old.worker new.self c.next_step-step.result
             (open_while c.args.context.now.mode (midway old.worker old.pending) c.requires.waits) finds c.in_ok-answer_gathered.ensures.answers.done
             (search (rules, c.ne.ensures, c.if-ne.true)) c.next_step-step.ensures;
@@ -48,7 +48,7 @@ returns g c = record {
             let new = c.answer_found.new.self in
             let more : c.next_step-step.result ≡ More = search (rules, c.ne.ensures, c.if-ne.false) in
             let goes_on = subst (IsTaken held.mode middle.self.at.executor false) more c.next_step-step.ensures in
-            let answered = found_answered view source held p own most (λ n few. may n (omega (arith, few))) (waiting old.pending.gathered)
+            let answered = found_answered view source held p own most may (waiting old.pending.gathered)
             c.args.found old.worker middle.self (open_while c.args.context.now.mode (midway old.worker old.pending) c.requires.waits)
             c.in_ok-answer_gathered.ensures.answers.keeps.1 finds c.in_ok-answer_gathered.ensures.answers.done goes_on.1 in
             found_taken view source held p own Failed most may (waiting middle.gathered) old.pending.held (line_bytes old.pending.buffer) c.args.found
@@ -92,7 +92,7 @@ returns-in_err-has_ended g c = record {
             let middle = c.answer_gathered.new in
             let more : c.next_step-step.result ≡ More = search (rules, c.ne.ensures, c.if-ne.false) in
             let goes_on = subst (IsTaken held.mode middle.self.at.executor false) more c.next_step-step.ensures in
-            let answered = found_answered view source held p own most (λ n few. may n (omega (arith, few))) (waiting old.pending.gathered)
+            let answered = found_answered view source held p own most may (waiting old.pending.gathered)
             c.args.found old.worker middle.self (open_while c.args.context.now.mode (midway old.worker old.pending) c.requires.waits)
             c.in_ok-answer_gathered.ensures.answers.keeps.1 finds c.in_ok-answer_gathered.ensures.answers.done goes_on.1 in
             comes_err _ _ _ _ own _ _ c.from_residual-in_err-has_ended.result c.from_residual-in_err-has_ended.ensures.0

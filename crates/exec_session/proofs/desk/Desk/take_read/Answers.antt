@@ -1,4 +1,4 @@
-use Rattle.std.proofs.Common.{◌+◌, ◌∙◌, Some, true, false, arith, ap, refl, subst, sym}
+use Rattle.std.proofs.Common.{◌∙◌, Some, true, false, ap, refl, subst, sym}
 use Rattle.exec_lines.specs.Buffer.{line_bytes}
 use Rattle.exec_trace.specs.declared.event.IoEvent.TheVariants.{Peeked, Read}
 use Rattle.exec_session.specs.Gathered.{waiting}
@@ -9,7 +9,7 @@ use Rattle.exec_session.specs.declared.lines.Found.{Found}
 use Rattle.exec_session.proofs.LastLemmas.{lasts_both, lasts_event, lasts_noted, one_read, read_then}
 use Rattle.exec_session.proofs.ReadyLemmas.{noted_reads}
 use Rattle.exec_session.proofs.RoundLemmas.{at_none, at_some}
-use Rattle.exec_session.proofs.WaitLemmas.{come_more, comes_err, event_breaks, found_held, found_looked, found_next, mid_before, ok_always, read_part}
+use Rattle.exec_session.proofs.WaitLemmas.{comes_err, event_breaks, found_held, found_next, found_peeked, mid_before, ok_always, read_part}
 use Rattle.exec_session.proofs.desk.Desk.take_read.Goals as goal
 
 pub returns-in_default-clause-takes : goal.returns-in_default-clause-takes
@@ -24,10 +24,10 @@ returns-in_default-clause-takes g c = λ p own most may come.
     let kept' = line_bytes c.read.new.buffer in
     let point' = c.read.new.self in
     let mid = mid_before held c.requires.free come.left kept old.worker.left come.mid in
-    c.answer_rest.ensures.takes p own most may (come_more view source rules p own most (most + 1) commands held kept' point' (omega arith)
-    (read_part view source rules p own most commands held kept kept' old.worker point' c.requires.free c.requires.there
+    c.answer_rest.ensures.takes p own most may
+    (read_part view source rules p own most may commands held kept kept' old.worker point' c.requires.free c.requires.there
     c.in_ok-next.ensures.noted come
-    (at_none c.in_ok-next.field-0 _ _ c.in_default.is (c.in_ok-next.ensures.gathers come.left mid))))
+    (at_none c.in_ok-next.field-0 _ _ c.in_default.is (c.in_ok-next.ensures.gathers come.left mid)))
 
 pub returns-in-Ok-clause-takes : goal.returns-in-Ok-clause-takes
 returns-in-Ok-clause-takes g c = λ p own most may come.
@@ -45,7 +45,7 @@ returns-in-Ok-clause-takes g c = λ p own most may come.
     let found = c.note_found.new.found in
     let reads = noted_reads g.T.Client.refuses rules.mode come.left point'.left read found
     (c.found_in-found.ensures.found come.left point'.left next) c.note_found.ensures.found in
-    let finds = found_next view source rules p own most commands held kept old.worker point' found c.requires.free
+    let finds = found_next view source rules p own most may commands held kept old.worker point' found c.requires.free
     c.requires.there c.in_ok-next.ensures.noted come reads in
     c.answer_rest-in-Ok.ensures.takes p own most may
     (found_held view source rules p own most commands (Some c.in-Ok.held) (line_bytes c.clear.new.self) c.in-Ok.held found
@@ -68,12 +68,12 @@ returns-clause-takes g c = λ p own most may come.
     let found = c.note_found.new.found in
     let reads = noted_reads g.T.Client.refuses rules.mode come.left point'.left read found
     (c.found_in-found.ensures.found come.left point'.left next) c.note_found.ensures.found in
-    let finds = found_next view source rules p own most commands held kept old.worker point' found c.requires.free
+    let finds = found_next view source rules p own most may commands held kept old.worker point' found c.requires.free
     c.requires.there c.in_ok-next.ensures.noted come reads in
     let at_note = c.note_found.new.self in
     let finds' = subst (λ (w : SessionPosition _). HasFound view source rules p own most commands found w) (sym c.note_found.ensures.same) finds in
     c.take_found.ensures.takes.comes p own most may
-    (found_looked view source rules p own most commands c.in-Err.other at_note c.has_line-has_next.new.self (Peeked c.has_line-has_next.result) (
+    (found_peeked view source rules p own most commands c.in-Err.other at_note c.has_line-has_next.new.self c.has_line-has_next.result (
       old.worker.at.events,
       ap (λ (w : SessionPosition _). w.at.events) c.note_found.ensures.same ∙ ap (λ (s : SessionView _). s.events) c.in_ok-next.ensures.noted,
     )

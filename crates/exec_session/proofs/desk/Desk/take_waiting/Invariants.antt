@@ -1,6 +1,6 @@
-use Rattle.std.proofs.Common.{◌≡◌, ◌≤◌, ◌+◌}
+use Rattle.std.proofs.Common.{◌≡◌, ◌≤◌, ◌+◌, ℕ}
 use Rattle.exec_session.specs.Polls.{reads_in}
-use Rattle.exec_session.specs.Runs.{OwnTurn}
+use Rattle.exec_session.specs.Runs.{OwnTurn, with_polls}
 use Rattle.exec_session.specs.Rules.{rules_of}
 use Rattle.exec_session.specs.SessionViews.{Lasts, SessionPosition}
 use Rattle.exec_session.specs.Waiting.{HasCome, MayWait, midway}
@@ -13,9 +13,9 @@ invariant-loop-reads g l = record {
   waits : MayWait l.context.mode (midway l.self.worker l.self.pending);
   lasts : Lasts l.fn.self.worker.at l.self.worker.at;
   reads : reads_in l.fn.self.worker.at.events + l._reads ≤ reads_in l.self.worker.at.events;
-  come : (p : SessionPosition g.row.S.Denot) (own : OwnTurn)
+  come : (p : SessionPosition g.row.S.Denot) (own : OwnTurn) → own.polls ≡ 0
       → HasCome g.S.Store.view (g.M.Metadata.gives l.context.metadata.now) (rules_of l.context) p own 0
       (midway l.fn.self.worker l.fn.self.pending)
-      → HasCome g.S.Store.view (g.M.Metadata.gives l.context.metadata.now) (rules_of l.context) p own l._reads
+      → (k : ℕ) × (k ≤ l._reads) × HasCome g.S.Store.view (g.M.Metadata.gives l.context.metadata.now) (rules_of l.context) p (with_polls own k) l._reads
       (midway l.self.worker l.self.pending);
 }

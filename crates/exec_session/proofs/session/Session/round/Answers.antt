@@ -1,18 +1,21 @@
 use Rattle.std.proofs.Common.{◌+◌, Option, ap, sym, ◌∙◌}
 use Rattle.exec_session.specs.declared.held.Held.{Held}
+use Rattle.exec_session.specs.Gathered.{waiting}
 use Rattle.exec_session.specs.Held.{held_lines}
 use Rattle.exec_session.specs.Rules.{rules_of}
 use Rattle.exec_session.specs.Waiting.{midway}
 use Rattle.exec_session.proofs.LastLemmas.{read_longer}
 use Rattle.exec_session.proofs.RoundLemmas.{round_read, session_begins, since_later}
-use Rattle.exec_session.proofs.WaitLemmas.{if_ok, may_run, ok_always}
+use Rattle.exec_session.proofs.WaitLemmas.{if_ok, may_read_run, may_run, ok_always}
 use Rattle.exec_session.proofs.session.Session.round.Goals as goal
 
 pub take_read-requires : goal.take_read-requires
 take_read-requires g c = record {
   free = c.requires.begins.stays.waits.free c.in-Run.is;
   waits = c.requires.begins.stays.waits;
-  there = c.requires.begins.stays.there;
+  there =
+      let old = c.args.self.now.desk in
+      may_read_run c.args.context.now.mode (waiting old.pending.gathered) old.worker.at.events c.in-Run.is c.requires.begins.stays.there;
 }
 
 pub returns-in-Run : goal.returns-in-Run

@@ -8,13 +8,13 @@ use Rattle.exec_session.specs.Breaks.{OwnTurnBreaks}
 use Rattle.exec_session.specs.Gathered.{waiting}
 use Rattle.exec_session.specs.Held.{held_lines}
 use Rattle.exec_session.specs.Rules.{rules_of}
-use Rattle.exec_session.specs.Runs.{MakesOwnTurn, turned as turned_at}
+use Rattle.exec_session.specs.Runs.{MakesOwnTurn, turned as turned_at, with_polls}
 use Rattle.exec_session.specs.SessionViews.{SessionPosition}
 use Rattle.exec_session.specs.Pausing.{IsQuietSince}
 use Rattle.exec_session.specs.Waiting.{ComesOrEnds, Waits, midway}
 use Rattle.exec_session.specs.declared.lines.Taken.TheVariants.{Closed, Leaves, More}
 use Rattle.exec_session.proofs.LastLemmas.{lasts_both, lasts_noted, longer_then, then_longer}
-use Rattle.exec_session.proofs.RoundLemmas.{closed_ends, come_leave, leaves_ends, looked_since, quiet_later, round_again, round_begins, round_ends, round_fails, round_over, serve_begins, turn_breaks, turn_closes, turn_made, waits_come, waits_executor, waits_last, waits_more}
+use Rattle.exec_session.proofs.RoundLemmas.{closed_ends, come_leave, leaves_ends, looked_since, quiet_later, round_again, round_begins, round_ends, round_first, round_fails, round_over, serve_begins, turn_breaks, turn_closes, turn_made, waits_come, waits_executor, waits_last, waits_more}
 use Rattle.exec_session.proofs.WaitLemmas.{event_breaks}
 use Rattle.exec_session.proofs.session.Session.serve_round.Goals as goal
 
@@ -33,10 +33,11 @@ returns-then-ne g c = record {
       (λ p come.
       let old = c.args.self.now in
       let new = c.answer_round.new.self in
-      round_ends g.S.Store.view (g.M.Metadata.gives c.args.context.now.metadata.now) (rules_of c.args.context.now) p come.own Failed old.pause.since old.own 64
-      (midway new.worker new.pending) c.in_ok-taken.taken (search (rules, c.ne.ensures, c.if-ne.true))
-      (c.in_ok-taken.ensures.takes.comes p come.own
-      (round_begins _ _ _ p old.pause.since old.own (midway old.desk.worker old.desk.pending) c.requires.mode come)));
+      let (k, taken) = c.in_ok-taken.ensures.takes.comes p come.own
+      (round_first _ _ _ p old.pause.since old.own (midway old.desk.worker old.desk.pending) c.requires.mode come)
+      (round_begins _ _ _ p old.pause.since old.own (midway old.desk.worker old.desk.pending) c.requires.mode come) in
+      round_ends g.S.Store.view (g.M.Metadata.gives c.args.context.now.metadata.now) (rules_of c.args.context.now) p (with_polls come.own k) Failed old.pause.since old.own 64
+      (midway new.worker new.pending) c.in_ok-taken.taken (search (rules, c.ne.ensures, c.if-ne.true)) taken);
 }
 
 pub returns-in_err-taken : goal.returns-in_err-taken
@@ -45,8 +46,9 @@ returns-in_err-taken g c = record {
       round_fails _ _ _ _ _ c.from_residual.result c.from_residual.ensures.0 c.in_err-taken.ensures.takes.lasts
       (λ p come.
       let old = c.args.self.now in
-      c.in_err-taken.ensures.takes.comes p come.own
-      (round_begins _ _ _ p old.pause.since old.own (midway old.desk.worker old.desk.pending) c.requires.mode come));
+      (c.in_err-taken.ensures.takes.comes p come.own
+      (round_first _ _ _ p old.pause.since old.own (midway old.desk.worker old.desk.pending) c.requires.mode come)
+      (round_begins _ _ _ p old.pause.since old.own (midway old.desk.worker old.desk.pending) c.requires.mode come)).1);
 }
 
 pub returns-then-is_leaving : goal.returns-then-is_leaving
@@ -60,10 +62,12 @@ returns-then-is_leaving g c = record {
       let source = g.M.Metadata.gives c.args.context.now.metadata.now in
       let held = rules_of c.args.context.now in
       let more : c.in_ok-taken.taken ≡ More = search (rules, c.ne.ensures, c.if-ne.false) in
-      let so_far = subst (ComesOrEnds view source held p come.own 64 (midway new.worker new.pending)) more
-      (c.in_ok-taken.ensures.takes.comes p come.own
-      (round_begins view source held p old.pause.since old.own (midway old.desk.worker old.desk.pending) c.requires.mode come)) in
-      come_leave view source held p come.own c.requires.mode 64 (waiting new.pending.gathered) new.pending.held
+      let (k, taken) = c.in_ok-taken.ensures.takes.comes p come.own
+      (round_first view source held p old.pause.since old.own (midway old.desk.worker old.desk.pending) c.requires.mode come)
+      (round_begins view source held p old.pause.since old.own (midway old.desk.worker old.desk.pending) c.requires.mode come) in
+      let own = with_polls come.own k in
+      let so_far = subst (ComesOrEnds view source held p own 64 (midway new.worker new.pending)) more taken in
+      come_leave view source held p own c.requires.mode 64 (waiting new.pending.gathered) new.pending.held
       (line_bytes new.pending.buffer) new.worker (c.in_ok-taken.ensures.none more) (c.is_leaving.ensures.leaves c.if-is_leaving.true) so_far);
 }
 
@@ -80,10 +84,12 @@ returns-in_err-end g c = record {
       let source = g.M.Metadata.gives c.args.context.now.metadata.now in
       let held = rules_of c.args.context.now in
       let more : c.in_ok-taken.taken ≡ More = search (rules, c.ne.ensures, c.if-ne.false) in
-      let so_far = subst (ComesOrEnds view source held p come.own 64 (midway it.worker it.pending)) more
-      (c.in_ok-taken.ensures.takes.comes p come.own
-      (round_begins view source held p old.pause.since old.own (midway old.desk.worker old.desk.pending) c.requires.mode come)) in
-      turn_breaks view source held p come.own c.requires.mode 64 (waiting it.pending.gathered) it.pending.held
+      let (k, taken) = c.in_ok-taken.ensures.takes.comes p come.own
+      (round_first view source held p old.pause.since old.own (midway old.desk.worker old.desk.pending) c.requires.mode come)
+      (round_begins view source held p old.pause.since old.own (midway old.desk.worker old.desk.pending) c.requires.mode come) in
+      let own = with_polls come.own k in
+      let so_far = subst (ComesOrEnds view source held p own 64 (midway it.worker it.pending)) more taken in
+      turn_breaks view source held p own c.requires.mode 64 (waiting it.pending.gathered) it.pending.held
       (line_bytes it.pending.buffer) it.worker new.at (c.in_ok-taken.ensures.none more) (
         c.is_leaving.ensures.rests c.if-is_leaving.false,
         looked_since come.own old.pause.since old.own (held_lines old.desk.pending.held) (held_lines it.pending.held) old.desk.worker.at it.worker.at come.since
@@ -106,10 +112,12 @@ returns-then-not-is_open g c = record {
       let source = g.M.Metadata.gives c.args.context.now.metadata.now in
       let held = rules_of c.args.context.now in
       let more : c.in_ok-taken.taken ≡ More = search (rules, c.ne.ensures, c.if-ne.false) in
-      let so_far = subst (ComesOrEnds view source held p come.own 64 (midway it.worker it.pending)) more
-      (c.in_ok-taken.ensures.takes.comes p come.own
-      (round_begins view source held p old.pause.since old.own (midway old.desk.worker old.desk.pending) c.requires.mode come)) in
-      turn_closes view source held p come.own c.requires.mode 64 (waiting it.pending.gathered) it.pending.held
+      let (k, taken) = c.in_ok-taken.ensures.takes.comes p come.own
+      (round_first view source held p old.pause.since old.own (midway old.desk.worker old.desk.pending) c.requires.mode come)
+      (round_begins view source held p old.pause.since old.own (midway old.desk.worker old.desk.pending) c.requires.mode come) in
+      let own = with_polls come.own k in
+      let so_far = subst (ComesOrEnds view source held p own 64 (midway it.worker it.pending)) more taken in
+      turn_closes view source held p own c.requires.mode 64 (waiting it.pending.gathered) it.pending.held
       (line_bytes it.pending.buffer) it.worker new c.make_own_turn.new.pause.moment c.make_own_turn.new.pause.moment c.in_ok-end.end
       (c.in_ok-taken.ensures.none more) so_far (
         (
@@ -133,11 +141,11 @@ returns-then-wait g c = record {
             let turned = c.make_own_turn.new.self in
             let since = c.wait.new.pause.since in
             let moment = c.make_own_turn.new.pause.moment in
-            let (m, waited, same) = c.if-wait.ensures.waits in
-            let waits = subst (λ (n : ℕ). Waits since n turned m) c.if-wait.ensures.moment waited in
+            let (n, m, waited, same) = c.if-wait.ensures.waits in
+            let waits = subst (λ (k : ℕ). Waits since k turned n m) c.if-wait.ensures.moment waited in
             lasts_both old.at it.at c.wait.new.worker.at c.in_ok-taken.ensures.takes.lasts
             (lasts_both it.at turned.at c.wait.new.worker.at c.in_ok-end.ensures.made.keeps.0
-            (waits_last since moment turned c.wait.new.worker (waits_more since moment turned m c.wait.new.worker (Asked true) waits refl same)));
+            (waits_last since moment turned c.wait.new.worker _ (waits_more since moment turned m c.wait.new.worker n (Asked true) waits refl same)));
         longer =
             λ _.
             let old = c.args.self.now.desk.worker in
@@ -145,11 +153,11 @@ returns-then-wait g c = record {
             let turned = c.make_own_turn.new.self in
             let since = c.wait.new.pause.since in
             let moment = c.make_own_turn.new.pause.moment in
-            let (m, waited, same) = c.if-wait.ensures.waits in
-            let waits = subst (λ (n : ℕ). Waits since n turned m) c.if-wait.ensures.moment waited in
+            let (n, m, waited, same) = c.if-wait.ensures.waits in
+            let waits = subst (λ (k : ℕ). Waits since k turned n m) c.if-wait.ensures.moment waited in
             then_longer old.at it.at c.wait.new.worker.at c.in_ok-taken.ensures.takes.lasts
             (longer_then it.at turned.at c.wait.new.worker.at c.in_ok-end.ensures.longer
-            (waits_last since moment turned c.wait.new.worker (waits_more since moment turned m c.wait.new.worker (Asked true) waits refl same)));
+            (waits_last since moment turned c.wait.new.worker _ (waits_more since moment turned m c.wait.new.worker n (Asked true) waits refl same)));
         begins =
             λ _.
             let it = c.answer_round.new.self in
@@ -157,11 +165,11 @@ returns-then-wait g c = record {
             let more : c.in_ok-taken.taken ≡ More = search (rules, c.ne.ensures, c.if-ne.false) in
             let since = c.wait.new.pause.since in
             let moment = c.make_own_turn.new.pause.moment in
-            let (m, waited, same) = c.if-wait.ensures.waits in
-            let waits = subst (λ (n : ℕ). Waits since n turned m) c.if-wait.ensures.moment waited in
+            let (n, m, waited, same) = c.if-wait.ensures.waits in
+            let waits = subst (λ (k : ℕ). Waits since k turned n m) c.if-wait.ensures.moment waited in
             serve_begins c.args.context.now.mode (midway c.wait.new.worker it.pending) c.requires.mode
             (ap (λ (x : ExecutorView _). x.is_open)
-            (waits_executor since moment turned c.wait.new.worker (waits_more since moment turned m c.wait.new.worker (Asked true) waits refl same))
+            (waits_executor since moment turned c.wait.new.worker _ (waits_more since moment turned m c.wait.new.worker n (Asked true) waits refl same))
             ∙ sym c.if-not-is_open.ensures.value) (c.in_ok-taken.ensures.none more);
         goes =
             λ p come.
@@ -177,12 +185,14 @@ returns-then-wait g c = record {
             let rests = c.is_leaving.ensures.rests c.if-is_leaving.false in
             let commands = waiting it.pending.gathered in
             let kept = line_bytes it.pending.buffer in
-            let so_far = subst (ComesOrEnds view source held p come.own 64 (midway it.worker it.pending)) more
-            (c.in_ok-taken.ensures.takes.comes p come.own
-            (round_begins view source held p old.pause.since old.own (midway old.desk.worker old.desk.pending) c.requires.mode come)) in
+            let (k, taken) = c.in_ok-taken.ensures.takes.comes p come.own
+            (round_first view source held p old.pause.since old.own (midway old.desk.worker old.desk.pending) c.requires.mode come)
+            (round_begins view source held p old.pause.since old.own (midway old.desk.worker old.desk.pending) c.requires.mode come) in
+            let own = with_polls come.own k in
+            let so_far = subst (ComesOrEnds view source held p own 64 (midway it.worker it.pending)) more taken in
             let moment = c.make_own_turn.new.pause.moment in
             let since = c.wait.new.pause.since in
-            let made = turn_made view source held p come.own c.requires.mode 64 commands it.pending.held kept it.worker turned moment since end none
+            let made = turn_made view source held p own c.requires.mode 64 commands it.pending.held kept it.worker turned moment since end none
             c.in_ok-end.ensures.made.keeps.1 so_far (
               (
                 rests,
@@ -195,12 +205,12 @@ returns-then-wait g c = record {
             )
             (sym c.if-not-is_open.ensures.value) in
             let last = turned_at moment since end (held_lines it.pending.held) turned.at in
-            let (m, waited, same) = c.if-wait.ensures.waits in
-            let waits = subst (λ (n : ℕ). Waits since n turned m) c.if-wait.ensures.moment waited in
-            round_again view source held p moment since end turned.at (midway c.wait.new.worker it.pending)
-            (waits_last since moment turned c.wait.new.worker (waits_more since moment turned m c.wait.new.worker (Asked true) waits refl same))
-            (waits_come view source held p last 0 commands it.pending.held kept turned c.wait.new.worker none rests
-            (waits_more since moment turned m c.wait.new.worker (Asked true) waits refl same) made);
+            let (n, m, waited, same) = c.if-wait.ensures.waits in
+            let waits = subst (λ (k : ℕ). Waits since k turned n m) c.if-wait.ensures.moment waited in
+            round_again view source held p moment since end turned.at (midway c.wait.new.worker it.pending) _
+            (waits_last since moment turned c.wait.new.worker _ (waits_more since moment turned m c.wait.new.worker n (Asked true) waits refl same))
+            (waits_come view source held p last c.requires.mode 0 commands it.pending.held kept turned c.wait.new.worker _ none rests refl
+            (waits_more since moment turned m c.wait.new.worker n (Asked true) waits refl same) made);
       };
 }
 
@@ -214,11 +224,11 @@ returns-else-wait g c = record {
             let turned = c.make_own_turn.new.self in
             let since = c.wait.new.pause.since in
             let moment = c.make_own_turn.new.pause.moment in
-            let (m, waited, same) = c.if-wait.ensures.waits in
-            let waits = subst (λ (n : ℕ). Waits since n turned m) c.if-wait.ensures.moment waited in
+            let (n, m, waited, same) = c.if-wait.ensures.waits in
+            let waits = subst (λ (k : ℕ). Waits since k turned n m) c.if-wait.ensures.moment waited in
             lasts_both old.at it.at c.wait.new.worker.at c.in_ok-taken.ensures.takes.lasts
             (lasts_both it.at turned.at c.wait.new.worker.at c.in_ok-end.ensures.made.keeps.0
-            (lasts_both turned.at m.at c.wait.new.worker.at (waits_last since moment turned m waits)
+            (lasts_both turned.at m.at c.wait.new.worker.at (waits_last since moment turned m n waits)
             (lasts_noted m c.wait.new.worker (Asked false) same)));
         longer = tt;
         begins = tt;
@@ -236,12 +246,14 @@ returns-else-wait g c = record {
             let rests = c.is_leaving.ensures.rests c.if-is_leaving.false in
             let commands = waiting it.pending.gathered in
             let kept = line_bytes it.pending.buffer in
-            let so_far = subst (ComesOrEnds view source held p come.own 64 (midway it.worker it.pending)) more
-            (c.in_ok-taken.ensures.takes.comes p come.own
-            (round_begins view source held p old.pause.since old.own (midway old.desk.worker old.desk.pending) c.requires.mode come)) in
+            let (k, taken) = c.in_ok-taken.ensures.takes.comes p come.own
+            (round_first view source held p old.pause.since old.own (midway old.desk.worker old.desk.pending) c.requires.mode come)
+            (round_begins view source held p old.pause.since old.own (midway old.desk.worker old.desk.pending) c.requires.mode come) in
+            let own = with_polls come.own k in
+            let so_far = subst (ComesOrEnds view source held p own 64 (midway it.worker it.pending)) more taken in
             let moment = c.make_own_turn.new.pause.moment in
             let since = c.wait.new.pause.since in
-            let made = turn_made view source held p come.own c.requires.mode 64 commands it.pending.held kept it.worker turned moment since end none
+            let made = turn_made view source held p own c.requires.mode 64 commands it.pending.held kept it.worker turned moment since end none
             c.in_ok-end.ensures.made.keeps.1 so_far (
               (
                 rests,
@@ -254,10 +266,10 @@ returns-else-wait g c = record {
             )
             (sym c.if-not-is_open.ensures.value) in
             let last = turned_at moment since end (held_lines it.pending.held) turned.at in
-            let (m, waited, same) = c.if-wait.ensures.waits in
-            let waits = subst (λ (n : ℕ). Waits since n turned m) c.if-wait.ensures.moment waited in
-            event_breaks view source held p last 0 commands it.pending.held kept m c.wait.new.worker.at (Asked false) refl
+            let (n, m, waited, same) = c.if-wait.ensures.waits in
+            let waits = subst (λ (k : ℕ). Waits since k turned n m) c.if-wait.ensures.moment waited in
+            event_breaks view source held p (record last { waits = n }) 0 commands it.pending.held kept m c.wait.new.worker.at (Asked false) refl
             (ap (λ (w : SessionPosition _). w.at) same)
-            (waits_come view source held p last 0 commands it.pending.held kept turned m none rests waits made);
+            (waits_come view source held p last c.requires.mode 0 commands it.pending.held kept turned m n none rests refl waits made);
       };
 }
