@@ -1,9 +1,9 @@
 #!/usr/bin/env python3
 # check: trials
 """The tests of the trials, tests/trials: each call that allocates is refused, with nothing changed, in heaps of growing size until there is
-enough for it; what agent processes request of a simulated system, when they are killed, outlive that, or cannot be polled or killed; what a
-crash or a fault in each device call of an opening leaves, with each fill of unsynced bytes; and sessions over simulated readers and
-writers.
+enough for it; what agent processes request of a simulated system when they are killed or outlive that, and what becomes of them where any
+one of its calls is refused, once or from then on; what a crash or a fault in each device call of an opening leaves, with each fill of
+unsynced bytes; and sessions over simulated readers and writers.
 Use: trials.py [PROGRAM]"""
 import os
 import subprocess
@@ -26,7 +26,7 @@ class Trials(helper.Check):
         self.says("memory")
 
     def test_children(self):
-        """the requests of agent processes to a simulated system"""
+        """the requests of agent processes to a simulated system, which may refuse each of its calls"""
         self.says("children")
 
     def test_disks(self):

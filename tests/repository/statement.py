@@ -24,6 +24,9 @@ CHANGES = [
     ("executor/specs/Behaves.antt", "  pub ran : x.ran ≡ interrupted s (moment s x.now)\n", "  pub ran : x.ran ≡ []\n"),
     ("executor/specs/Incarnations.antt", "-- one call after the other; a session is the calls of its inputs", "-- one after the other"),
     ("executor/specs/Incarnations.antt", "  pub acknowledged : p ≡ x.done.events ++ later\n", ""),
+    ("agent_system/src/laws.rt", "→ IsFree w.sights id → Contains (given_up_in v) p", "→ Contains (given_up_in v) p"),
+    ("agent_system/src/agent_system.rt", "requires over { IsOverAt (view self.old).sights at }", "requires over { ⊤ }"),
+    ("agent_system/specs/May.antt", "  pub reaped : u.is_child ≡ false\n", ""),
     ("ocf_types/specs/Limits.antt", "longest_result = 84", "longest_result = 85"),
     ("ocf_types/src/reply.rt", "    EpochSpent,\n", ""),
     ("ocf_types/src/limits.rt", "pub const RESERVE: u64 = 32_768;", "pub const RESERVE: u64 = 32_769;"),
@@ -55,8 +58,8 @@ def check(top):
 
 
 def words(text):
-    """The words of definitions that are not projections, without comments."""
-    return re.findall(r"(?<![\w.'])[A-Za-z_][\w']*", re.sub(r"--.*", "", text))
+    """The words of definitions that are not projections, without comments and texts."""
+    return re.findall(r"(?<![\w.'])[A-Za-z_][\w']*", re.sub(r'--.*|"[^"\n]*"', "", text))
 
 
 class Statement(helper.Check):

@@ -1,8 +1,10 @@
 #!/usr/bin/env python3
 """The trusted places, docs/TRUSTED.txt: it is what docs/trusted.py generates from this tree, and a place more or less, or a longer file,
-makes it old.
+makes it old. One file makes the calls about agents' processes, with a sentence on each.
 Use: trusted.py PROGRAM"""
+import glob
 import os
+import re
 import shutil
 import subprocess
 import sys
@@ -12,6 +14,10 @@ import helper  # noqa: E402
 
 SCRIPT, HOST = "docs/trusted.py", "crates/ocfexec/src/host.rt"
 OLD = (1, "docs/TRUSTED.txt is old: docs/trusted.py writes it\n")
+# The file with the calls about agents' processes, and the calls of the library that spawn, poll and signal processes; the shell that sends
+# signals is a process of its own.
+AGENTS, SHELL = "crates/process_ends/src/system_agents.rt", ["crates/process_ends/src/killer.rt", "crates/process_ends/src/patience.rt"]
+PROCESS_CALL = re.compile(r"\.(?:spawn\(rt\)|try_wait\(\)|kill\(\)|output\(rt\))")
 
 
 def check(top):
@@ -48,6 +54,25 @@ class Trusted(helper.Check):
             parts = file.read().split("impl<'a> Host for")[1].split("    fn ")
         marked = {after.split("(")[0] for before, after in zip(parts, parts[1:]) if "// TRUSTED: " in before.rpartition("\n\n")[2]}
         self.assertEqual(sorted(promised - marked), [])
+
+    def test_each_call(self):
+        """each call about agents' processes says what is trusted of it"""
+        with open(os.path.join(helper.TOP, "crates/agent_system/src/agent_system.rt"), encoding="utf-8") as file:
+            parts = file.read().split("pub trait AgentSystem")[1].split("    fn ")[1:]
+        asking = {re.match(r"\w+", part)[0] for part in parts if "≡ after_" in part}
+        self.assertGreater(len(asking), 10)
+        with open(os.path.join(helper.TOP, AGENTS), encoding="utf-8") as file:
+            parts = file.read().split("impl AgentSystem for")[1].split("    fn ")[1:]
+        self.assertEqual(sorted(asking - {re.match(r"\w+", part)[0] for part in parts if "// TRUSTED: " in part}), [])
+
+    def test_one_file(self):
+        """no other file makes calls about processes, but for the shell that sends signals"""
+        calling = set()
+        for path in glob.glob("crates/*/src/**/*.rt", root_dir=helper.TOP, recursive=True):
+            with open(os.path.join(helper.TOP, path), encoding="utf-8") as file:
+                if PROCESS_CALL.search(file.read()):
+                    calling.add(path)
+        self.assertEqual(sorted(calling), sorted([AGENTS, *SHELL]))
 
 
 if __name__ == "__main__":
