@@ -128,7 +128,8 @@ def is_notice(value, **wanted):
 
 def result_of(notice):
     """A notice of `serve` as a result in its resource's history, which has none of these keys."""
-    return {key: part for key, part in notice.items() if key not in ("id", "kind", "key", "expect", "failed", "lives", "reason", "signal", "tag")}
+    others = ("id", "kind", "key", "expect", "failed", "lives", "reason", "signal", "tag")
+    return {key: part for key, part in notice.items() if key not in others}
 
 
 def run(*words, told=b"", **how):
