@@ -8,4 +8,4 @@ mod streams;
 
 pub use signals::{children_ignored, report_ignored};
 pub use standard_error::{explain, is_journal, report, report_cause, report_in_line};
-pub use streams::{FirstError, Noted, report_run, report_shown};
+pub use streams::{FirstError, Noted, Shown, report_run, report_shown};

@@ -1,7 +1,7 @@
 //! The errors of standard input and standard output.
 use crate::standard_error::{advise, explain, name};
 use exec_faults::Fault;
-use exec_lines::Patient;
+use exec_lines::{Output, Patient};
 use process_ends::System;
 use std::cell::Cell;
 use std::io::{self, ErrorKind, Read, Write};
@@ -56,6 +56,25 @@ impl<W: Write> Write for Noted<'_, W> {
     }
 }
 
+/// Standard output for what is shown, whose descriptor may be non-blocking: a write waits while it takes nothing.
+#[derive(Drop)]
+pub struct Shown<'a, W: Write> {
+    output: Patient<Noted<'a, W>>,
+}
+
+impl<W: Write> Write for Shown<'_, W> {
+    fn write(&mut self, buf: &[u8]) -> io::Result<usize> {
+        if buf.is_empty() {
+            return Ok(0);
+        }
+        self.output.put(buf)
+    }
+
+    fn flush(&mut self) -> io::Result<()> {
+        self.output.flush_out()
+    }
+}
+
 impl FirstError {
     /// No error yet.
     pub fn none() -> FirstError {
@@ -87,6 +106,13 @@ impl FirstError {
     /// Standard output, over a writer of it, which notes its first error here.
     pub fn output<W: Write>(&self, inner: W) -> Patient<Noted<'_, W>> {
         Patient::new(Noted { inner, first: self }, libc::STDOUT_FILENO)
+    }
+
+    /// The same for what is shown.
+    pub fn shown<W: Write>(&self, inner: W) -> Shown<'_, W> {
+        Shown {
+            output: self.output(inner),
+        }
     }
 }
 

@@ -2,3 +2,4 @@ pub mod LineLemmas
 pub mod PieceLemmas
 pub mod BufferLemmas
 pub mod PrefixLemmas
+pub mod AheadLemmas

@@ -1,9 +1,14 @@
 //! Readers and writers whose descriptor may be non-blocking.
-use crate::poll::{is_hung_up, is_readable, is_writable};
-use crate::{Input, Output};
+ghost use Rattle.std.specs.Prelude.{◌≡◌, ◌≢◌, ◌<◌, ◌≤◌, Ok, IsTrue, IfErr, None, OnErr, OnOk, Some, length};
+ghost use Rattle.std.specs.Io.{ReadsAtMost};
+ghost use Rattle.std.specs.Io.KnownBytes.{ReadConsumes};
+ghost use Rattle.std.specs.IoError.{error_kind};
+ghost use Rattle.exec_lines.specs.Descriptors.{has_failed};
+
+use crate::output::Output;
+use crate::polled::Polled;
 use ocf_types::NUM_MAX;
-use std::alloc::Allocator;
-use std::io::{self, BufReader, ErrorKind, Read, Write};
+use std::io::{self, ErrorKind, Read, Write};
 
 // The length of one wait, in milliseconds.
 const ONCE: u32 = 1_000;
@@ -15,39 +20,58 @@ const UNTIL_A_LOOK: u32 = 500;
 /// block.
 #[derive(Drop)]
 pub struct Patient<T> {
-    inner: T,
-    descriptor: i32,
+    pub(crate) polled: Polled<T>,
     // The descriptor of the replies, if a read is to fail once they have no reader.
     replies: Option<i32>,
 }
 
 impl<T> Patient<T> {
     /// A reader or a writer of this descriptor.
-    pub fn new(inner: T, descriptor: i32) -> Patient<T> {
+    pub fn new(inner: T, descriptor: i32) -> Patient<T>
+        ensures inner { result.polled.inner ≡ inner }
+        ensures descriptor { result.polled.descriptor ≡ Some descriptor }
+    {
         Patient {
-            inner,
-            descriptor,
+            polled: Polled::new(inner, Some(descriptor)),
+            replies: None,
+        }
+    }
+
+    /// A reader or a writer that has no descriptor, as one in memory: no call would block.
+    pub fn of(inner: T) -> Patient<T>
+        ensures inner { result.polled.inner ≡ inner }
+        ensures none { result.polled.descriptor ≡ None }
+    {
+        Patient {
+            polled: Polled::new(inner, None),
             replies: None,
         }
     }
 
     /// The same reader, whose reads fail with the kind `BrokenPipe` within a second after the other end of this descriptor is
     /// closed, if there is no input.
-    pub fn with_replies(mut self, descriptor: i32) -> Patient<T> {
+    pub fn with_replies(mut self, descriptor: i32) -> Patient<T>
+        ensures polled { result.polled ≡ self.polled }
+        ensures replies { result.replies ≡ Some descriptor }
+    {
         self.replies = Some(descriptor);
         self
     }
 
     // Waits for input as long as the replies have a reader.
-    fn await_input(&self) -> io::Result<()> {
+    fn await_input(&mut self) -> io::Result<()>
+        ensures inner { self.new.polled.inner ≡ self.old.polled.inner }
+        ensures waits { OnOk result (self.old.polled.note.told.again ≤ self.new.polled.note.told.again) }
+        ensures breaks { OnErr result (IsTrue (has_failed self.new.polled.note.told)) }
+    {
         let Some(replies) = self.replies else {
             return Ok(());
         };
         for _ in 0..NUM_MAX {
-            if is_readable(self.descriptor, UNTIL_A_LOOK) {
+            if self.polled.is_readable(UNTIL_A_LOOK) {
                 return Ok(());
             }
-            if is_hung_up(replies) {
+            if self.polled.is_unread(replies) {
                 return Err(io::Error::from(ErrorKind::BrokenPipe));
             }
         }
@@ -55,13 +79,20 @@ impl<T> Patient<T> {
     }
 }
 
-impl<R: Read> Read for Patient<R> {
-    fn read(&mut self, buf: &mut [u8]) -> io::Result<usize> {
+impl<R: Read> Patient<R> {
+    /// Reads once there are bytes, or the descriptor says that the input has ended, or fails.
+    pub(crate) fn read(&mut self, buf: &mut [u8]) -> io::Result<usize>
+        ensures bound { ReadsAtMost result buf.new }
+        ensures bytes { ReadConsumes (R.remaining self.old.polled.inner) (R.remaining self.new.polled.inner) result buf.new }
+        ensures ends { result ≡ Ok 0 → 0 < length buf.new → IsTrue self.new.polled.note.told.ended }
+        ensures breaks { IfErr result
+            (λ e. error_kind e ≢ ErrorKind.Interrupted → IsTrue (has_failed self.new.polled.note.told)) }
+    {
         for _ in 0..NUM_MAX {
             self.await_input()?;
-            match self.inner.read(buf) {
+            match self.polled.read(buf) {
                 Err(error) if error.kind() == ErrorKind::WouldBlock => {
-                    is_readable(self.descriptor, ONCE);
+                    self.polled.is_readable(ONCE);
                 }
                 read => return read,
             }
@@ -70,36 +101,34 @@ impl<R: Read> Read for Patient<R> {
     }
 }
 
-impl<W: Write> Write for Patient<W> {
-    fn write(&mut self, buf: &[u8]) -> io::Result<usize> {
+impl<W: Write> Output for Patient<W> {
+    ghost use Rattle.exec_lines.specs.Descriptors.{has_failed};
+
+    ghost contents = { λ w. W.contents w.polled.inner };
+
+    ghost flushed = { λ w. w.polled.note.told.flushed };
+
+    ghost broke = { λ w. has_failed w.polled.note.told };
+
+    fn put(&mut self, bytes: &[u8]) -> io::Result<usize> {
         for _ in 0..NUM_MAX {
-            match self.inner.write(buf) {
+            match self.polled.write(bytes) {
+                Ok(0) => return Err(io::Error::from(ErrorKind::WriteZero)),
                 Err(error) if error.kind() == ErrorKind::WouldBlock => {
-                    is_writable(self.descriptor, ONCE);
+                    self.polled.is_writable(ONCE);
                 }
+                Err(error) if error.kind() == ErrorKind::Interrupted => {}
                 written => return written,
             }
         }
         Err(io::Error::from(ErrorKind::TimedOut))
     }
 
-    fn flush(&mut self) -> io::Result<()> {
-        self.inner.flush()
+    fn flush_out(&mut self) -> io::Result<()> {
+        self.polled.flush()
     }
-}
 
-impl<W: Write> Output for Patient<W> {
     fn has_reader(&self) -> bool {
-        !is_hung_up(self.descriptor)
-    }
-}
-
-impl<R: Read, A: Allocator> Input for BufReader<Patient<R>, A> {
-    fn is_ready(&mut self, millis: u32) -> bool {
-        !self.buffer().is_empty() || is_readable(self.get_ref().descriptor, millis)
-    }
-
-    fn has_line(&self) -> bool {
-        self.buffer().contains(&b'\n')
+        self.polled.has_reader()
     }
 }

@@ -22,6 +22,11 @@ prefix_made items (Ok v) r a b bytes is prefix none = subst (λ (l : List ℕ). 
 prefix_made items (Err m) (Ok done) a b bytes is prefix none = tt
 prefix_made items (Err m) (Err e) a b bytes is prefix none = prefix_none a b bytes none
 
+-- a fact after an error
+pub on_err : {T E : Type 0} (r : Result T E) (P : Type 0) → P → OnErr r P
+on_err (Ok x) P p = tt
+on_err (Err e) P p = p
+
 -- memory is needed to make a line, and none to write it
 pub memory_of : {T V M : Type 0} (line : Result V M) (r : Result T IoFault) (X : Type 0)
     → IfOk line (λ _. IfErr r (λ f. f ≢ Memory)) → OnErr line X → IfErr r (λ f. f ≡ Memory → X)

@@ -3,4 +3,4 @@
 
 mod send;
 
-pub use send::{IoFault, put_reply, send_notice, send_notices, send_reply};
+pub use send::{IoFault, put_notice, put_reply, put_report, put_request_reply};

@@ -10,11 +10,11 @@ ghost use Rattle.exec_messages.specs.declared.send.IoFault.TheVariants.{InputOrO
 use exec_commands::{
     LineReply, NoticeForm, Origin, Tagged, write_notice, write_sent_reply, write_written_request,
 };
-use exec_lines::{write_bytes, write_flushed};
+use exec_lines::{Output, put_bytes};
 use growth::Grows;
 use ocf_types::{Notice, Reply};
 use std::alloc::{AllocError, Global};
-use std::io::{self, Write};
+use std::io;
 
 /// Why a session ends before its input does.
 #[derive(Drop)]
@@ -41,8 +41,8 @@ impl From<AllocError> for IoFault {
     }
 }
 
-// Writes a line and flushes it. If the writer fails, a prefix of the line was written. If memory for the line was refused, nothing was.
-fn send_line<W: Write>(writer: &mut W, line: Result<Vec<u8>, AllocError>) -> Result<(), IoFault>
+// Writes a line. If the writer fails, a prefix of the line was written. If memory for the line was refused, nothing was.
+fn put_line<W: Output>(writer: &mut W, line: Result<Vec<u8>, AllocError>) -> Result<(), IoFault>
     ensures sent { IfOk line
         (λ bytes. OnOk result
         (Appends (W.contents writer.old) (W.contents writer.new) bytes.items)) }
@@ -51,14 +51,15 @@ fn send_line<W: Write>(writer: &mut W, line: Result<Vec<u8>, AllocError>) -> Res
         (AppendsPrefix (W.contents writer.old) (W.contents writer.new) bytes.items)) }
     ensures only { IfOk line (λ _. IfErr result (λ f. f ≢ Memory)) }
     ensures unwritten { IfErr line (λ _. W.contents writer.new ≡ W.contents writer.old) }
+    ensures output { IfErr result (λ f. f ≡ InputOrOutput → IsTrue (W.broke writer.new)) }
     ensures memory { IfErr line (λ _. result ≡ Err Memory) }
 {
-    write_flushed(writer, line?.as_slice())?;
+    put_bytes(writer, line?.as_slice())?;
     Ok(())
 }
 
-/// Writes the line of a reply in this form and with this tag, and flushes it. On error a prefix of the line was written.
-pub fn send_reply<W: Write>(
+/// Writes the line of a reply in this form and with this tag, without a flush. On error a prefix of the line was written.
+pub fn put_reply<W: Output>(
     alloc: Global,
     writer: &mut W,
     tagged: Tagged,
@@ -70,13 +71,14 @@ pub fn send_reply<W: Write>(
     ensures prefix { OnErr result
         (AppendsPrefix (W.contents writer.old) (W.contents writer.new)
         (sent_reply_line tagged.entry.form (written_tag tagged.entry) reply.now)) }
+    ensures output { IfErr result (λ f. f ≡ InputOrOutput → IsTrue (W.broke writer.new)) }
     ensures memory { IfErr result (λ f. f ≡ Memory → IsTrue ⟦<Global as Grows>⟧.refuses) }
 {
-    send_line(writer, write_sent_reply(alloc, tagged, reply))
+    put_line(writer, write_sent_reply(alloc, tagged, reply))
 }
 
-/// Writes the line of a reply to a request in this form and with this tag, without a flush. On error a prefix of the line was written.
-pub fn put_reply<W: Write>(
+/// The same of a reply to a request.
+pub fn put_request_reply<W: Output>(
     alloc: Global,
     writer: &mut W,
     tagged: Tagged,
@@ -88,15 +90,14 @@ pub fn put_reply<W: Write>(
     ensures prefix { OnErr result
         (AppendsPrefix (W.contents writer.old) (W.contents writer.new)
         (written_request_line tagged.entry.form (written_tag tagged.entry) reply.now)) }
+    ensures output { IfErr result (λ f. f ≡ InputOrOutput → IsTrue (W.broke writer.new)) }
     ensures memory { IfErr result (λ f. f ≡ Memory → IsTrue ⟦<Global as Grows>⟧.refuses) }
 {
-    let line = write_written_request(alloc, tagged, reply)?;
-    write_bytes(writer, line.as_slice())?;
-    Ok(())
+    put_line(writer, write_written_request(alloc, tagged, reply))
 }
 
-/// Writes the line of a notice in this form, with this tag and this reason, and flushes it. On error a prefix of the line was written.
-pub fn send_notice<W: Write>(
+/// Writes the line of a notice in this form, with this tag and this reason, without a flush. On error a prefix of the line was written.
+pub fn put_notice<W: Output>(
     alloc: Global,
     writer: &mut W,
     tagged: Tagged,
@@ -109,14 +110,15 @@ pub fn send_notice<W: Write>(
     ensures prefix { OnErr result
         (AppendsPrefix (W.contents writer.old) (W.contents writer.new)
         (formed_line tagged.entry.form (written_reason tagged.entry) (written_tag tagged.entry) origin notice.now)) }
+    ensures output { IfErr result (λ f. f ≡ InputOrOutput → IsTrue (W.broke writer.new)) }
     ensures memory { IfErr result (λ f. f ≡ Memory → IsTrue ⟦<Global as Grows>⟧.refuses) }
 {
-    send_line(writer, write_notice(alloc, tagged, notice, origin))
+    put_line(writer, write_notice(alloc, tagged, notice, origin))
 }
 
-/// Writes the notices of an opening's report in this form, a line each, without tags and reasons, and flushes each line. On error a prefix of
+/// Writes the notices of an opening's report in this form, a line each, without tags and reasons and without a flush. On error a prefix of
 /// the lines was written.
-pub fn send_notices<W: Write>(
+pub fn put_report<W: Output>(
     alloc: Global,
     writer: &mut W,
     form: NoticeForm,
@@ -128,6 +130,7 @@ pub fn send_notices<W: Write>(
     ensures prefix { OnErr result
         (AppendsPrefix (W.contents writer.old) (W.contents writer.new)
         (flat_map (formed_line form.entry None None Origin.Opening) notices.now)) }
+    ensures output { IfErr result (λ f. f ≡ InputOrOutput → IsTrue (W.broke writer.new)) }
     ensures memory { IfErr result (λ f. f ≡ Memory → IsTrue ⟦<Global as Grows>⟧.refuses) }
 {
     let tagged = Tagged {
@@ -136,7 +139,7 @@ pub fn send_notices<W: Write>(
         reason: None,
     };
     for notice in notices {
-        send_notice(alloc, writer, tagged, notice, Origin::Opening)?;
+        put_notice(alloc, writer, tagged, notice, Origin::Opening)?;
     }
     Ok(())
 }

@@ -70,7 +70,7 @@ pub fn show_on<D: Disk + ReportsError + Drop>(
 {
     let rt = system.host();
     let unwritten = FirstError::none();
-    let mut output = unwritten.output(io::writer(rt));
+    let mut output = unwritten.shown(io::writer(rt));
     let (disk, ended) = show_to(system, options, disk, &mut output);
     let ended = enough(options, &unwritten, ended);
     report_shown(system, &unwritten, ended);

@@ -10,17 +10,18 @@ ghost use Rattle.exec_messages.specs.declared.send.IoFault.TheVariants.{Memory};
 ghost use Rattle.status_report.specs.Shown.{ShowsAs, answer_line, resource_lines, shown};
 
 use disk_model::Disk;
-use exec_commands::{LineReply, NoticeForm, Tagged};
+use exec_commands::{LineReply, NoticeForm, Tagged, write_sent_reply};
 use exec_faults::Fault;
 use exec_journal::Journal;
-use exec_messages::{IoFault, send_reply};
+use exec_lines::write_flushed;
+use exec_messages::IoFault;
 use exec_state::State;
 use growth::Grows;
 use ocf_types::{Question, Refusal, Reply, RscId};
 use std::alloc::Global;
 use std::io::Write;
 
-// Writes the line of a reply in the form of `run`: short, and without a tag.
+// Writes the line of a reply in the form of `run`, short and without a tag, and flushes it.
 pub(crate) fn send_plain<W: Write>(
     alloc: Global,
     writer: &mut W,
@@ -35,7 +36,9 @@ pub(crate) fn send_plain<W: Write>(
         tag: None,
         reason: None,
     };
-    send_reply(alloc, writer, tagged, reply)
+    let line = write_sent_reply(alloc, tagged, reply)?;
+    write_flushed(writer, line.as_slice())?;
+    Ok(())
 }
 
 // Writes the answer to a question.

@@ -1,7 +1,10 @@
-use Rattle.std.proofs.Common.{refl}
-use Rattle.exec_lines.proofs.PieceLemmas.{on_err}
-use Rattle.exec_messages.proofs.PrefixLemmas.{prefix_none}
+use Rattle.exec_messages.proofs.PrefixLemmas.{prefix_made, memory_of}
 use Rattle.exec_messages.proofs.send.put_reply.Goals as goal
 
-pub returns-in_err-line-clause-prefix : goal.returns-in_err-line-clause-prefix
-returns-in_err-line-clause-prefix g c = on_err c.from_residual.result _ (prefix_none _ _ _ refl)
+pub returns-clause-prefix : goal.returns-clause-prefix
+returns-clause-prefix g c =
+    prefix_made (λ v. v.items) c.write_sent_reply.result c.put_line.result _ _ _ c.write_sent_reply.ensures.line c.put_line.ensures.prefix
+    c.put_line.ensures.unwritten
+
+pub returns-clause-memory : goal.returns-clause-memory
+returns-clause-memory g c = memory_of c.write_sent_reply.result c.put_line.result _ c.put_line.ensures.only c.write_sent_reply.ensures.memory
