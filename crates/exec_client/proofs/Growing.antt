@@ -27,13 +27,12 @@ use Rattle.executor.specs.TidyCalls.{Tidies, TidiesWhile}
 use Rattle.executor.specs.TurnCalls.{Abandons, FinishesTurn, TakesTurn, with_empty_book}
 use Rattle.executor.specs.declared.session.InputOf.TheVariants as input
 use Rattle.exec_ledger.proofs.Keeping.{command_keeps}
-use Rattle.exec_client.specs.BackedBy.{BackedBy, claims, nothing}
+use Rattle.exec_client.specs.BackedBy.{BackedBy, nothing}
 use Rattle.exec_client.specs.ClientView.{ClientView}
-use Rattle.exec_client.specs.MaySend.{AllBacked, MayBeReplied, MayReply, IsOfView, MaySend, IsBacked}
-use Rattle.exec_client.specs.SentItem.{Answered, SentItem, answered, sent_in}
+use Rattle.exec_client.specs.MaySend.{AllBacked, IsOfView, MaySend, IsBacked}
+use Rattle.exec_client.specs.MessageView.{MessageView}
+use Rattle.exec_client.specs.SentItem.{SentItem, answered, sent_in}
 use Rattle.exec_client.specs.Sends.{States, SendsCalls, noticed}
-use Rattle.exec_client.specs.declared.message.Message.{Message}
-use Rattle.exec_commands.specs.declared.reply.LineReply.{LineReply}
 use Rattle.exec_client.proofs.Behinds.{both_after, failed_after, finish_after, reply_after, batch_after, states_nothing, turn_after}
 use Rattle.exec_client.proofs.Saying.{no_claim}
 use Rattle.exec_client.proofs.CallsSent.{both_send, claims_nothing, commands_send, one_sends}
@@ -193,25 +192,10 @@ module _ {S : Type 0} (view : S → StoreView) where
   cleared_holds x y cleared = one_holds x y Cleared no_effects [] (cleared, refl) refl nothing
 
   -- what may be sent of an executor after calls
-  pub may_send : (client_view : ClientView S) (x y : ExecutorView S) (what : Message) → AllBacked view client_view x → IsBacked view x y (sent_in what)
+  pub may_send : (client_view : ClientView S) (x y : ExecutorView S) (what : MessageView) → AllBacked view client_view x → IsBacked view x y (sent_in what)
       → IsOfView y what → MaySend view client_view y what
   may_send client_view x y what holds more says =
       record { holds = both_hold client_view.opened x y client_view.reported (sent_in what) holds more; says = says }
-
-  -- calls of which nothing is sent
-  pub all_still_hold : (client_view : ClientView S) (x y : ExecutorView S) → AllBacked view client_view x → IsBacked view x y [] → AllBacked view client_view y
-  all_still_hold client_view x y holds more = still_hold client_view.opened x y client_view.reported holds more
-
-  -- a reply to a line, of an executor after calls
-  pub may_reply : (client_view : ClientView S) (x y : ExecutorView S) (given : LineReply) → AllBacked view client_view x
-      → IsBacked view x y (Answered given ∷ []) → MayReply y given → MayBeReplied view client_view y given
-  may_reply client_view x y given holds more says = (both_hold client_view.opened x y client_view.reported (Answered given ∷ []) holds more, says)
-
-  -- a reply that claims nothing
-  pub may_reply_none : (client_view : ClientView S) (x : ExecutorView S) (given : LineReply) → AllBacked view client_view x → claims (Answered given) ≡ false
-      → MayReply x given → MayBeReplied view client_view x given
-  may_reply_none client_view x given holds none says =
-      may_reply client_view x x given holds (none_holds x x (Answered given ∷ []) refl (states_nothing (Answered given) none)) says
 
   -- all agent processes are given up
   pub abandoned_holds : (x y : ExecutorView S) → Abandons x y → IsBacked view x y []

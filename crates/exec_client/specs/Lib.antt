@@ -1,6 +1,7 @@
 pub mod Signals
 pub mod Tags
 pub mod Waiting
+pub mod MessageView
 pub mod SentItem
 pub mod MessageTags
 pub mod BackedBy

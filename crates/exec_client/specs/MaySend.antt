@@ -1,5 +1,5 @@
 -- When a client may be sent something.
-use Rattle.std.specs.Prelude.{◌≡◌, ◌⊎◌, true, ⊤, List, [], ◌∷◌, ◌++◌, length}
+use Rattle.std.specs.Prelude.{◌≡◌, ◌⊎◌, true, ⊤, List, ◌++◌, length}
 use Rattle.std.specs.List.{AllByRecursion}
 use Rattle.ocf_types.specs.Answer.{reply_to}
 use Rattle.ocf_types.specs.Kinds.{Reply}
@@ -18,10 +18,10 @@ use Rattle.resource_status.specs.Statuses.{statuses_of}
 use Rattle.resource_status.specs.declared.reasons.RunReason.{RunReason}
 use Rattle.exec_client.specs.BackedBy.{BackedBy}
 use Rattle.exec_client.specs.ClientView.{ClientView}
-use Rattle.exec_client.specs.SentItem.{Answered, SentItem, sent_in}
+use Rattle.exec_client.specs.MessageView as message
+use Rattle.exec_client.specs.MessageView.{MessageView}
+use Rattle.exec_client.specs.SentItem.{SentItem, sent_in}
 use Rattle.exec_client.specs.Sends.{SendsCalls}
-use Rattle.exec_client.specs.declared.message.Message.{Message}
-use Rattle.exec_client.specs.declared.message.Message.TheVariants as message
 
 -- Calls lead from one view of an executor to another. The messages are exactly what these calls answered, with nothing left out, and the
 -- events that the calls recorded back them.
@@ -63,22 +63,18 @@ abbrev pub IsReported : {S : Type 0} → ExecutorView S → List Notice → Type
 IsReported x notices = (notices ≡ x.opening_report.interrupted) ⊎ (notices ≡ x.opening_report.dropped)
 
 -- a message may be sent by its content: answers are from the settled state, and a report is that of the opening
-abbrev pub IsOfView : {S : Type 0} → ExecutorView S → Message → Type 0
-IsOfView x (message.Reply given) = MayReply x given.now
-IsOfView x (message.News given) = MayReply x given.now
-IsOfView x (message.Replies given) = AllByRecursion (MayAnswer x) given.now
-IsOfView x (message.Notices turn) = ⊤
-IsOfView x (message.Report notices) = IsReported x notices.now
+abbrev pub IsOfView : {S : Type 0} → ExecutorView S → MessageView → Type 0
+IsOfView x (message.Reply given) = MayReply x given
+IsOfView x (message.News given) = MayReply x given
+IsOfView x (message.Replies given) = AllByRecursion (MayAnswer x) given
+IsOfView x (message.Turn book notices) = ⊤
+IsOfView x (message.Report notices) = IsReported x notices
 
 -- all messages that were sent are backed by what the executor recorded since it was opened
 abbrev pub AllBacked : {S : Type 0} → (S → StoreView) → ClientView S → ExecutorView S → Type 0
 AllBacked view client_view x = IsBacked view client_view.opened x client_view.reported
 
 -- This message may be sent to a client of an executor in this view: all that was sent is recorded, and so is this message.
-pub record MaySend {S : Type 0} (view : S → StoreView) (client_view : ClientView S) (x : ExecutorView S) (what : Message) : Type 0 where
+pub record MaySend {S : Type 0} (view : S → StoreView) (client_view : ClientView S) (x : ExecutorView S) (what : MessageView) : Type 0 where
   pub holds : IsBacked view client_view.opened x (client_view.reported ++ sent_in what)
   pub says : IsOfView x what
-
--- this reply to a line may be sent
-abbrev pub MayBeReplied : {S : Type 0} → (S → StoreView) → ClientView S → ExecutorView S → LineReply → Type 0
-MayBeReplied view client_view x given = IsBacked view client_view.opened x (client_view.reported ++ Answered given ∷ []) × MayReply x given

@@ -9,10 +9,10 @@ use Rattle.exec_commands.specs.declared.reply.LineReply.{LineReply}
 use Rattle.exec_commands.specs.declared.reply.LineReply.TheVariants.{Request}
 use Rattle.child_model.specs.declared.answer.Entry.{Entry}
 use Rattle.resource_status.specs.Reasons.{reason_of}
+use Rattle.exec_client.specs.MessageView as message
+use Rattle.exec_client.specs.MessageView.{MessageView}
 use Rattle.exec_client.specs.Signals.{signal_of}
 use Rattle.exec_client.specs.Tags.{LineTag, first_tag}
-use Rattle.exec_client.specs.declared.message.Message.{Message}
-use Rattle.exec_client.specs.declared.message.Message.TheVariants as message
 use Rattle.resource_status.specs.declared.reasons.RunReason.{RunReason}
 
 -- a reply to a line or other news; a notice of a turn, with the signal that ended its run, if one did; or a line of the opening's report
@@ -30,12 +30,12 @@ abbrev pub noticed_by : List Entry → Notice → SentItem
 noticed_by book notice = Noticed notice (signal_of book notice.result.run)
 
 -- the lines of a message, in order
-abbrev pub sent_in : Message → List SentItem
-sent_in (message.Reply reply) = Answered reply.now ∷ []
-sent_in (message.News reply) = Answered reply.now ∷ []
-sent_in (message.Replies replies) = map answered replies.now
-sent_in (message.Notices turn) = map (noticed_by turn.book.now) turn.notices.now
-sent_in (message.Report notices) = map Reported notices.now
+abbrev pub sent_in : MessageView → List SentItem
+sent_in (message.Reply reply) = Answered reply ∷ []
+sent_in (message.News reply) = Answered reply ∷ []
+sent_in (message.Replies replies) = map answered replies
+sent_in (message.Turn book notices) = map (noticed_by book) notices
+sent_in (message.Report notices) = map Reported notices
 
 -- the bytes of a line in a session whose notices have this form, with this tag; a notice has the reason of its run among these, if any
 abbrev pub line_of : NoticeForm → List RunReason → LineTag → SentItem → List ℕ

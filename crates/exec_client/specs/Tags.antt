@@ -1,5 +1,5 @@
 -- The tags of lines that wait for a reply, and of the calls that lines were given.
-use Rattle.std.specs.Prelude.{ℕ, ◌-◌, ◌==◌, not, List, [], ◌∷◌, ◌++◌, length, drop, filter, if◌then◌else◌, Option, Some, None, option_map}
+use Rattle.std.specs.Prelude.{ℕ, ◌-◌, ◌^◌, ◌==◌, nat_lt, not, List, [], ◌∷◌, ◌++◌, length, drop, filter, if◌then◌else◌, Option, Some, None, option_map}
 use Rattle.std.specs.List.{find}
 use Rattle.ocf_types.specs.Kinds.{Reply}
 use Rattle.ocf_types.specs.declared.reply.Notice.{Notice}
@@ -26,9 +26,13 @@ pub record TagsView : Type 0 where
 abbrev pub no_tags : TagsView
 no_tags = record { lines = []; given = None; calls = [] }
 
+-- the greatest number of lines that wait: more are not noted
+abbrev pub waiting_limit : ℕ
+waiting_limit = 2 ^ 64 - 1
+
 -- one more line was read
 abbrev pub with_line : LineTag → TagsView → TagsView
-with_line tag v = record { lines = v.lines ++ tag ∷ []; given = v.given; calls = v.calls }
+with_line tag v = if nat_lt (length v.lines) waiting_limit then record v { lines = v.lines ++ tag ∷ [] } else v
 
 -- the tag of the oldest line, or `None` if no line waits
 abbrev pub first_tag : List LineTag → LineTag

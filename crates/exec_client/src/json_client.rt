@@ -2,28 +2,30 @@
 ghost use Rattle.std.specs.Prelude.{◌≡◌, [], IfErr, IsTrue, OnErr, OnOk};
 ghost use Rattle.std.specs.Io.KnownBytes.{Appends};
 ghost use Rattle.exec_lines.specs.Prefixes.{AppendsPrefix};
-ghost use Rattle.exec_messages.specs.declared.send.IoFault.TheVariants.{Memory};
+ghost use Rattle.exec_messages.specs.declared.send.IoFault.TheVariants.{InputOrOutput, Memory};
 ghost use Rattle.exec_client.specs.ClientView.{ClientView};
+ghost use Rattle.exec_client.specs.MessageView.{message_view};
 ghost use Rattle.exec_client.specs.SentItem.{lines_of, sent_in};
 ghost use Rattle.exec_client.specs.MessageTags.{after_sent, sent_tags};
+ghost use Rattle.exec_client.specs.Tags.{no_tags};
 
 use crate::client::Client;
+use crate::client_event::ClientEvent;
 use crate::message::Message;
-use crate::notices::send_turn;
+use crate::notices::put_turn;
 use crate::reasons::{Asking, Reasons};
-use crate::replies::{Making, send_answer, send_answers, send_news};
+use crate::replies::{Making, answer_line, answer_requests, put_news};
 use crate::sent_log::SentLog;
 use crate::tags::Tags;
 use child_model::Children;
 use exec_commands::{NoticeForm, Tag};
 use exec_lines::Output;
-use exec_messages::{IoFault, send_notices};
+use exec_messages::{IoFault, put_report};
 use executor::On;
 use growth::Grows;
-use past::Seen;
+use past::{Past, Seen};
 use resource_status::RunReason;
 use std::alloc::{AllocError, Global};
-use std::io::Write;
 use store_model::Store;
 
 /// A client of an executor of this type, which writes messages as lines. It owns the writer, and what knows the reasons of failures.
@@ -34,11 +36,12 @@ pub struct JsonClient<E, W, R> {
     reasons: R,
     pub(crate) opened: Seen<E>,
     pub(crate) sent_log: SentLog,
-    tags: Tags,
+    pub(crate) tags: Tags,
+    pub(crate) asked: Past<ClientEvent>,
 }
 
-// Writes the lines of a message and flushes them. On error a prefix of the lines was written.
-fn write_sent<W: Output>(
+// Writes the lines of a message, without a flush. On error a prefix of the lines was written.
+fn put_message<W: Output>(
     making: &Making,
     writer: &mut W,
     tags: &mut Tags,
@@ -46,20 +49,44 @@ fn write_sent<W: Output>(
 ) -> Result<(), IoFault>
     ensures sent { OnOk result
         (Appends (W.contents writer.old) (W.contents writer.new)
-        (lines_of making.now.form making.now.reasons.now (sent_tags tags.old what.now) (sent_in what.now))) }
+        (lines_of making.now.form making.now.reasons.now (sent_tags tags.old (message_view what.now)) (sent_in (message_view what.now)))) }
     ensures prefix { OnErr result
         (AppendsPrefix (W.contents writer.old) (W.contents writer.new)
-        (lines_of making.now.form making.now.reasons.now (sent_tags tags.old what.now) (sent_in what.now))) }
-    ensures kept { OnOk result (tags.new ≡ after_sent what.now tags.old) }
+        (lines_of making.now.form making.now.reasons.now (sent_tags tags.old (message_view what.now)) (sent_in (message_view what.now)))) }
+    ensures kept { OnOk result (tags.new ≡ after_sent (message_view what.now) tags.old) }
+    ensures output { IfErr result (λ f. f ≡ InputOrOutput → IsTrue (W.broke writer.new)) }
     ensures memory { IfErr result (λ f. f ≡ Memory → IsTrue ⟦<Global as Grows>⟧.refuses) }
 {
     match what {
-        Message::Reply(reply) => send_answer(making, writer, tags, reply),
-        Message::Replies(replies) => send_answers(making, writer, tags, replies),
-        Message::Notices(turn) => send_turn(making, writer, tags, turn),
-        Message::News(reply) => send_news(making, writer, reply),
-        Message::Report(notices) => send_notices(making.alloc, writer, making.form, notices),
+        Message::Reply(reply) => answer_line(making, writer, tags, reply),
+        Message::Replies(replies) => answer_requests(making, writer, tags, replies),
+        Message::Notices(turn) => put_turn(making, writer, tags, turn),
+        Message::News(reply) => put_news(making, writer, reply),
+        Message::Report(notices) => put_report(making.alloc, writer, making.form, notices),
     }
+}
+
+// Writes the lines of a message and flushes them together. On error a prefix of the lines was written.
+fn write_message<W: Output>(
+    making: &Making,
+    writer: &mut W,
+    tags: &mut Tags,
+    what: &Message,
+) -> Result<(), IoFault>
+    ensures sent { OnOk result
+        (Appends (W.contents writer.old) (W.contents writer.new)
+        (lines_of making.now.form making.now.reasons.now (sent_tags tags.old (message_view what.now)) (sent_in (message_view what.now)))) }
+    ensures prefix { OnErr result
+        (AppendsPrefix (W.contents writer.old) (W.contents writer.new)
+        (lines_of making.now.form making.now.reasons.now (sent_tags tags.old (message_view what.now)) (sent_in (message_view what.now)))) }
+    ensures kept { OnOk result (tags.new ≡ after_sent (message_view what.now) tags.old) }
+    ensures flushed { OnOk result (IsTrue (W.flushed writer.new)) }
+    ensures output { IfErr result (λ f. f ≡ InputOrOutput → IsTrue (W.broke writer.new)) }
+    ensures memory { IfErr result (λ f. f ≡ Memory → IsTrue ⟦<Global as Grows>⟧.refuses) }
+{
+    put_message(making, writer, tags, what)?;
+    writer.flush_out()?;
+    Ok(())
 }
 
 impl<E, W: Output, R: Reasons> JsonClient<E, W, R> {
@@ -68,6 +95,8 @@ impl<E, W: Output, R: Reasons> JsonClient<E, W, R> {
         ensures opened { result.opened.value ≡ executor.now }
         ensures reported { result.sent_log.items ≡ [] }
         ensures writer { result.writer ≡ writer }
+        ensures tags { result.tags ≡ no_tags }
+        ensures asked { result.asked.items ≡ [] }
     {
         JsonClient {
             alloc,
@@ -76,6 +105,7 @@ impl<E, W: Output, R: Reasons> JsonClient<E, W, R> {
             opened: Seen::of(executor),
             sent_log: SentLog::new(),
             tags: Tags::new(alloc),
+            asked: Past::new(),
         }
     }
 
@@ -89,7 +119,15 @@ impl<E, W: Output, R: Reasons> JsonClient<E, W, R> {
 
 impl<S: Store + Drop, C: Children + Drop, W: Output, R: Reasons> Client<S, C>
     for JsonClient<On<S, C>, W, R> {
-    ghost client_view = { λ t. record { opened = t.opened.value; reported = t.sent_log.items; written = W.contents t.writer } };
+    ghost client_view = { λ t. record {
+      opened = t.opened.value;
+      reported = t.sent_log.items;
+      written = W.contents t.writer;
+      tags = t.tags;
+      flushed = W.flushed t.writer;
+      broke = W.broke t.writer;
+      asked = t.asked.items;
+    } };
 
     ghost refuses = { ⟦<Global as Grows>⟧.refuses };
 
@@ -106,7 +144,9 @@ impl<S: Store + Drop, C: Children + Drop, W: Output, R: Reasons> Client<S, C>
             form,
             reasons: reasons.as_slice(),
         };
-        write_sent(&making, &mut self.writer, &mut self.tags, what)
+        let sent = write_message(&making, &mut self.writer, &mut self.tags, what);
+        self.asked.note(&ClientEvent::Sent(sent.is_ok()));
+        sent
     }
 
     fn note_tag(&mut self, tag: Option<Tag>) -> Result<(), AllocError> {
@@ -117,7 +157,9 @@ impl<S: Store + Drop, C: Children + Drop, W: Output, R: Reasons> Client<S, C>
         Asking::new(self.alloc, &self.reasons, executor.state()).of_resources()
     }
 
-    fn has_reader(&self) -> bool {
-        self.writer.has_reader()
+    fn has_reader(&mut self) -> bool {
+        let has_reader = self.writer.has_reader();
+        self.asked.note(&ClientEvent::HasReader(has_reader));
+        has_reader
     }
 }

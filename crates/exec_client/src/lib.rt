@@ -2,6 +2,7 @@
 #![tactic(auto)]
 
 mod client;
+mod client_event;
 mod json_client;
 mod kept_calls;
 pub mod laws;
@@ -15,6 +16,7 @@ mod tags;
 mod waiting;
 
 pub use client::Client;
+pub use client_event::ClientEvent;
 pub use json_client::JsonClient;
 pub use message::{Message, TurnNotices};
 pub use reasons::{FailedRun, NoReasons, Reasons};

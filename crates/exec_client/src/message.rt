@@ -1,7 +1,6 @@
 //! Messages: what a client is sent by one call.
 ghost use Rattle.std.specs.Prelude.{◌≡◌};
-ghost use Rattle.exec_client.specs.SentItem.{sent_in};
-ghost use Rattle.exec_client.specs.Sends.{noticed};
+ghost use Rattle.exec_client.specs.MessageView.{Turn, message_view};
 ghost use Rattle.exec_client.specs.declared.message.Message.TheVariants.{Notices};
 
 use child_model::{Children, Entry};
@@ -23,7 +22,7 @@ impl<'a> TurnNotices<'a> {
     pub fn of_executor<S: Store + Drop, C: Children + Drop>(
         executor: &'a On<S, C>,
     ) -> TurnNotices<'a>
-        ensures items { sent_in (Notices result) ≡ noticed executor.now }
+        ensures items { message_view (Notices result) ≡ Turn executor.now.children.book executor.now.reported }
     {
         TurnNotices {
             notices: executor.notices(),

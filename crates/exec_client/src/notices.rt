@@ -2,7 +2,7 @@
 ghost use Rattle.std.specs.Prelude.{◌≡◌, IfErr, IsTrue, OnErr, OnOk, map};
 ghost use Rattle.std.specs.Io.KnownBytes.{Appends};
 ghost use Rattle.exec_lines.specs.Prefixes.{AppendsPrefix};
-ghost use Rattle.exec_messages.specs.declared.send.IoFault.TheVariants.{Memory};
+ghost use Rattle.exec_messages.specs.declared.send.IoFault.TheVariants.{InputOrOutput, Memory};
 ghost use Rattle.exec_client.specs.SentItem.{Noticed, line_of, lines_of, noticed_by};
 ghost use Rattle.exec_client.specs.Signals.{signal_of};
 ghost use Rattle.exec_client.specs.Tags.{after_notice, tag_of_call};
@@ -14,12 +14,12 @@ use crate::signals::signal_of;
 use crate::tags::Tags;
 use child_model::Entry;
 use exec_commands::{Origin, Tagged};
-use exec_messages::{IoFault, send_notice};
+use exec_lines::Output;
+use exec_messages::{IoFault, put_notice};
 use growth::Grows;
 use ocf_types::Notice;
 use resource_status::reason_of;
 use std::alloc::Global;
-use std::io::Write;
 
 // A notice, and the number of the signal that ended its run, if one did.
 #[derive(Clone, Copy)]
@@ -39,8 +39,8 @@ fn with_signal<'a>(notice: &'a Notice, book: &[Entry]) -> Signaled<'a>
     }
 }
 
-// Writes the line of a notice and flushes it. On error a prefix of the line was written.
-fn send_signaled<W: Write>(
+// Writes the line of a notice. On error a prefix of the line was written.
+fn put_signaled<W: Output>(
     making: &Making,
     writer: &mut W,
     tags: &mut Tags,
@@ -55,6 +55,7 @@ fn send_signaled<W: Write>(
         (line_of making.now.form making.now.reasons.now (tag_of_call signaled.now.notice.now.result.call tags.old.calls)
         (Noticed signaled.now.notice.now signaled.now.signal))) }
     ensures kept { OnOk result (tags.new ≡ after_notice signaled.now.notice.now tags.old) }
+    ensures output { IfErr result (λ f. f ≡ InputOrOutput → IsTrue (W.broke writer.new)) }
     ensures memory { IfErr result (λ f. f ≡ Memory → IsTrue ⟦<Global as Grows>⟧.refuses) }
 {
     let tagged = Tagged {
@@ -62,7 +63,7 @@ fn send_signaled<W: Write>(
         tag: tags.of_call(signaled.notice.result.call),
         reason: reason_of(making.reasons, signaled.notice.result.run),
     };
-    send_notice(
+    put_notice(
         making.alloc,
         writer,
         tagged,
@@ -73,8 +74,8 @@ fn send_signaled<W: Write>(
     Ok(())
 }
 
-/// Writes the notices of a turn, a line each with its reason if that is known, and flushes each line. On error a prefix of the lines was written.
-pub(crate) fn send_turn<W: Write>(
+/// Writes the notices of a turn, a line each with its reason if that is known, without a flush. On error a prefix of the lines was written.
+pub(crate) fn put_turn<W: Output>(
     making: &Making,
     writer: &mut W,
     tags: &mut Tags,
@@ -89,11 +90,12 @@ pub(crate) fn send_turn<W: Write>(
         (lines_of making.now.form making.now.reasons.now (notice_tags tags.old turn.now.notices.now)
         (map (noticed_by turn.now.book.now) turn.now.notices.now))) }
     ensures kept { OnOk result (tags.new ≡ after_notices turn.now.notices.now tags.old) }
+    ensures output { IfErr result (λ f. f ≡ InputOrOutput → IsTrue (W.broke writer.new)) }
     ensures memory { IfErr result (λ f. f ≡ Memory → IsTrue ⟦<Global as Grows>⟧.refuses) }
 {
     let (notices, book) = (turn.notices, turn.book);
     for notice in notices {
-        send_signaled(making, writer, tags, &with_signal(notice, book))?;
+        put_signaled(making, writer, tags, &with_signal(notice, book))?;
     }
     Ok(())
 }

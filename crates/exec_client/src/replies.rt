@@ -4,19 +4,19 @@ ghost use Rattle.std.specs.Io.KnownBytes.{Appends};
 ghost use Rattle.exec_commands.specs.Service.{lent};
 ghost use Rattle.exec_commands.specs.Tags.{written_tag};
 ghost use Rattle.exec_lines.specs.Prefixes.{AppendsPrefix};
-ghost use Rattle.exec_messages.specs.declared.send.IoFault.TheVariants.{Memory};
+ghost use Rattle.exec_messages.specs.declared.send.IoFault.TheVariants.{InputOrOutput, Memory};
 ghost use Rattle.exec_client.specs.SentItem.{Answered, answered, line_of, lines_of};
 ghost use Rattle.exec_client.specs.Tags.{after_line_reply, after_reply, first_tag, next_line};
 ghost use Rattle.exec_client.specs.MessageTags.{after_replies};
 
 use crate::tags::Tags;
 use exec_commands::{LineReply, NoticeForm, Tagged};
-use exec_messages::{IoFault, put_reply, send_reply};
+use exec_lines::Output;
+use exec_messages::{IoFault, put_reply, put_request_reply};
 use growth::Grows;
 use ocf_types::Reply;
 use resource_status::RunReason;
 use std::alloc::Global;
-use std::io::Write;
 
 /// With which allocator, in which form and with which reasons lines are made.
 #[derive(Clone, Copy)]
@@ -38,8 +38,8 @@ fn tagged_reply<'a>(form: NoticeForm<'a>, tag: Option<&'a str>) -> Tagged<'a>
     }
 }
 
-/// Writes the reply to the oldest line that waits and flushes it. On error a prefix of the line was written.
-pub(crate) fn send_answer<W: Write>(
+/// Writes the reply to the oldest line that waits, without a flush. On error a prefix of the line was written.
+pub(crate) fn answer_line<W: Output>(
     making: &Making,
     writer: &mut W,
     tags: &mut Tags,
@@ -52,17 +52,18 @@ pub(crate) fn send_answer<W: Write>(
         (AppendsPrefix (W.contents writer.old) (W.contents writer.new)
         (line_of making.now.form making.now.reasons.now (first_tag tags.old.lines) (Answered reply.now))) }
     ensures kept { OnOk result (tags.new ≡ after_line_reply reply.now (next_line tags.old)) }
+    ensures output { IfErr result (λ f. f ≡ InputOrOutput → IsTrue (W.broke writer.new)) }
     ensures memory { IfErr result (λ f. f ≡ Memory → IsTrue ⟦<Global as Grows>⟧.refuses) }
 {
     tags.next();
     let tagged = tagged_reply(making.form, tags.given());
-    send_reply(making.alloc, writer, tagged, reply)?;
+    put_reply(making.alloc, writer, tagged, reply)?;
     tags.keep_by_line(reply);
     Ok(())
 }
 
-// Writes the reply to the oldest line that waits, which is a request, without a flush. On error a prefix of the line was written.
-fn put_answer<W: Write>(
+// Writes the reply to the oldest line that waits, which is a request.
+fn answer_request<W: Output>(
     making: &Making,
     writer: &mut W,
     tags: &mut Tags,
@@ -75,17 +76,18 @@ fn put_answer<W: Write>(
         (AppendsPrefix (W.contents writer.old) (W.contents writer.new)
         (line_of making.now.form making.now.reasons.now (first_tag tags.old.lines) (answered reply.now))) }
     ensures kept { OnOk result (tags.new ≡ after_reply reply.now (next_line tags.old)) }
+    ensures output { IfErr result (λ f. f ≡ InputOrOutput → IsTrue (W.broke writer.new)) }
     ensures memory { IfErr result (λ f. f ≡ Memory → IsTrue ⟦<Global as Grows>⟧.refuses) }
 {
     tags.next();
     let tagged = tagged_reply(making.form, tags.given());
-    put_reply(making.alloc, writer, tagged, reply)?;
+    put_request_reply(making.alloc, writer, tagged, reply)?;
     tags.keep_by(reply);
     Ok(())
 }
 
-// Writes the replies to the oldest lines that wait, which are requests, without a flush.
-fn put_answers<W: Write>(
+/// Writes the replies to the oldest lines that wait, which are requests, without a flush. On error a prefix of the lines was written.
+pub(crate) fn answer_requests<W: Output>(
     making: &Making,
     writer: &mut W,
     tags: &mut Tags,
@@ -98,38 +100,17 @@ fn put_answers<W: Write>(
         (AppendsPrefix (W.contents writer.old) (W.contents writer.new)
         (lines_of making.now.form making.now.reasons.now tags.old.lines (map answered replies.now))) }
     ensures kept { OnOk result (tags.new ≡ after_replies replies.now tags.old) }
+    ensures output { IfErr result (λ f. f ≡ InputOrOutput → IsTrue (W.broke writer.new)) }
     ensures memory { IfErr result (λ f. f ≡ Memory → IsTrue ⟦<Global as Grows>⟧.refuses) }
 {
     for reply in replies {
-        put_answer(making, writer, tags, reply)?;
+        answer_request(making, writer, tags, reply)?;
     }
     Ok(())
 }
 
-/// Writes the replies to the oldest lines that wait, which are requests, and flushes them together. On error a prefix of the lines was
-/// written.
-pub(crate) fn send_answers<W: Write>(
-    making: &Making,
-    writer: &mut W,
-    tags: &mut Tags,
-    replies: &[Reply],
-) -> Result<(), IoFault>
-    ensures sent { OnOk result
-        (Appends (W.contents writer.old) (W.contents writer.new)
-        (lines_of making.now.form making.now.reasons.now tags.old.lines (map answered replies.now))) }
-    ensures prefix { OnErr result
-        (AppendsPrefix (W.contents writer.old) (W.contents writer.new)
-        (lines_of making.now.form making.now.reasons.now tags.old.lines (map answered replies.now))) }
-    ensures kept { OnOk result (tags.new ≡ after_replies replies.now tags.old) }
-    ensures memory { IfErr result (λ f. f ≡ Memory → IsTrue ⟦<Global as Grows>⟧.refuses) }
-{
-    put_answers(making, writer, tags, replies)?;
-    writer.flush()?;
-    Ok(())
-}
-
-/// Writes the line of news, which answers no line, and flushes it. On error a prefix of the line was written.
-pub(crate) fn send_news<W: Write>(
+/// Writes the line of news, which answers no line, without a flush. On error a prefix of the line was written.
+pub(crate) fn put_news<W: Output>(
     making: &Making,
     writer: &mut W,
     news: &LineReply,
@@ -140,8 +121,9 @@ pub(crate) fn send_news<W: Write>(
     ensures prefix { OnErr result
         (AppendsPrefix (W.contents writer.old) (W.contents writer.new)
         (line_of making.now.form making.now.reasons.now None (Answered news.now))) }
+    ensures output { IfErr result (λ f. f ≡ InputOrOutput → IsTrue (W.broke writer.new)) }
     ensures memory { IfErr result (λ f. f ≡ Memory → IsTrue ⟦<Global as Grows>⟧.refuses) }
 {
     let tagged = tagged_reply(making.form, None);
-    send_reply(making.alloc, writer, tagged, news)
+    put_reply(making.alloc, writer, tagged, news)
 }

@@ -21,6 +21,7 @@ impl Model for SentLog {
 }
 
 impl SentLog {
+    ghost use Rattle.exec_client.specs.MessageView.{message_view};
     ghost use Rattle.exec_client.specs.SentItem.{sent_in};
 
     /// Nothing was sent.
@@ -32,14 +33,14 @@ impl SentLog {
 
     // The same messages and then this one.
     fn with(&self, what: &Message) -> SentLog
-        ensures { result.items ≡ self.now.items ++ sent_in what.now }
+        ensures { result.items ≡ self.now.items ++ sent_in (message_view what.now) }
     {
         SentLog {}
     }
 
     /// This message is sent next.
     pub fn note(&mut self, what: &Message)
-        ensures { self.new.items ≡ self.old.items ++ sent_in what.now }
+        ensures { self.new.items ≡ self.old.items ++ sent_in (message_view what.now) }
     {
         *self = self.with(what);
     }

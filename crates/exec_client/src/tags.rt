@@ -17,13 +17,15 @@ pub struct Tags {
     waiting: Vec<Waiting>,
     // The number of lines without a tag that were read after the waiting ones.
     after: u64,
+    // The number of all lines that wait.
+    count: u64,
     // The tag of the line that is being answered.
     given: Option<Tag>,
     calls: Vec<KeptCall>,
 }
 
 impl Model for Tags {
-    ghost use Rattle.std.specs.Prelude.{◌+◌, ◌≤◌, length, map, min, vec_capacity, vec_len};
+    ghost use Rattle.std.specs.Prelude.{◌≡◌, ◌+◌, ◌≤◌, length, map, min, vec_capacity, vec_len};
     ghost use Rattle.exec_client.specs.Tags.{TagsView, call_limit};
     ghost use Rattle.exec_client.specs.Waiting.{call_tag, count_of, lines_in};
 
@@ -31,7 +33,8 @@ impl Model for Tags {
 
     ghost view = { λ t. record { lines = lines_in t.waiting.items t.after; given = t.given; calls = map call_tag t.calls.items } };
 
-    ghost invariant = { λ t. (vec_len t.calls ≤ call_limit)
+    ghost invariant = { λ t. (t.count ≡ length (lines_in t.waiting.items t.after))
+        × (vec_len t.calls ≤ call_limit)
         × (min call_limit (vec_len t.calls + vec_len t.waiting + count_of t.given) ≤ vec_capacity t.calls) };
 }
 
@@ -60,17 +63,22 @@ impl Tags {
         Tags {
             waiting: Vec::new(alloc),
             after: 0,
+            count: 0,
             given: None,
             calls: Vec::new(alloc),
         }
     }
 
-    /// A line was read, with this tag or with none. If memory is refused, the line counts as one without a tag.
+    /// A line was read, with this tag or with none. If memory is refused, the line counts as one without a tag. While 2^64 - 1 lines wait,
+    /// nothing is noted.
     pub fn note(&mut self, tag: Option<Tag>) -> Result<(), AllocError>
-        ensures noted { length self.old.lines < 2 ^ 64 - 1
-            → self.new ≡ with_line (if is_ok result then tag else None) self.old }
+        ensures noted { self.new ≡ with_line (if is_ok result then tag else None) self.old }
         ensures memory { OnErr result (IsTrue ⟦<Global as Grows>⟧.refuses) }
     {
+        if self.count == u64::MAX {
+            return Ok(());
+        }
+        self.count += 1;
         let Some(tag) = tag else {
             self.after = self.after.saturating_add(1);
             return Ok(());
@@ -91,6 +99,7 @@ impl Tags {
         ensures { self.new ≡ next_line self.old }
     {
         self.given = take_first(&mut self.waiting, &mut self.after);
+        self.count = self.count.saturating_sub(1);
     }
 
     /// The tag of the line that is being answered.

@@ -1,12 +1,11 @@
 -- Messages of several lines tell of a failure if one of their lines does.
-use Rattle.std.proofs.Common.{◌≡◌, ◌||◌, ◌++◌, ◌∙◌, Bool, List, [], ◌∷◌, map, refl, ap, ap₂, sym}
-use Rattle.std.proofs.lemmas.List.Folds.{list_any-append}
+use Rattle.std.proofs.Common.{◌≡◌, ◌||◌, Bool, List, [], ◌∷◌, map, refl, ap, sym}
 use Rattle.std.specs.List.{list_any}
 use Rattle.ocf_types.specs.Kinds.{Reply}
 use Rattle.ocf_types.specs.Notices.{is_failure}
 use Rattle.ocf_types.specs.declared.reply.Notice.{Notice}
 use Rattle.child_model.specs.declared.answer.Entry.{Entry}
-use Rattle.exec_client.specs.SentItem.{Reported, SentItem, answered, noticed_by}
+use Rattle.exec_client.specs.SentItem.{Reported, answered, noticed_by}
 use Rattle.exec_events.specs.Failures.{is_refused, tell_failure, tells_failure}
 
 list_any-map : {X Y : Type 0} (p : X → Bool) (h : Y → X) (ys : List Y) → list_any p (map h ys) ≡ list_any (λ y. p (h y)) ys
@@ -21,9 +20,3 @@ tell_turn book notices = sym (list_any-map tells_failure (noticed_by book) notic
 
 pub tell_report : (notices : List Notice) → list_any is_failure notices ≡ tell_failure (map Reported notices)
 tell_report notices = sym (list_any-map tells_failure Reported notices)
-
--- more messages
-pub tell_more : (before more all : List SentItem) (failed fails : Bool) → failed ≡ tell_failure before → fails ≡ tell_failure more
-    → all ≡ before ++ more → (failed || fails) ≡ tell_failure all
-tell_more before more all failed fails e f is =
-    ap₂ (λ x y. x || y) e f ∙ sym (list_any-append tells_failure before more) ∙ ap tell_failure (sym is)

@@ -6,8 +6,8 @@ use Rattle.ocf_types.specs.declared.outcome.Outcome.{Outcome}
 use Rattle.ocf_types.specs.declared.outcome.Outcome.TheVariants.{Run, Interrupted, Dropped}
 use Rattle.ocf_types.specs.declared.outcome.RunEnd.TheVariants.{Lost}
 use Rattle.ocf_types.specs.declared.reply.Notice.{Notice}
-use Rattle.exec_client.specs.declared.message.Message.{Message}
-use Rattle.exec_client.specs.declared.message.Message.TheVariants as message
+use Rattle.exec_client.specs.MessageView as message
+use Rattle.exec_client.specs.MessageView.{MessageView}
 use Rattle.resource_status.specs.Meanings.{tone_of}
 use Rattle.resource_status.specs.declared.meanings.Tone.{Tone}
 use Rattle.resource_status.specs.declared.meanings.Tone.TheVariants.{Bad}
@@ -51,9 +51,9 @@ pub record WritesEvents (marks : Bool) (ns : List Notice) (old new : Option (Lis
   pub written : Appends old new lines
 
 -- the results in a message
-abbrev pub notices_in : Message → List Notice
+abbrev pub notices_in : MessageView → List Notice
 notices_in (message.Reply reply) = []
 notices_in (message.Replies replies) = []
 notices_in (message.News reply) = []
-notices_in (message.Notices turn) = turn.notices.now
-notices_in (message.Report notices) = notices.now
+notices_in (message.Turn book notices) = notices
+notices_in (message.Report notices) = notices

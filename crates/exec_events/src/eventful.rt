@@ -1,6 +1,7 @@
 //! A client that passes messages to another client, and then writes a line for each result.
 ghost use Rattle.std.specs.Prelude.{◌≡◌, ℕ, List, OnOk};
 ghost use Rattle.std.specs.Io.KnownBytes.{Appends};
+ghost use Rattle.exec_client.specs.MessageView.{message_view};
 ghost use Rattle.exec_events.specs.Events.{IsEventLine, WritesEvents, notices_in};
 
 use crate::lines::event_line;
@@ -87,7 +88,7 @@ fn write_events<W: Write>(
 
 // The results in a message.
 fn notices_in<'a>(what: &Message<'a>) -> &'a [Notice]
-    ensures { result.now ≡ notices_in what.now }
+    ensures { result.now ≡ notices_in (message_view what.now) }
 {
     match what {
         Message::Reply(_) | Message::Replies(_) | Message::News(_) => &[],
@@ -108,9 +109,9 @@ impl<S: Store + Drop, C: Children + Drop, T: Client<S, C>, W: Write> Client<S, C
         form: NoticeForm,
         what: &Message,
     ) -> Result<(), IoFault> {
-        let reported = self.client.send(executor, form, what);
+        let sent = self.client.send(executor, form, what);
         let marks = match self.events {
-            Events::None => return reported,
+            Events::None => return sent,
             Events::Plain => false,
             Events::Marked => true,
         };
@@ -118,10 +119,10 @@ impl<S: Store + Drop, C: Children + Drop, T: Client<S, C>, W: Write> Client<S, C
             alloc: self.alloc,
             marks,
         };
-        if reported.is_ok() {
+        if sent.is_ok() {
             let _ = write_events(&making, &mut self.errors, notices_in(what));
         }
-        reported
+        sent
     }
 
     fn note_tag(&mut self, tag: Option<Tag>) -> Result<(), AllocError> {
@@ -132,7 +133,7 @@ impl<S: Store + Drop, C: Children + Drop, T: Client<S, C>, W: Write> Client<S, C
         self.client.failure_reasons(executor)
     }
 
-    fn has_reader(&self) -> bool {
+    fn has_reader(&mut self) -> bool {
         self.client.has_reader()
     }
 }

@@ -2,6 +2,7 @@
 ghost use Rattle.std.specs.Prelude.{◌≡◌};
 ghost use Rattle.std.specs.List.{list_any};
 ghost use Rattle.ocf_types.specs.Notices.{is_failure};
+ghost use Rattle.exec_client.specs.MessageView.{message_view};
 ghost use Rattle.exec_client.specs.SentItem.{sent_in};
 ghost use Rattle.exec_events.specs.Failures.{is_refused, is_undone, tell_failure};
 
@@ -45,7 +46,7 @@ fn is_undone(reply: &LineReply) -> bool
 /// Whether a message says that a line was not done, or that an action failed.
 #[tactic(auto, using(crate::proofs::FailureLemmas::tell_replies, crate::proofs::FailureLemmas::tell_turn, crate::proofs::FailureLemmas::tell_report))]
 pub fn tells_failure(what: &Message) -> bool
-    ensures { result ≡ tell_failure (sent_in what.now) }
+    ensures { result ≡ tell_failure (sent_in (message_view what.now)) }
 {
     match what {
         Message::Reply(reply) | Message::News(reply) => is_undone(reply),

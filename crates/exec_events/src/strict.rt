@@ -82,7 +82,7 @@ impl<S: Store + Drop, C: Children + Drop, T: Client<S, C>> Client<S, C> for Stri
         self.client.failure_reasons(executor)
     }
 
-    fn has_reader(&self) -> bool {
+    fn has_reader(&mut self) -> bool {
         self.client.has_reader()
     }
 }

@@ -14,6 +14,7 @@ use denote.Shadow.{pure_i}
 use denote.Signature.{Slot, named_lft, plain, types_at}
 use denote.Triple.Entry.{alive}
 use denote.Triple.Walked.{Stays, walk_of, says, stay_none_ref, Goes-none_ref, ends_at}
+use Rattle.exec_client.specs.MessageView.{message_view}
 use Rattle.exec_client.specs.SentItem.{sent_in}
 use Rattle.exec_client.specs.declared.sent_log.SentLog.{SentLog}
 use Rattle.exec_client.specs.contracts.sent_log.SentLog.{the_row as R}
@@ -45,7 +46,7 @@ with_spec 𝓤 𝓛 𝓜 𝓡 wired =
     (λ κs. (shr_vals, (shr_vals, tt)))
     (λ κs. (shr_Tells (named 0) κs.0 R, (shr_Tells (named 1) κs.1.0 (P (named_lft 3 2 tt κs)), tt)))
     (λ κs qs bounds a g are.
-    let made : SentLog = record { items = a.0.now.items ++ sent_in a.1.0.now } in
+    let made : SentLog = record { items = a.0.now.items ++ sent_in (message_view a.1.0.now) } in
     let vs : List Val × (List Val × Unit {0}) = (shr_vals a.0, (shr_vals a.1.0, tt)) in
     let y : W.Ghost = ((κs, qs, bounds, a, vs), g) in
     qed 𝓛 ((raw (alive 𝓛 f.signature κs qs) ⊛ ‵

@@ -1,7 +1,0 @@
-use Rattle.exec_client.proofs.Lines.{Noticing}
-use Rattle.exec_client.proofs.notices.send_turn.Given as goal
-
-abbrev pub invariant-loop-notice : goal.invariant-loop-notice
-invariant-loop-notice g l =
-    Noticing l.making.form l.making.reasons.now l.turn.book.now l.fn.tags l.tags l.turn.notices.now l.notice-index (g.W.Write.contents l.fn.writer)
-    (g.W.Write.contents l.writer)
