@@ -1,0 +1,15 @@
+pub mod AfterLemmas
+pub mod CallLemmas
+pub mod BackedLemmas
+pub mod EdgeLemmas
+pub mod ReadEvents
+pub mod NotedLines
+pub mod ClientLemmas
+pub mod CountLemmas
+pub mod LineLemmas
+pub mod AnswerLemmas
+pub mod EndLemmas
+pub mod LeaveLemmas
+pub mod TimeoutLemmas
+pub mod Examples
+pub mod DueLemmas
