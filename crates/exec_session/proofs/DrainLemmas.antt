@@ -1,22 +1,24 @@
--- A drain that goes on.
-use Rattle.std.proofs.Common.{◌≡◌, ◌≤◌, ◌+◌, ◌↔◌, ℕ, Bool, true, false, not, [], ◌∷◌, ◌++◌, length, Option, None, Some, refl, sym, ap, subst, ◌∙◌, arith, inl, inr, length-append}
+-- Drains, watches and the orderly end of a session.
+use Rattle.std.proofs.Common.{◌≡◌, ◌≢◌, ◌≤◌, ◌<◌, ◌+◌, ℕ, Bool, true, false, not, List, [], ◌∷◌, ◌++◌, length, Option, None, Some, refl, sym, ap, subst, ◌∙◌, arith, inl, inr, length-append}
 use Rattle.ocf_types.specs.Boot.{any_busy}
 use Rattle.ocf_types.specs.declared.reply.TurnEnd.{TurnEnd}
 use Rattle.ocf_types.specs.declared.reply.TurnEnd.TheVariants as turn_end
-use Rattle.store_model.specs.StoreView.{StoreView}
 use Rattle.executor.specs.ExecutorView.{ExecutorView}
 use Rattle.exec_commands.specs.declared.ends.DrainEnd.{DrainEnd}
-use Rattle.exec_trace.specs.Edges.{rest_events}
-use Rattle.exec_trace.specs.Events.{last_shown}
-use Rattle.exec_trace.specs.declared.event.IoEvent.TheVariants.{Asked, Shown}
-use Rattle.exec_session.specs.Drains.{MakesTurn, Rests, end_at, end_after}
-use Rattle.exec_session.specs.Pausing.{IsShort}
-use Rattle.exec_session.specs.Rules.{Rules}
-use Rattle.exec_session.specs.SessionViews.{MayBreakOff, Pauses, SessionPosition, SessionView, noted}
-use Rattle.exec_session.specs.declared.drain.Terms.{Terms}
-use Rattle.exec_session.proofs.EventLemmas.{longer, shown_last, unasked}
+use Rattle.session_machine.specs.After.{after_drain_turn, drain_of}
+use Rattle.session_machine.specs.Behaviours.{Trace, then}
+use Rattle.session_machine.specs.Drains.{end_after}
+use Rattle.session_machine.specs.Events.{Shown}
+use Rattle.session_machine.specs.May.{IsTurnDue, MayShow}
+use Rattle.session_machine.specs.Pausing.{IsShort}
+use Rattle.session_machine.specs.Session.{At, Drain, OwnTurn, Draining, at_then, lines_in}
+use Rattle.session_machine.specs.declared.terms.Terms.{Terms}
+use Rattle.session_machine.specs.declared.rules.Rules.{Rules}
+use Rattle.exec_session.specs.declared.pause.Pause.{Pause}
+use Rattle.exec_session.specs.Standing.{KeepsTurn, Lasts, Stays, StaysLonger}
+use Rattle.exec_session.specs.Steps.{HasFinished, HasPaused, IsDrained, IsDraining, IsLeaving, MayPauseNow}
 
--- its last turn is done
+-- a drain goes on after a turn that is done
 done : (t : Terms) (turns now : ℕ) (end : TurnEnd) (idle : Bool) → end_after t turns now end idle ≡ None → end ≡ turn_end.Done
 done t turns now turn_end.Done idle e = refl
 done t turns now turn_end.Closed idle e = absurd cc
@@ -26,85 +28,132 @@ done t turns now turn_end.Full idle e = absurd cc
 done t turns now turn_end.Memory idle e = absurd cc
 done t turns now turn_end.Disk idle e = absurd cc
 
--- the executor is open then
-pub still_open : (t : Terms) (turns now : ℕ) (end : TurnEnd) (idle is_open : Bool) → (is_open ≡ false ↔ (end ≡ turn_end.Disk))
-    → end_after t turns now end idle ≡ None → is_open ≡ true
-still_open t turns now end idle true closes e = refl
-still_open t turns now end idle false closes e = let is = sym (done t turns now end idle e) ∙ closes.0 refl in absurd cc
-
--- a turn that closed the executor ended for the disk, in the tidy or in the turn itself
-pub closes : {S : Type 0} (view : S → StoreView) (rules : Rules) (now : ℕ) (p q : SessionView S)
-    (end : TurnEnd)
-    → MakesTurn view rules now p q end → (q.executor.is_open ≡ false) ↔ (end ≡ turn_end.Disk)
-closes {S} view rules now p q end made = by made.middle.is_open refl
-  where
-    by : (b : Bool) → made.middle.is_open ≡ b → (q.executor.is_open ≡ false) ↔ (end ≡ turn_end.Disk)
-    by true is_open = (made.takes is_open).closes
-    by false closed = let fails = made.fails closed in (λ _. fails.0, λ _. ap (λ (s : SessionView S). s.executor.is_open) fails.1 ∙ closed)
-
--- the end of a drain, by the executor's own answer whether it is idle
-pub sent_end : (t : Terms) (turns now : ℕ) (end : TurnEnd) (idle asked : Bool) (reported given : Option DrainEnd)
-    → reported ≡ end_after t turns now end asked → asked ≡ idle → reported ≡ given → end_after t turns now end idle ≡ given
-sent_end t turns now end idle asked reported given is was same = ap (λ b. end_after t turns now end b) (sym was) ∙ sym is ∙ same
-
 -- a pause that is short since one time is short since an earlier one
 pub short_since : (before since now micros : ℕ) → before ≤ since → IsShort since now micros → IsShort before now micros
 short_since before since now micros le (inl short) = inl short
 short_since before since now micros le (inr (long, part)) = inr (long, omega (arith, le, part))
 
+-- one after the other
+pub keeps_both : (p q r : OwnTurn) → KeepsTurn p q → KeepsTurn q r → KeepsTurn p r
+keeps_both p q r one two = record {
+  now = two.now ∙ one.now;
+  since = two.since ∙ one.since;
+  end = two.end ∙ one.end;
+  reads = two.reads ∙ one.reads;
+  polls = two.polls ∙ one.polls;
+  waits = two.waits ∙ one.waits;
+  looked = λ is. two.looked (one.looked is);
+  woken = λ is. two.woken (one.woken is);
+}
+
 module _ {S : Type 0} where
-  pub earlier : (before since now : ℕ) (client_view : Bool) (p q : SessionView S) → before ≤ since → Pauses since now client_view p q
-      → Pauses before now client_view p q
-  earlier before since now client_view p q le (micros, short, is) = (micros, short_since before since now micros le short, is)
+  pub lasts_both : (p q r : Trace S) → Lasts p q → Lasts q r → Lasts p r
+  lasts_both p q r one two = record {
+    rules = two.rules ∙ one.rules;
+    first = two.first ∙ one.first;
+    grows = omega (arith, one.grows, two.grows);
+  }
 
-  pub at_moment : (since now now' : ℕ) (client_view : Bool) (p q : SessionView S) → now ≡ now' → Pauses since now client_view p q → Pauses since now' client_view p q
-  at_moment since now now' client_view p q same paused = subst (λ (n : ℕ). Pauses since n client_view p q) same paused
+  pub stays_both : (p q r : Trace S) → Stays p q → Stays q r → Stays p r
+  stays_both p q r one two = record {
+    lasts = lasts_both p q r one.lasts two.lasts;
+    part = two.part ∙ one.part;
+    found = two.found ∙ one.found;
+    ended = two.ended ∙ one.ended;
+    there = two.there ∙ one.there;
+    own = keeps_both p.state.own q.state.own r.state.own one.own two.own;
+  }
 
-  -- a pause, a client that still reads, and a clock reading
-  pub rests : (start since now : ℕ) (reported : SessionView S) (mid q : SessionPosition S) (client_view : Bool) (after : ℕ) → start ≤ since → client_view ≡ true
-      → Pauses since now client_view reported mid.at → q ≡ noted mid (Shown after) → Rests start now reported q.at after
-  rests start since now reported mid q client_view after le receives paused is = (
-    mid.at,
-    earlier start since now true reported mid.at le (subst (λ (b : Bool). Pauses since now b reported mid.at) receives paused),
-    ap (λ (P : SessionPosition S). P.at) is,
+  -- after a turn of a drain it may pause
+  pub pauses_between : (q : Trace S) (d : Drain) (now : ℕ) (end : TurnEnd) (since moment micros : ℕ)
+      → q.state.at ≡ at_then (after_drain_turn d now end) → d.start ≤ since → moment ≡ now → IsShort since moment micros → MayPauseNow q.state micros
+  pauses_between q d now end since moment micros at le same short = (
+    record { since = d.start; now = now; made = false },
+    Some (record d { turns = d.turns + 1; end = end }),
+    at,
+    refl,
+    short_since d.start since now micros le (subst (λ (n : ℕ). IsShort since n micros) same short),
   )
 
-  pub paused_executor : (since now : ℕ) (client_view : Bool) (p q : SessionView S) → Pauses since now client_view p q → q.executor ≡ p.executor
-  paused_executor since now client_view p q (micros, short, is) = ap (λ (s : SessionView S). s.executor) is
+  -- After the turn and the pause.
+  module _ (p q r e : Trace S) (d : Drain) (now : ℕ) (end : TurnEnd) (longer : StaysLonger p q)
+      (at : q.state.at ≡ at_then (after_drain_turn d now end)) (paused : HasPaused q r) (same : e ≡ r) where
+    abbrev next : Drain
+    next = record d { turns = d.turns + 1; end = end }
 
-  pub rests_executor : (start now : ℕ) (reported q : SessionView S) (after : ℕ) → Rests start now reported q after → q.executor ≡ reported.executor
-  rests_executor start now reported q after (m, paused, is) =
-      ap (λ (s : SessionView S). s.executor) is ∙ paused_executor start now true reported m paused
+    rested_at : e.state.at ≡ Draining next
+    rested_at =
+        ap (λ (t : Trace S). t.state.at) same ∙ paused.at (record { since = d.start; now = now; made = false }) (Some next) at
 
-  pub rests_shown : (start now : ℕ) (reported q : SessionView S) (after : ℕ) → Rests start now reported q after → last_shown q.events ≡ Some after
-  rests_shown start now reported q after (m, paused, is) = ap (λ (s : SessionView S). last_shown s.events) is ∙ shown_last m.events after
+    pub may_show : MayShow e.state.at
+    may_show = subst (λ (a : At). MayShow a) (sym rested_at) tt
 
-  -- a pause adds an event
-  pub paused_longer : (since now : ℕ) (client_view : Bool) (p q : SessionView S) → Pauses since now client_view p q → length p.events + 1 ≤ length q.events
-  paused_longer since now client_view p q (micros, short, is) =
-      subst (λ (s : SessionView S). length p.events + 1 ≤ length s.events) (sym is)
-      (let one = longer p.events (rest_events micros) in omega (arith, one, length-append (p.events ++ rest_events micros) (Asked client_view ∷ [])))
+    -- and a clock reading
+    module _ (s : Trace S) (later : ℕ) (shown : s ≡ then e (Shown later)) where
+      goes_on_at : s.state.at ≡ Draining next
+      goes_on_at = ap (λ (t : Trace S). t.state.at) shown ∙ rested_at
 
-  -- where nobody reads the output any more, that is the last event
-  pub unheard_cause : (since now : ℕ) (client_view : Bool) (p q : SessionView S) → client_view ≡ false → Pauses since now client_view p q → MayBreakOff q.events
-  unheard_cause since now client_view p q gone (micros, short, is) =
-      unasked (p.events ++ rest_events micros) q.events
-      (ap (λ (s : SessionView S). s.events) is ∙ ap (λ (b : Bool). (p.events ++ rest_events micros) ++ Asked b ∷ []) gone)
+      goes_on_executor : s.state.executor ≡ q.state.executor
+      goes_on_executor =
+          ap (λ (t : Trace S). t.state.executor) shown ∙ ap (λ (t : Trace S). t.state.executor) same ∙ paused.executor
 
-  pub unheard_pause : (before since now : ℕ) (client_view : Bool) (p q : SessionView S) → before ≤ since → client_view ≡ false → Pauses since now client_view p q
-      → Pauses before now false p q
-  unheard_pause before since now client_view p q le gone paused =
-      earlier before since now false p q le (subst (λ (b : Bool). Pauses since now b p q) gone paused)
+      pub goes_on_longer : StaysLonger p s
+      goes_on_longer =
+          subst (λ (t : Trace S). StaysLonger p t) (sym (shown ∙ ap (λ (t : Trace S). then t (Shown later)) same))
+          (let all = stays_both p q r longer.stays paused.stays in
+          record {
+            stays =
+                record {
+                  lasts =
+                      record {
+                        rules = all.lasts.rules;
+                        first = all.lasts.first;
+                        grows = omega (arith, all.lasts.grows, length-append r.events (Shown later ∷ []));
+                      };
+                  part = all.part;
+                  found = all.found;
+                  ended = all.ended;
+                  there = all.there;
+                  own = all.own;
+                };
+            lines = paused.lines ∙ longer.lines;
+            longer = omega (arith, longer.longer, paused.stays.lasts.grows, length-append r.events (Shown later ∷ []));
+          })
 
-  pub heard_pause : (before since now : ℕ) (client_view : Bool) (p q : SessionView S) → before ≤ since → client_view ≡ true → Pauses since now client_view p q
-      → Pauses before now true p q
-  heard_pause before since now client_view p q le receives paused =
-      earlier before since now true p q le (subst (λ (b : Bool). Pauses since now b p q) receives paused)
+      -- how it ends then, by the executor's own answer whether it is idle
+      module _ (x : ExecutorView S) (idle : Bool) (given : Option DrainEnd) (of : x ≡ e.state.executor) (is_idle : idle ≡ not (any_busy x.state))
+          (is : given ≡ end_after d.terms (d.turns + 1) later end idle) where
+        ends_so : end_after d.terms (d.turns + 1) later end (not (any_busy s.state.executor.state)) ≡ given
+        ends_so =
+            ap (λ (t : Trace S). end_after d.terms (d.turns + 1) later end (not (any_busy t.state.executor.state))) shown
+            ∙ ap (λ (y : ExecutorView S). end_after d.terms (d.turns + 1) later end (not (any_busy y.state))) (sym of)
+            ∙ ap (λ (b : Bool). end_after d.terms (d.turns + 1) later end b) (sym is_idle) ∙ sym is
 
-  -- the end of a drain is that of the executor after the turn
-  pub sent_end_at : (t : Terms) (turns now : ℕ) (end : TurnEnd) (reported q : SessionView S) (asked : Bool) (given found : Option DrainEnd)
-      → q.executor ≡ reported.executor → given ≡ end_after t turns now end asked → asked ≡ not (any_busy q.executor.state) → given ≡ found
-      → end_at t turns now end reported.executor ≡ found
-  sent_end_at t turns now end reported q asked given found same is was so =
-      sent_end t turns now end (not (any_busy reported.executor.state)) asked given found is
-      (was ∙ ap (λ (x : ExecutorView S). not (any_busy x.state)) same) so
+        pub drained : (found : DrainEnd) → given ≡ Some found → IsDrained s.state found
+        drained found gave =
+            record { drain = next; at = goes_on_at; now = later; shown = ap (λ (t : Trace S). t.state.shown) shown; ended = ends_so ∙ gave }
+
+        pub goes_on : given ≡ None → (end ≢ turn_end.Disk → q.state.executor.is_open ≡ true)
+            → IsDraining s.state (record { terms = d.terms; start = d.start; turns = d.turns + 1; end = turn_end.Done }) later
+        goes_on gave opens =
+            let is_done : end ≡ turn_end.Done = done d.terms (d.turns + 1) later end idle (sym is ∙ gave) in
+            let still : s.state.at ≡ Draining (record { terms = d.terms; start = d.start; turns = d.turns + 1; end = turn_end.Done }) =
+            goes_on_at ∙ ap (λ (w : TurnEnd). Draining (record { terms = d.terms; start = d.start; turns = d.turns + 1; end = w })) is_done in
+            record {
+              shown = ap (λ (t : Trace S). t.state.shown) shown;
+              due =
+                  subst (λ (a : At). IsTurnDue s.state a later) (sym still)
+                  (ap (λ (w : TurnEnd). end_after d.terms (d.turns + 1) later w (not (any_busy s.state.executor.state))) (sym is_done) ∙ ends_so ∙ gave);
+              is = ap (λ (a : At). drain_of a (lines_in s.state) later s.state.rules.most_turns) still;
+              is_open = ap (λ (y : ExecutorView S). y.is_open) goes_on_executor ∙ opens (λ disk. cc);
+            }
+
+  -- an orderly end goes on after a turn and its pause
+  pub leaves_on : (q r : Trace S) (pause : Pause) → q.state.executor.is_open ≡ true → HasFinished q.state pause → HasPaused q r → IsLeaving r.state
+  leaves_on q r pause is_open finished paused = record {
+    serves = ap (λ (w : Rules). w.mode) paused.stays.lasts.rules ∙ finished.serves;
+    is_open = ap (λ (x : ExecutorView S). x.is_open) paused.executor ∙ is_open;
+    at = paused.at (record { since = 0; now = pause.moment; made = false }) None (finished.rests is_open);
+    goes_on = paused.stays.ended ∙ finished.goes_on;
+    is = paused.lines ∙ finished.is;
+  }

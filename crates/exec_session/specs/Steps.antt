@@ -1,25 +1,128 @@
--- A step of a session in which nothing is read.
-use Rattle.std.specs.Prelude.{List, Result, IfOk, OnErr, OnOk}
-use Rattle.exec_commands.specs.declared.notice.NoticeForm.{NoticeForm}
-use Rattle.exec_client.specs.SentItem.{SentItem}
-use Rattle.exec_session.specs.SessionViews.{Keeps, MayBreakOff, SessionPosition, SessionView, SendsAll, SendsPart}
+-- Steps of a session.
+use Rattle.std.specs.Prelude.{◌≡◌, ◌∷◌, ℕ, ◌≤◌, ◌+◌, Bool, true, false, [], length, Option, Some, None, Ok}
+use Rattle.ocf_types.specs.declared.reply.TurnEnd.{TurnEnd}
+use Rattle.ocf_types.specs.declared.reply.TurnEnd.TheVariants.{Disk, Done}
+use Rattle.executor.specs.Reports.{report_of}
+use Rattle.executor.specs.ExecutorView.{ExecutorView}
+use Rattle.executor.specs.declared.report.Report.{Report}
+use Rattle.exec_commands.specs.declared.ends.DrainEnd.{DrainEnd}
+use Rattle.exec_commands.specs.declared.line.Line.{Line}
+use Rattle.exec_commands.specs.declared.line.Line.TheVariants as line
+use Rattle.session_machine.specs.After.{drain_of}
+use Rattle.session_machine.specs.Behaviours.{Trace, opening, then}
+use Rattle.session_machine.specs.First.{IsNew}
+use Rattle.session_machine.specs.Events.{Faulted, Turned}
+use Rattle.session_machine.specs.May.{IsTurnDue, drain_end}
+use Rattle.session_machine.specs.Pausing.{IsShort}
+use Rattle.session_machine.specs.Session.{Drain, SessionState, Closed, Draining, Ends, Reading, Resting, Sending, begun, ended_by, lines_in, no_turn, rested}
+use Rattle.session_machine.specs.Session as session
+use Rattle.session_machine.specs.declared.rules.Mode.TheVariants.{Serve}
+use Rattle.session_machine.specs.declared.terms.Terms.{Terms}
+use Rattle.exec_session.specs.Standing.{Lasts, Stays}
+use Rattle.exec_session.specs.declared.pause.Pause.{Pause}
 
--- The step succeeds with the first relation, or breaks off with the second, because the last question failed or the loops have gone round
--- as often as they can.
-pub record Steps {S T E : Type 0} (does breaks_off : SessionView S → Type 0) (p q : SessionPosition S) (result : Result T E) : Type 0 where
-  pub keeps : Keeps p q
-  pub done : OnOk result (does q.at)
-  pub breaks : OnErr result (breaks_off q.at)
-  pub cause : OnErr result (MayBreakOff q.at.events)
+-- the pause of a session's state
+abbrev pub PauseView : Type 0
+PauseView = session.Pause
 
--- the same of a step that gives a value
-pub record StepsTo {S T E : Type 0} (does : T → SessionView S → Type 0) (breaks_off : SessionView S → Type 0) (p q : SessionPosition S)
-    (result : Result T E) : Type 0 where
-  pub keeps : Keeps p q
-  pub done : IfOk result (λ value. does value q.at)
-  pub breaks : OnErr result (breaks_off q.at)
-  pub cause : OnErr result (MayBreakOff q.at.events)
+-- the report is that of the opening that gave this executor
+abbrev pub IsReportOf : {S M : Type 0} → ExecutorView S → Report M → Type 0
+IsReportOf x r = x.opening_report ≡ report_of r
 
--- the client is sent this, or a prefix of it
-abbrev pub Sends : {S T E : Type 0} → NoticeForm → List SentItem → SessionPosition S → SessionPosition S → Result T E → Type 0
-Sends form items p q result = Steps (λ s. SendsAll form p.at s items) (λ s. SendsPart form p.at s items) p q result
+-- A session that begins.
+pub record IsOpening {S : Type 0} (t : Trace S) : Type 0 where
+  pub state : t.state ≡ begun t.state.rules t.state.start t.state.executor t.state.client
+  pub is_open : t.state.executor.is_open ≡ true
+
+-- The report was sent, and in `serve` that the session is ready: nothing was read, and no turn was made.
+pub record HasBegun {S : Type 0} (old new : Trace S) : Type 0 where
+  pub lasts : Lasts old new
+  pub at : new.state.at ≡ Reading
+  pub executor : new.state.executor ≡ old.state.executor
+  pub part : new.state.part ≡ []
+  pub found : new.state.found ≡ None
+  pub lines : new.state.lines ≡ []
+  pub ended : new.state.ended ≡ false
+  pub own : new.state.own ≡ no_turn
+
+-- Its executor made a turn, or failed in the tidy before it.
+abbrev pub HasTurned : {S : Type 0} → Trace S → Trace S → Option TurnEnd → Type 0
+HasTurned old new (Some end) = new ≡ then old (Turned end new.state.executor)
+HasTurned old new None = new ≡ then old (Faulted new.state.executor)
+
+-- A drain that began at `start` is to make its next turn now, at the last clock reading: this many were made.
+pub record IsDraining {S : Type 0} (s : SessionState S) (d : Drain) (now : ℕ) : Type 0 where
+  pub shown : s.shown ≡ Some now
+  pub due : IsTurnDue s s.at now
+  pub is : drain_of s.at (lines_in s) now s.rules.most_turns ≡ Some d
+  pub is_open : s.executor.is_open ≡ true
+
+-- A session made a turn by itself: it has not read, polled or waited since; the same lines are unanswered.
+pub record MakesOwnTurn {S : Type 0} (old new : Trace S) : Type 0 where
+  pub lasts : Lasts old new
+  pub longer : length old.events + 1 ≤ length new.events
+  pub lines : lines_in new.state ≡ lines_in old.state
+  pub part : new.state.part ≡ old.state.part
+  pub found : new.state.found ≡ None
+  pub reads : new.state.own.reads ≡ 0
+  pub polls : new.state.own.polls ≡ 0
+  pub waits : new.state.own.waits ≡ 0
+
+-- Only messages were sent, none of which answers a line.
+pub record OnlySends {S : Type 0} (old new : Trace S) : Type 0 where
+  pub lasts : Lasts old new
+  pub executor : new.state.executor ≡ old.state.executor
+  pub lines : new.state.lines ≡ old.state.lines
+  pub part : new.state.part ≡ old.state.part
+  pub found : new.state.found ≡ old.state.found
+  pub ended : new.state.ended ≡ old.state.ended
+  pub own : new.state.own ≡ old.state.own
+
+-- a drain with these terms that begins now
+abbrev pub drain_at : Terms → ℕ → Drain
+drain_at terms now = record { terms = terms; start = now; turns = 0; end = Done }
+
+-- the line that asks for a drain, or for a watch, of at most this many milliseconds
+abbrev pub drain_line : Bool → ℕ → Line
+drain_line true limit = line.Drain limit
+drain_line false limit = line.Watch limit
+
+-- a drain has come to this end, at the last clock reading
+pub record IsDrained {S : Type 0} (s : SessionState S) (end : DrainEnd) : Type 0 where
+  pub drain : Drain
+  pub at : s.at ≡ Draining drain
+  pub now : ℕ
+  pub shown : s.shown ≡ Some now
+  pub ended : drain_end drain now s.executor ≡ Some end
+
+-- it may pause this long between two turns
+abbrev pub MayPauseNow : {S : Type 0} → SessionState S → ℕ → Type 0
+MayPauseNow s micros =
+    (pause : PauseView) × (drain : Option Drain) × (s.at ≡ Resting pause drain) × (pause.made ≡ false) × IsShort pause.since pause.now micros
+
+-- it paused between two turns, and somebody reads its output
+pub record HasPaused {S : Type 0} (old new : Trace S) : Type 0 where
+  pub stays : Stays old new
+  pub lines : lines_in new.state ≡ lines_in old.state
+  pub executor : new.state.executor ≡ old.state.executor
+  pub at : (pause : PauseView) (drain : Option Drain) → old.state.at ≡ Resting pause drain → new.state.at ≡ rested drain
+
+-- The only line that is not answered asks for the end of the session, in `serve`, with an open executor.
+pub record IsLeaving {S : Type 0} (s : SessionState S) : Type 0 where
+  pub serves : s.rules.mode ≡ Serve
+  pub is_open : s.executor.is_open ≡ true
+  pub at : s.at ≡ Reading
+  pub goes_on : s.ended ≡ false
+  pub is : lines_in s ≡ Ok line.Leave ∷ []
+
+-- A turn of an orderly end was made: the session pauses after it, or sends the line of the disk fault that closed its executor.
+pub record HasFinished {S : Type 0} (s : SessionState S) (pause : Pause) : Type 0 where
+  pub serves : s.rules.mode ≡ Serve
+  pub goes_on : s.ended ≡ false
+  pub is : lines_in s ≡ Ok line.Leave ∷ []
+  pub rests : s.executor.is_open ≡ true → s.at ≡ Resting (record { since = 0; now = pause.moment; made = false }) None
+  pub closed : s.executor.is_open ≡ false → s.at ≡ Sending (ended_by Disk ∷ []) (Ends Closed)
+
+-- a session that begins with this executor, which was just opened
+abbrev pub IsOpeningOf : {S : Type 0} → Trace S → ExecutorView S → Type 0
+IsOpeningOf t x = (t ≡ opening t.state.rules t.state.start t.state.executor t.state.client) × (t.state.executor ≡ x) × IsNew t.state.client x

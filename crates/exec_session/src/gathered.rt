@@ -3,7 +3,7 @@ ghost use Rattle.std.specs.Prelude.{◌≡◌, ◌≤◌, ◌<◌, ◌==◌, [],
 ghost use Rattle.ocf_types.specs.declared.refusal.Refusal.TheVariants.{Disk};
 ghost use Rattle.ocf_types.specs.declared.reply.ReplyOf.TheVariants.{Refused};
 ghost use Rattle.executor.specs.CommandBatches.{TakesCommands};
-ghost use Rattle.exec_session.specs.Limits.{most_together};
+ghost use Rattle.session_machine.specs.Limits.{most_together};
 
 use child_model::Children;
 use executor::On;

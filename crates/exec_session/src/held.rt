@@ -1,12 +1,10 @@
 //! Lines that are held: turns go on, and no further line is read, until such a line can be answered.
 ghost use Rattle.std.specs.Prelude.{◌≡◌, Ok, IfErr, IfOk};
-ghost use Rattle.exec_session.specs.Held.{MayTakeAtOnce, asks};
-ghost use Rattle.exec_session.specs.declared.lines.Found.TheVariants as found;
+ghost use Rattle.exec_session.specs.Held.{MayAnswerAtOnce, asks};
 
-use crate::context::Mode;
-use crate::lines::Found;
 use exec_commands::Line;
-use ocf_types::{AgentType, Provider};
+use ocf_types::{AgentType, Provider, Refusal};
+use session_machine::Mode;
 
 /// A line that is not answered as soon as it is read.
 #[derive(Drop)]
@@ -21,33 +19,30 @@ pub enum Held {
     Leave,
 }
 
-/// The line, if the session holds it in this mode; anything else is given back.
-#[tactic(auto, using(crate::proofs::HeldLemmas::found_at_once))]
-pub fn held_in(mode: Mode, next: Found) -> Result<Held, Found>
-    ensures held { IfOk result (λ held. next ≡ found.Line (Ok (asks held))) }
+/// The line, if the session holds it in this mode; any other is given back.
+pub fn held_in(mode: Mode, line: Result<Line, Refusal>) -> Result<Held, Result<Line, Refusal>>
+    ensures held { IfOk result (λ held. line ≡ Ok (asks held)) }
     ensures serves { IfOk result (λ _. mode ≡ Mode.Serve) }
-    ensures same { IfErr result (λ other. other ≡ next) }
-    ensures at_once { IfErr result (λ other. MayTakeAtOnce mode other) }
+    ensures same { IfErr result (λ other. other ≡ line) }
+    ensures at_once { IfErr result (λ other. MayAnswerAtOnce mode other) }
 {
     if mode == Mode::Run {
-        return Err(next);
+        return Err(line);
     }
-    match next {
-        Found::Line(
-            Ok(
-                Line::Meta {
-                    provider,
-                    agent,
-                    limit,
-                },
-            ),
+    match line {
+        Ok(
+            Line::Meta {
+                provider,
+                agent,
+                limit,
+            },
         ) => Ok(Held::Metadata {
             provider,
             agent,
             limit,
         }),
-        Found::Line(Ok(Line::Leave)) => Ok(Held::Leave),
-        Found::Line(Ok(line)) => Err(Found::Line(Ok(line))),
-        other => Err(other),
+        Ok(Line::Leave) => Ok(Held::Leave),
+        Ok(line) => Err(Ok(line)),
+        Err(refusal) => Err(Err(refusal)),
     }
 }

@@ -3,27 +3,20 @@
 #![tactic(auto)]
 
 mod answer;
-mod context;
-mod desk;
 mod drain;
+mod flow;
 mod gathered;
 mod held;
-pub mod laws;
 mod lines;
-mod metadata;
 mod pace;
 mod pause;
 mod pending;
+mod reading;
 mod room;
 mod send;
-mod serve;
 mod session;
 mod turn;
 mod wait;
-mod worker;
 
-pub use context::{Mode, SessionContext};
-pub use metadata::Metadata;
-pub use pace::Pace;
 pub use pending::LineRoom;
 pub use session::{Run, run_lines};

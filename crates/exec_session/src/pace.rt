@@ -1,8 +1,6 @@
 //! How fast a session tidies.
 ghost use Rattle.std.specs.Prelude.{◌≤◌};
 
-use std::cell::Cell;
-
 // A guess for the first tidy, in milliseconds a piece: a sync of a slow device.
 const GUESSED: u64 = 8;
 
@@ -16,15 +14,13 @@ const SLOWEST: u64 = 1_000;
 #[derive(Drop)]
 pub struct Pace {
     // in milliseconds
-    each: Cell<u64>,
+    each: u64,
 }
 
 impl Pace {
     /// No tidy was made yet.
     pub fn new() -> Pace {
-        Pace {
-            each: Cell::new(GUESSED),
-        }
+        Pace { each: GUESSED }
     }
 
     /// The time of a piece, in milliseconds.
@@ -32,11 +28,11 @@ impl Pace {
         ensures least { 1 ≤ result }
         ensures most { result ≤ 1000 }
     {
-        self.each.get().clamp(FASTEST, SLOWEST)
+        self.each.clamp(FASTEST, SLOWEST)
     }
 
     /// Records that a tidy of this many pieces took this many milliseconds.
-    pub fn took(&self, millis: u64, pieces: u64) {
-        self.each.set(millis / pieces.max(1));
+    pub fn took(&mut self, millis: u64, pieces: u64) {
+        self.each = millis / pieces.max(1);
     }
 }

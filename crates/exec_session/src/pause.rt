@@ -1,14 +1,10 @@
 //! The pause between two turns.
-ghost use Rattle.std.specs.Prelude.{◌≡◌, ◌≤◌};
-ghost use Rattle.exec_session.specs.Pausing.{IsQuietSince, IsShort, is_quiet, still_runs};
+ghost use Rattle.std.specs.Prelude.{◌≡◌, ◌≤◌, ◌<◌, true, false, if◌then◌else◌};
+ghost use Rattle.session_machine.specs.Pausing.{IsShort, is_quiet, still_runs};
 
-use child_model::{Answer, Children, Entry, Poll};
-use executor::On;
-use std::rt::Clock;
-use std::time::Instant;
-use store_model::Store;
+use child_model::{Answer, Entry, Poll};
 
-// The shortest pause that is not 0, in microseconds.
+// The shortest pause after a turn in which nothing happened, in microseconds.
 const SHORTEST: u64 = 20;
 
 // A short pause is the time since something happened, divided by this.
@@ -31,12 +27,16 @@ const LONGEST_IDLE: u64 = 10_000;
 /// milliseconds, or 10 while nothing is queued or running.
 #[derive(Drop)]
 pub struct Pause {
-    // The beginning of the last turn, if the clock could be read.
-    began: Option<Instant>,
-    // The beginning of the turn after which nothing happened.
-    quiet: Option<Instant>,
+    // The beginning of the last turn, by the monotonic clock, in microseconds.
+    began: u64,
+    // The beginning of the turn after which nothing happened, by that clock; `None` before the first turn.
+    quiet_from: Option<u64>,
     // Whether a line is held.
     holds: bool,
+    // Whether no pause was asked for yet.
+    is_first: bool,
+    /// Whether something ended or began in the last turn.
+    pub is_stirred: bool,
     /// The time of the last turn, in milliseconds since 1970.
     pub moment: u64,
     /// The time since which nothing has happened, in milliseconds since 1970; it does not go back.
@@ -57,24 +57,19 @@ fn is_quiet(book: &[Entry]) -> bool
     book.iter().all(|entry| still_runs(&entry.answer))
 }
 
-// The microseconds since then; 0 where the clock fails.
-fn micros_since(clock: &impl Clock, then: Option<Instant>) -> u64 {
-    match then.map(|then| then.elapsed(clock)) {
-        Some(Ok(passed)) => u64::try_from(passed.as_micros()).unwrap_or(u64::MAX),
-        _ => 0,
-    }
-}
-
 impl Pause {
     /// No turn yet. Nothing has happened since this time, in milliseconds since 1970.
     pub fn new(since: u64) -> Pause
         ensures moment { result.moment ≡ since }
         ensures since { result.since ≡ since }
+        ensures stirred { result.is_stirred ≡ false }
     {
         Pause {
-            began: None,
-            quiet: None,
+            began: 0,
+            quiet_from: None,
             holds: false,
+            is_first: true,
+            is_stirred: false,
             moment: since,
             since,
         }
@@ -83,27 +78,50 @@ impl Pause {
     /// Sets whether a line is held. Pauses start over when that changes.
     pub fn holds(&mut self, holds: bool)
         ensures moment { self.new.moment ≡ self.old.moment }
-        ensures since { self.new.since ≡ self.old.since }
+        ensures grows { self.old.since ≤ self.new.since }
+        ensures stirred { self.new.is_stirred ≡ self.old.is_stirred }
     {
         if self.holds != holds {
             self.holds = holds;
-            self.quiet = None;
+            self.quiet_from = Some(self.began);
+            self.since = self.since.max(self.moment);
         }
     }
 
-    /// Records that a turn begins at this time.
-    pub fn before_turn(&mut self, clock: &impl Clock, now: u64)
+    /// Records that a turn begins at this time, and at this reading of the monotonic clock in microseconds.
+    pub fn before_turn(&mut self, began: u64, now: u64)
         ensures moment { self.new.moment ≡ now }
         ensures since { self.new.since ≡ self.old.since }
     {
-        self.began = Instant::now(clock).ok();
+        self.began = began;
         self.moment = now;
+        if self.quiet_from.is_none() {
+            self.quiet_from = Some(began);
+        }
     }
 
-    // The pause after a turn in which nothing happened, in microseconds.
-    fn length(&self, clock: &impl Clock, idle: bool) -> u64
-        ensures short { IsShort self.now.since self.now.moment result }
+    /// Records that a turn left the book so.
+    pub fn after_turn(&mut self, book: &[Entry])
+        ensures moment { self.new.moment ≡ self.old.moment }
+        ensures grows { self.old.since ≤ self.new.since }
+        ensures since { is_quiet book.now ≡ false → self.old.moment ≤ self.new.since }
+        ensures stirred { self.new.is_stirred ≡ if is_quiet book.now then false else true }
     {
+        self.is_stirred = !is_quiet(book);
+        if self.is_stirred {
+            self.quiet_from = Some(self.began);
+            self.since = self.since.max(self.moment);
+        }
+    }
+
+    /// The pause after the last turn, in microseconds, at this reading of the monotonic clock in microseconds; with the executor idle or not.
+    pub fn length(&self, micros: u64, idle: bool) -> u64
+        ensures short { IsShort self.now.since self.now.moment result }
+        ensures some { self.now.is_stirred ≡ false → 0 < result }
+    {
+        if self.is_stirred {
+            return 0;
+        }
         let most = if idle { LONGEST_IDLE } else { LONGEST };
         let hundredth = self
             .moment
@@ -113,26 +131,20 @@ impl Pause {
         if SHORT < hundredth {
             return hundredth;
         }
-        (micros_since(clock, self.quiet) / GROWTH).clamp(SHORTEST, SHORT)
+        let from = self.quiet_from.unwrap_or(micros);
+        (micros.saturating_sub(from) / GROWTH).clamp(SHORTEST, SHORT)
     }
 
-    /// The pause after the last turn, in microseconds.
-    pub fn after_turn<S: Store + Drop, C: Children + Drop>(
-        &mut self,
-        clock: &impl Clock,
-        executor: &On<S, C>,
-    ) -> u64
+    /// The same between two turns of a drain or of an orderly end; 0 after the first one.
+    pub fn between_turns(&mut self, micros: u64, idle: bool) -> u64
         ensures moment { self.new.moment ≡ self.old.moment }
-        ensures grows { self.old.since ≤ self.new.since }
-        ensures quiet { IsQuietSince executor.now.children.book self.old.moment self.old.since
-            self.new.since }
-        ensures short { IsShort self.new.since self.new.moment result }
+        ensures since { self.new.since ≡ self.old.since }
+        ensures short { IsShort self.old.since self.old.moment result }
     {
-        if self.quiet.is_none() || !is_quiet(executor.book()) {
-            self.quiet = self.began;
-            self.since = self.since.max(self.moment);
+        if self.is_first {
+            self.is_first = false;
             return 0;
         }
-        self.length(clock, executor.idle())
+        self.length(micros, idle)
     }
 }

@@ -1,9 +1,6 @@
 //! The input that a session has read and not answered yet.
-ghost use Rattle.std.specs.Prelude.{◌≡◌, false, IfOk, IsTrue, OnErr, Some};
-ghost use Rattle.exec_session.specs.Held.{held_lines};
+ghost use Rattle.std.specs.Prelude.{IfOk, IsTrue, OnErr};
 ghost use Rattle.exec_session.specs.Pending.{IsClear};
-ghost use Rattle.exec_session.specs.Runs.{MayRest};
-ghost use Rattle.exec_session.specs.declared.held.Held.TheVariants.{Leave};
 
 use crate::gathered::Gathered;
 use crate::held::Held;
@@ -36,14 +33,6 @@ impl Pending {
             gathered,
             held: None,
         })
-    }
-
-    /// Whether the line that is held asks for the end of the session.
-    pub fn is_leaving(&self) -> bool
-        ensures leaves { IsTrue result → self.now.held ≡ Some Leave }
-        ensures rests { result ≡ false → MayRest (held_lines self.now.held) }
-    {
-        matches!(self.held, Some(Held::Leave))
     }
 }
 

@@ -1,16 +1,14 @@
 //! Tidies that a session makes by itself.
-ghost use Rattle.std.specs.Prelude.{◌≡◌, ◌≤◌, ◌+◌, ◌/◌, ◌^◌, [], true};
+ghost use Rattle.std.specs.Prelude.{◌≡◌, ◌≤◌, ◌+◌, ◌/◌, ◌^◌, true};
 ghost use Rattle.store_model.specs.Calls.{tail_after};
 ghost use Rattle.executor.specs.TidyCalls.{TidiesWhile};
-ghost use Rattle.exec_client.specs.MaySend.{IsBacked};
-ghost use Rattle.exec_session.specs.Rules.{MakesRoom, is_at_leisure, is_monitor_due, is_tidy_due, rules_of};
+ghost use Rattle.session_machine.specs.Room.{MakesRoom, is_at_leisure, is_monitor_due, is_tidy_due};
 
-use crate::context::SessionContext;
+use crate::pace::Pace;
 use child_model::Children;
 use executor::On;
 use ocf_types::{EVENT_LIMIT, PART_LIMIT, RESERVE, TidyEnd};
-use std::rt::Clock;
-use std::time::Instant;
+use session_machine::{Edge, Rules};
 use store_model::Store;
 
 // The least gain of a tidy, in bytes: a quarter of a part. One that gains less waits until the tail has grown by that much.
@@ -22,6 +20,9 @@ const SECOND_MARK: u64 = PART_LIMIT - RESERVE - 70 * EVENT_LIMIT as u64;
 
 // The size of a piece of a tidy, in bytes. Each piece is synced.
 const PIECE: u64 = 4_096;
+
+// The microseconds in a millisecond.
+const MILLI: u64 = 1_000;
 
 // At least as many pieces as a tidy would write, and at most one more.
 fn pieces<S: Store + Drop, C: Children + Drop>(executor: &On<S, C>) -> u64
@@ -58,17 +59,17 @@ fn is_at_leisure<S: Store + Drop, C: Children + Drop>(
 
 // Whether the tail is past the first mark and a tidy is worthwhile, and either nothing would wait for it or the tail is past the second
 // mark.
-fn is_tidy_due<S: Store + Drop, C: Children + Drop, M>(
-    context: &SessionContext<M>,
+fn is_tidy_due<S: Store + Drop, C: Children + Drop>(
+    rules: Rules,
     executor: &On<S, C>,
     now: u64,
     pace: u64,
 ) -> bool
     requires pace { pace ≤ 1000 }
-    ensures { result ≡ is_tidy_due S.view (rules_of context.now) executor.now now pace }
+    ensures { result ≡ is_tidy_due S.view rules.entry executor.now now pace }
 {
     let tail = executor.tail();
-    if context.tidy_at == 0 || tail <= context.tidy_at {
+    if rules.tidy_at == 0 || tail <= rules.tidy_at {
         return false;
     }
     if tail.saturating_sub(executor.tidied_tail()) < WORTHWHILE {
@@ -77,45 +78,36 @@ fn is_tidy_due<S: Store + Drop, C: Children + Drop, M>(
     SECOND_MARK < tail || is_at_leisure(executor, now, pace * pieces(executor))
 }
 
-// The milliseconds since then; 0 where the clock fails.
-fn millis_since(clock: &impl Clock, then: Option<Instant>) -> u64 {
-    match then.map(|then| then.elapsed(clock)) {
-        Some(Ok(passed)) => u64::try_from(passed.as_millis()).unwrap_or(u64::MAX),
-        _ => 0,
-    }
-}
-
 /// Tidies the store, and records how long a piece of that took.
-pub fn tidy_timed<S: Store + Drop, C: Children + Drop, K: Clock, M>(
-    context: &SessionContext<M>,
-    clock: &K,
-    executor: &mut On<S, C>,
+pub fn tidy_timed<E: Edge + Drop>(
+    edge: &E,
+    pace: &mut Pace,
+    executor: &mut On<E::Store, E::Children>,
 ) -> TidyEnd
-    ensures tidies { TidiesWhile executor.old.is_open S.view executor.old executor.new result }
+    ensures tidies { TidiesWhile executor.old.is_open E.Store.view executor.old executor.new result }
 {
     let pieces = pieces(executor);
-    let start = Instant::now(clock).ok();
+    let begun = edge.micros();
     let end = executor.tidy();
-    context.pace.took(millis_since(clock, start), pieces);
+    pace.took(edge.micros().saturating_sub(begun) / MILLI, pieces);
     end
 }
 
 /// Tidies the store if that is due at this time. Whether the executor is open then: a fault of the device closes it.
-pub fn make_room<S: Store + Drop, C: Children + Drop, K: Clock, M>(
-    context: &SessionContext<M>,
-    clock: &K,
-    executor: &mut On<S, C>,
+pub fn make_room<E: Edge + Drop>(
+    edge: &E,
+    pace: &mut Pace,
+    executor: &mut On<E::Store, E::Children>,
     now: u64,
 ) -> bool
     requires open { executor.old.is_open ≡ true }
-    ensures holds { IsBacked S.view executor.old executor.new [] }
-    ensures makes { MakesRoom S.view (rules_of context.now) now executor.old executor.new }
+    ensures makes { MakesRoom E.Store.view
+        (E.trace edge.now).state.rules now executor.old executor.new }
     ensures value { result ≡ executor.new.is_open }
 {
-    let pace = context.pace.each();
-    if !is_tidy_due(context, executor, now, pace) {
+    if !is_tidy_due(edge.rules(), executor, now, pace.each()) {
         return true;
     }
-    tidy_timed(context, clock, executor);
+    tidy_timed(edge, pace, executor);
     executor.is_open()
 }

@@ -1,90 +1,70 @@
-//! Messages that acknowledge no command, the report of an opening, and the line that a session is ready.
-ghost use Rattle.std.specs.Prelude.{◌≡◌, [], ◌∷◌, false};
-ghost use Rattle.exec_client.specs.BackedBy.{claims};
-ghost use Rattle.exec_client.specs.MaySend.{MayReply, IsOfView, IsBacked};
-ghost use Rattle.exec_client.specs.SentItem.{Answered, sent_in};
-ghost use Rattle.exec_session.specs.Reports.{IsReportOf, ReadyBreaks, ReportBreaks, SendsReady, SendsReport, counts_of, ended};
-ghost use Rattle.exec_session.specs.Steps.{Sends, Steps};
+//! Messages that a session sends.
+ghost use Rattle.std.specs.Prelude.{◌≡◌, [], IfOk, OnOk, true};
+ghost use Rattle.exec_client.specs.MessageView.{Reply as ReplyTo, message_view};
+ghost use Rattle.session_machine.specs.After.{reading};
+ghost use Rattle.session_machine.specs.May.{IsDue};
+ghost use Rattle.session_machine.specs.Session.{counts_of, ended_by, lines_in};
+ghost use Rattle.exec_session.specs.Standing.{Flows, Sends, Steps};
+ghost use Rattle.exec_session.specs.declared.flow.Flow.TheVariants.{GoesOn};
+ghost use Rattle.exec_session.specs.Steps.{HasBegun, IsOpening, IsReportOf};
 
-use crate::context::{Mode, SessionContext};
-use crate::worker::Worker;
-use child_model::Children;
-use exec_client::{Client, Message};
-use exec_commands::{Counts, LineReply, NoticeForm};
-use exec_lines::Input;
-use exec_trace::Failed;
+use crate::flow::Flow;
+use crate::session::Session;
+use exec_client::Message;
+use exec_commands::{Counts, LineReply};
 use executor::Report;
 use ocf_types::{StateView, TurnEnd};
-use std::rt::Clock;
-use store_model::Store;
+use session_machine::{Edge, Failed, Mode};
 
-impl<'a, R: Input, S: Store + Drop, C: Children + Drop, T: Client<S, C>, K: Clock> Worker<
-    'a,
-    R,
-    S,
-    C,
-    T,
-    K,
-> {
-    /// Sends a message that acknowledges no command and reports no new result; notices in this form.
-    pub fn send(&mut self, form: NoticeForm, what: &Message) -> Result<(), Failed>
-        requires holds { IsBacked S.view self.old.at.executor self.old.at.executor
-            (sent_in what.now) }
-        requires says { IsOfView self.old.at.executor what.now }
-        ensures sends { Sends form.entry (sent_in what.now) self.old self.new result }
+impl<E: Edge + Drop> Session<E> {
+    /// Sends the message that is next.
+    pub fn send(&mut self, what: &Message) -> Result<(), Failed>
+        requires due { IsDue self.old.trace.state self.old.trace.state.at (message_view what.now) }
+        ensures steps { Steps self.old self.new result }
+        ensures sent { OnOk result (Sends self.old.trace self.new.trace (message_view what.now)) }
     {
-        self.edge.send(&self.executor, form, what)
+        self.edge.send(&self.executor, what)
     }
 
-    /// Sends a reply that acknowledges no command. A status in it is that of the executor's state.
-    pub fn send_reply<M>(
-        &mut self,
-        context: &SessionContext<M>,
-        reply: &LineReply,
-    ) -> Result<(), Failed>
-        requires plain { claims (Answered reply.now) ≡ false }
-        requires says { MayReply self.old.at.executor reply.now }
-        ensures sends { Sends context.now.form (Answered reply.now ∷ []) self.old self.new result }
+    /// Sends the reply to the only line that is not answered.
+    pub fn reply(&mut self, reply: &LineReply) -> Result<(), Failed>
+        requires due { IsDue self.old.trace.state self.old.trace.state.at (ReplyTo reply.now) }
+        ensures steps { Steps self.old self.new result }
+        ensures sent { OnOk result (Sends self.old.trace self.new.trace (ReplyTo reply.now)) }
     {
-        self.send(context.form, &Message::Reply(reply))
-    }
-
-    // Sends a line that replies to none and acknowledges no command. A count in it is that of the executor's state.
-    fn send_aside<M>(&mut self, context: &SessionContext<M>, news: &LineReply) -> Result<(), Failed>
-        requires plain { claims (Answered news.now) ≡ false }
-        requires says { MayReply self.old.at.executor news.now }
-        ensures sends { Sends context.now.form (Answered news.now ∷ []) self.old self.new result }
-    {
-        self.send(context.form, &Message::News(news))
+        self.send(&Message::Reply(reply))
     }
 
     /// Sends the line that says how a turn ended.
-    pub fn send_end<M>(&mut self, context: &SessionContext<M>, end: TurnEnd) -> Result<(), Failed>
-        ensures sends { Sends context.now.form (ended end ∷ []) self.old self.new result }
+    pub fn send_end(&mut self, end: TurnEnd) -> Result<(), Failed>
+        requires due { IsDue self.old.trace.state self.old.trace.state.at (ended_by end) }
+        ensures steps { Steps self.old self.new result }
+        ensures sent { OnOk result (Sends self.old.trace self.new.trace (ended_by end)) }
     {
-        self.send_aside(context, &LineReply::Trouble(end))
+        self.send(&Message::News(&LineReply::Trouble(end)))
     }
 
-    /// Sends the report of an opening: the interrupted actions, and then the dropped ones.
-    pub fn send_report<M>(
-        &mut self,
-        context: &SessionContext<M>,
-        report: &Report,
-    ) -> Result<(), Failed>
-        requires opening_report { IsReportOf self.old.at.executor report.now }
-        ensures reported { Steps (SendsReport context.now.form report.now self.old.at)
-            (ReportBreaks context.now.form report.now self.old.at) self.old self.new result }
+    /// How the session goes on, given whether the input has ended. In `serve` a disk fault that closed the executor ends it, with the line of that
+    /// fault.
+    pub fn flow(&mut self, has_ended: bool) -> Result<Flow, Failed>
+        requires at { self.old.trace.state.at ≡ reading self.old.trace.state }
+        requires ended { self.old.trace.state.ended ≡ has_ended }
+        requires none { has_ended ≡ true → lines_in self.old.trace.state ≡ [] }
+        ensures steps { Steps self.old self.new result }
+        ensures flows { IfOk result (λ flow. Flows flow self.new.trace.state) }
+        ensures same { IfOk result (λ flow. flow ≡ GoesOn → self.new.trace ≡ self.old.trace) }
     {
-        let interrupted = Message::Report(report.interrupted.as_slice());
-        self.send(context.form, &interrupted)?;
-        let dropped = Message::Report(report.dropped.as_slice());
-        self.send(context.form, &dropped)
+        if self.edge.rules().mode == Mode::Serve && !self.executor.is_open() {
+            self.send_end(TurnEnd::Disk)?;
+            return Ok(Flow::Over);
+        }
+        Ok(if has_ended { Flow::Over } else { Flow::GoesOn })
     }
 
     // The number of resources that are registered, and of lines of the report, and the next call.
     fn counts(&self, report: &Report) -> Counts
-        requires opening_report { IsReportOf self.now.at.executor report.now }
-        ensures { result ≡ counts_of self.now.at.executor }
+        requires opening_report { IsReportOf self.now.trace.state.executor report.now }
+        ensures { result ≡ counts_of self.now.trace.state.executor }
     {
         Counts {
             resources: self.executor.state().len(),
@@ -94,21 +74,20 @@ impl<'a, R: Input, S: Store + Drop, C: Children + Drop, T: Client<S, C>, K: Cloc
         }
     }
 
-    /// Sends the line that a session in `serve` is ready; `run` has no such line.
-    pub fn send_ready<M>(
-        &mut self,
-        context: &SessionContext<M>,
-        report: &Report,
-    ) -> Result<(), Failed>
-        requires opening_report { IsReportOf self.old.at.executor report.now }
-        ensures reported { Steps (SendsReady context.now.mode context.now.form self.old.at)
-            (ReadyBreaks context.now.mode context.now.form self.old.at) self.old self.new result }
+    /// Sends the report of the opening: the interrupted actions, and then the dropped ones; and in `serve` that the session is ready.
+    pub fn send_report(&mut self, report: &Report) -> Result<(), Failed>
+        requires begun { IsOpening self.old.trace }
+        requires opening_report { IsReportOf self.old.trace.state.executor report.now }
+        ensures steps { Steps self.old self.new result }
+        ensures begun { OnOk result (HasBegun self.old.trace self.new.trace) }
     {
-        match context.mode {
+        self.send(&Message::Report(report.interrupted.as_slice()))?;
+        self.send(&Message::Report(report.dropped.as_slice()))?;
+        match self.edge.rules().mode {
             Mode::Run => Ok(()),
             Mode::Serve => {
-                let counts = self.counts(report);
-                self.send_aside(context, &LineReply::Ready(counts))
+                let ready = LineReply::Ready(self.counts(report));
+                self.send(&Message::News(&ready))
             }
         }
     }

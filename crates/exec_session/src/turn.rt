@@ -1,96 +1,101 @@
-//! One turn, with its notices.
-ghost use Rattle.std.specs.Prelude.{◌≡◌, ◌<◌, length, true, IsTrue, Some};
-ghost use Rattle.exec_session.specs.Breaks.{OwnTurnBreaks};
-ghost use Rattle.exec_session.specs.Broken.{TurnBreaks};
-ghost use Rattle.exec_session.specs.Drains.{MakesTurn};
-ghost use Rattle.exec_session.specs.Rules.{rules_of};
-ghost use Rattle.exec_session.specs.Runs.{IsNews, MakesOwnTurn, NewsSo};
-ghost use Rattle.exec_session.specs.SessionViews.{SendsAll, SendsPart};
-ghost use Rattle.exec_session.specs.Steps.{Steps, StepsTo};
-ghost use Rattle.exec_trace.specs.Events.{last_shown};
+//! Turns of a session.
+ghost use Rattle.std.specs.Prelude.{◌≡◌, ◌≢◌, [], ◌∷◌, if◌then◌else◌, false, IfOk, MatchOption, OnErr, OnOk, Some, true};
+ghost use Rattle.ocf_types.specs.declared.reply.TurnEnd.TheVariants.{Disk};
+ghost use Rattle.session_machine.specs.After.{news_of, notices_of, reading};
+ghost use Rattle.session_machine.specs.Behaviours.{HasBroken};
+ghost use Rattle.session_machine.specs.May.{IsDue, IsOwnTurn, IsTurnDue};
+ghost use Rattle.session_machine.specs.Session.{Reading, ReadsOn, Sending, ended_by};
+ghost use Rattle.exec_session.specs.Standing.{Flows, KnowsTurn, Lasts, SameRest, Sends, Steps};
+ghost use Rattle.exec_session.specs.declared.flow.Flow.TheVariants.{GoesOn};
+ghost use Rattle.exec_session.specs.Steps.{HasTurned, MakesOwnTurn, OnlySends};
 
-use crate::context::SessionContext;
-use crate::pause::Pause;
+use crate::flow::Flow;
 use crate::room::make_room;
-use crate::worker::Worker;
-use child_model::Children;
-use exec_client::{Client, Message, TurnNotices};
-use exec_lines::Input;
-use exec_trace::Failed;
+use crate::session::Session;
+use exec_client::{Message, TurnNotices};
 use ocf_types::TurnEnd;
-use std::rt::Clock;
-use store_model::Store;
+use session_machine::{Edge, Failed};
 
 // Whether the end of an own turn is news.
 fn is_news(before: TurnEnd, end: TurnEnd) -> bool
-    ensures news { IsTrue result → IsNews before end }
-    ensures none { IsNews before end → IsTrue result }
+    ensures news { news_of before end ≡ if result then ended_by end ∷ [] else [] }
 {
     end != before && end != TurnEnd::Done && end != TurnEnd::Disk
 }
 
-impl<'a, R: Input, S: Store + Drop, C: Children + Drop, T: Client<S, C>, K: Clock> Worker<
-    'a,
-    R,
-    S,
-    C,
-    T,
-    K,
-> {
-    /// Tidies if that is due, then makes a turn at this time, the last clock reading, and sends its notices. If the disk fails in the
-    /// tidy, there is no turn.
-    pub fn make_turn<M>(&mut self, context: &SessionContext<M>, now: u64) -> Result<TurnEnd, Failed>
-        requires open { self.old.at.executor.is_open ≡ true }
-        requires shown { last_shown self.old.at.events ≡ Some now }
-        ensures made { StepsTo (λ end q. MakesTurn S.view (rules_of context.now) now self.old.at q end)
-            (TurnBreaks S.view (rules_of context.now) now self.old.at) self.old self.new result }
+impl<E: Edge + Drop> Session<E> {
+    /// Tidies if that is due, then has the executor make a turn at this time, the last clock reading. `None`: the disk failed in the tidy,
+    /// and there is no turn.
+    pub fn turn(&mut self, now: u64) -> Option<TurnEnd>
+        requires open { self.old.trace.state.executor.is_open ≡ true }
+        requires shown { self.old.trace.state.shown ≡ Some now }
+        requires due { IsTurnDue self.old.trace.state self.old.trace.state.at now }
+        ensures rest { SameRest self.old self.new }
+        ensures turned { HasTurned self.old.trace self.new.trace result }
+        ensures stays_open { MatchOption result (self.new.trace.state.executor.is_open ≡ false)
+            (λ end. end ≢ Disk → self.new.trace.state.executor.is_open ≡ true) }
     {
         self.executor.clear_book();
-        if !make_room(context, self.edge.clock(), &mut self.executor, now) {
-            return Ok(TurnEnd::Disk);
+        if !make_room(&self.edge, &mut self.pace, &mut self.executor, now) {
+            self.edge.note_fault(&self.executor);
+            return None;
         }
         let end = self.executor.turn(now);
-        let turn = TurnNotices::of_executor(&self.executor);
-        self.edge
-            .send(&self.executor, context.form, &Message::Notices(turn))?;
-        Ok(end)
+        self.edge.note_turn(&self.executor, end);
+        Some(end)
     }
 
-    // Sends how an own turn ended, if that is news.
-    fn send_news<M>(
-        &mut self,
-        context: &SessionContext<M>,
-        before: TurnEnd,
-        end: TurnEnd,
-    ) -> Result<(), Failed>
-        ensures reported { Steps (NewsSo (SendsAll context.now.form) before end self.old.at)
-            (NewsSo (SendsPart context.now.form) before end self.old.at) self.old self.new result }
+    /// Sends the notices of the last turn.
+    pub fn send_notices(&mut self) -> Result<(), Failed>
+        requires due { IsDue self.old.trace.state self.old.trace.state.at
+            (notices_of self.old.trace.state.executor) }
+        ensures steps { Steps self.old self.new result }
+        ensures sent { OnOk result (Sends self.old.trace self.new.trace
+            (notices_of self.old.trace.state.executor)) }
     {
+        let notices = TurnNotices::of_executor(&self.executor);
+        self.edge.send(&self.executor, &Message::Notices(notices))
+    }
+
+    // Sends the notices of a turn that it made by itself, and how it ended if that is news, after one that ended like `before`.
+    fn send_turn(&mut self, before: TurnEnd, end: TurnEnd) -> Result<(), Failed>
+        requires at { self.old.trace.state.at
+            ≡ Sending (notices_of self.old.trace.state.executor ∷ news_of before end) ReadsOn }
+        ensures steps { Steps self.old self.new result }
+        ensures sends { OnOk result (OnlySends self.old.trace self.new.trace) }
+        ensures at { OnOk result (self.new.trace.state.at ≡ reading self.new.trace.state) }
+    {
+        self.send_notices()?;
         if is_news(before, end) {
-            self.send_end(context, end)
-        } else {
-            Ok(())
+            return self.send_end(end);
         }
+        Ok(())
     }
 
-    /// Makes a turn now, after an own one that ended like this, and sends how it ended if that is news.
-    pub fn make_own_turn<M>(
-        &mut self,
-        context: &SessionContext<M>,
-        pause: &mut Pause,
-        before: TurnEnd,
-    ) -> Result<TurnEnd, Failed>
-        requires open { self.old.at.executor.is_open ≡ true }
-        ensures longer { length self.old.at.events < length self.new.at.events }
-        ensures since { pause.new.since ≡ pause.old.since }
-        ensures made { StepsTo (λ end q. MakesOwnTurn S.view (rules_of context.now) before
-            pause.new.moment self.old.at q end)
-            (OwnTurnBreaks S.view (rules_of context.now) before self.old.at) self.old self.new result }
+    /// Makes a turn by itself, and sends its notices, and how it ended if that is news.
+    pub fn own_turn(&mut self) -> Result<Flow, Failed>
+        requires open { self.old.trace.state.executor.is_open ≡ true }
+        requires at { self.old.trace.state.at ≡ Reading }
+        requires goes_on { self.old.trace.state.ended ≡ false }
+        requires own { IsOwnTurn self.old.trace.state }
+        requires knows { KnowsTurn self.old }
+        ensures pending { self.new.pending ≡ self.old.pending }
+        ensures flows { IfOk result (λ flow. Flows flow self.new.trace.state) }
+        ensures made { IfOk result
+            (λ flow. flow ≡ GoesOn
+            → MakesOwnTurn self.old.trace self.new.trace × KnowsTurn self.new) }
+        ensures lasts { Lasts self.old.trace self.new.trace }
+        ensures broke { OnErr result (HasBroken self.new.trace) }
     {
-        let now = self.now();
-        pause.before_turn(self.clock(), now);
-        let end = self.make_turn(context, now)?;
-        self.send_news(context, before, end)?;
-        Ok(end)
+        let before = self.own_end;
+        let now = self.edge.now();
+        self.pause.before_turn(self.edge.micros(), now);
+        let Some(end) = self.turn(now) else {
+            return self.flow(false);
+        };
+        self.pause.after_turn(self.executor.book());
+        self.own_end = end;
+        self.send_turn(before, end)?;
+        self.flow(false)
     }
 }
