@@ -15,43 +15,36 @@ use Rattle.exec_options.specs.declared.options.Options.{Options}
 use Rattle.exec_faults.specs.Faults.{HasCause, IsRunEnd}
 use Rattle.exec_faults.specs.declared.fault.Fault.{Fault}
 use Rattle.exec_faults.specs.declared.fault.Fault.TheVariants as fault
-use Rattle.exec_trace.specs.Edges.{EdgeView}
-use Rattle.exec_session.specs.Answers.{Source}
-use Rattle.exec_session.specs.Rules.{Rules}
-use Rattle.exec_session.specs.SessionViews.{SessionPosition, session_position, session_view}
-use Rattle.exec_session.specs.Ends.{Ended, EndsAs}
+use Rattle.session_machine.specs.Behaviours.{Trace}
+use Rattle.exec_session.specs.Ends.{Ended, IsEnd}
 use Rattle.journal_directory.specs.Ends.{IsDirectoryEnd}
 use Rattle.exec_program.specs.Starts.{EndsFor, IsEndOf, IsWrittenAs, StartEndsFor, opening_fault, with_status}
 
 -- a session does not end because of its arguments
-ends : {S N T : Type 0} (view : S → StoreView) (source : Source) (rules : Rules) (report : Report N)
-    (p q : SessionPosition S) (r : Result T Fault)
-    → EndsAs view source rules report p q r → IsRunEnd r
-ends view source rules report p q (Ok done) how = tt
-ends view source rules report p q (Err fault.Usage) how = absurd how
-ends view source rules report p q (Err fault.Choice) how = absurd how
-ends view source rules report p q (Err fault.NotText) how = absurd how
-ends view source rules report p q (Err fault.Log) how = absurd how
-ends view source rules report p q (Err fault.NoResource) how = absurd how
-ends view source rules report p q (Err fault.NotOpened) how = absurd how
-ends view source rules report p q (Err fault.NoJournal) how = absurd how
-ends view source rules report p q (Err fault.NotExisting) how = absurd how
-ends view source rules report p q (Err fault.NotWell) how = absurd how
-ends view source rules report p q (Err (fault.Damaged damage)) how = tt
-ends view source rules report p q (Err fault.Memory) how = absurd how
-ends view source rules report p q (Err fault.Disk) how = tt
-ends view source rules report p q (Err fault.Full) how = tt
-ends view source rules report p q (Err fault.InputOrOutput) how = tt
-ends view source rules report p q (Err fault.ReplyMemory) how = tt
-ends view source rules report p q (Err fault.ChildrenIgnored) how = absurd how
-ends view source rules report p q (Err fault.NoExecutor) how = absurd how
-ends view source rules report p q (Err fault.Failed) how = absurd how
+ends : {S T : Type 0} (t : Trace S) (r : Result T Fault) → IsEnd t r → IsRunEnd r
+ends t (Ok done) how = tt
+ends t (Err fault.Usage) how = absurd how
+ends t (Err fault.Choice) how = absurd how
+ends t (Err fault.NotText) how = absurd how
+ends t (Err fault.Log) how = absurd how
+ends t (Err fault.NoResource) how = absurd how
+ends t (Err fault.NotOpened) how = absurd how
+ends t (Err fault.NoJournal) how = absurd how
+ends t (Err fault.NotExisting) how = absurd how
+ends t (Err fault.NotWell) how = absurd how
+ends t (Err (fault.Damaged damage)) how = absurd how
+ends t (Err fault.Memory) how = absurd how
+ends t (Err fault.Disk) how = tt
+ends t (Err fault.Full) how = absurd how
+ends t (Err fault.InputOrOutput) how = tt
+ends t (Err fault.ReplyMemory) how = tt
+ends t (Err fault.ChildrenIgnored) how = absurd how
+ends t (Err fault.NoExecutor) how = absurd how
+ends t (Err fault.Failed) how = absurd how
 
-pub run_ends : {S C N : Type 0} (view : S → StoreView) (tend : C → ChildrenView) (source : Source) (rules : Rules) (report : Report N)
-    (p : SessionPosition S) (edge : EdgeView S) (ended : Result Unit Fault) (store : S) (children : C)
-    → Ended view tend source rules report p edge ended store children → IsRunEnd ended
-run_ends view tend source rules report p edge ended store children ends_so =
-    ends view source rules report p (session_position (session_view ends_so.last edge.client_view edge.events) edge.left) ended ends_so.ends
+pub run_ends : {S C : Type 0} (view : S → StoreView) (tend : C → ChildrenView) (old new : Trace S) (ended : Result Unit Fault) (store : S) (children : C)
+    → Ended view tend old new ended store children → IsRunEnd ended
+run_ends view tend old new ended store children ends_so = ends new ended ends_so.is_end
 
 -- neither does one that ended as sessions do
 pub same_ends : {T : Type 0} (r s : Result T Fault) → r ≡ s → IsRunEnd s → IsRunEnd r

@@ -18,7 +18,8 @@ use Rattle.exec_options.specs.declared.options.Subcommand.TheVariants as subcomm
 use Rattle.exec_faults.specs.Faults.{HasCause}
 use Rattle.exec_faults.specs.declared.fault.Fault.{Fault}
 use Rattle.exec_faults.specs.declared.fault.Fault.TheVariants as fault
-use Rattle.exec_session.specs.Answers.{Source}
+use Rattle.exec_lines.specs.Inputs.{InputView}
+use Rattle.session_machine.specs.Starts.{Gives as MetadataGives, SourceView}
 use Rattle.exec_program.specs.Asked.{Asked}
 use Rattle.exec_program.specs.Runs.{RunsOn}
 use Rattle.exec_program.specs.Starts.{IsWrittenAs, with_status}
@@ -30,31 +31,31 @@ Looks asked o Memory ended = asked.shown o None ended
 
 -- How the program ends in `run` and `serve`, with agents that write to this log: over the files of the directory, which may not be there,
 -- or over a fresh disk in memory. Over a disk it ends for lack of memory only where the allocator refuses growths.
-abbrev pub RunsAt : {F L A S R W H : Type 0} → Bool → Asked F L A S R W H → (A → ChildrenView) → (S → Source)
-    → (R → Option (List ℕ)) → (W → Option (List ℕ)) → (F → DiskView) → Options → L → JournalLocation → Result Unit Fault → Type 0
-RunsAt {F} refuses asked tend gives left contents view o log (Directory directory) ended =
-    ((disk : F) × asked.files directory.now o.any_owner disk × RunsOn asked tend gives left contents view o log disk ended × IfErr ended (HasCause refuses))
+abbrev pub RunsAt : {F L A S R W H : Type 0} → Bool → Asked F L A S R W H → (A → ChildrenView) → (SourceView → MetadataGives)
+    → (R → InputView) → (W → Option (List ℕ)) → (F → DiskView) → Options → L → JournalLocation → Result Unit Fault → Type 0
+RunsAt {F} refuses asked tend gives input contents view o log (Directory directory) ended =
+    ((disk : F) × asked.files directory.now o.any_owner disk × RunsOn asked tend gives input contents view o log disk ended × IfErr ended (HasCause refuses))
     ⊎ ((f : Fault) × asked.no_files directory.now o.any_owner f × (ended ≡ Err f))
-RunsAt refuses asked tend gives left contents view o log Memory ended =
-    (disk : RamDisk Global) × IsFresh (record { a = []; b = [] }) disk × RunsOn asked tend gives left contents view_of o log disk ended
+RunsAt refuses asked tend gives input contents view o log Memory ended =
+    (disk : RamDisk Global) × IsFresh (record { a = []; b = [] }) disk × RunsOn asked tend gives input contents view_of o log disk ended
     × IfErr ended (HasCause refuses)
 
 -- the same where the end of an agent process would be seen, and agents write where the options say
-abbrev pub RunsFor : {F L A S R W H : Type 0} → Bool → Asked F L A S R W H → (A → ChildrenView) → (S → Source)
-    → (R → Option (List ℕ)) → (W → Option (List ℕ)) → (F → DiskView) → Options → Result Unit Fault → Type 0
-RunsFor {L = L} refuses asked tend gives left contents view o ended =
+abbrev pub RunsFor : {F L A S R W H : Type 0} → Bool → Asked F L A S R W H → (A → ChildrenView) → (SourceView → MetadataGives)
+    → (R → InputView) → (W → Option (List ℕ)) → (F → DiskView) → Options → Result Unit Fault → Type 0
+RunsFor {L = L} refuses asked tend gives input contents view o ended =
     ((ended ≡ Err fault.ChildrenIgnored) × asked.ignored true)
     ⊎ (((ended ≡ Err fault.Log) × ((is_some o.log || is_some o.logs) ≡ true)
     × asked.no_log (option_map (λ s. s.now) o.log) (option_map (λ s. s.now) o.logs))
     ⊎ ((log : L) × asked.ignored false × asked.log (option_map (λ s. s.now) o.log) (option_map (λ s. s.now) o.logs) log
-    × RunsAt refuses asked tend gives left contents view o log o.journal ended))
+    × RunsAt refuses asked tend gives input contents view o log o.journal ended))
 
 -- what a subcommand does with a journal, by these options
-abbrev pub DoesAs : {F L A S R W H : Type 0} → Bool → Asked F L A S R W H → (A → ChildrenView) → (S → Source)
-    → (R → Option (List ℕ)) → (W → Option (List ℕ)) → (F → DiskView) → Options → Subcommand → Result Unit Fault → Type 0
-DoesAs refuses asked tend gives left contents view o subcommand.Run ended = RunsFor refuses asked tend gives left contents view o ended
-DoesAs refuses asked tend gives left contents view o subcommand.Serve ended = RunsFor refuses asked tend gives left contents view o ended
-DoesAs refuses asked tend gives left contents view o _ ended = Looks asked o o.journal ended
+abbrev pub DoesAs : {F L A S R W H : Type 0} → Bool → Asked F L A S R W H → (A → ChildrenView) → (SourceView → MetadataGives)
+    → (R → InputView) → (W → Option (List ℕ)) → (F → DiskView) → Options → Subcommand → Result Unit Fault → Type 0
+DoesAs refuses asked tend gives input contents view o subcommand.Run ended = RunsFor refuses asked tend gives input contents view o ended
+DoesAs refuses asked tend gives input contents view o subcommand.Serve ended = RunsFor refuses asked tend gives input contents view o ended
+DoesAs refuses asked tend gives input contents view o _ ended = Looks asked o o.journal ended
 
 -- where arguments give no options and a text answers them, that text is printed
 abbrev pub Prints : {F L A S R W H : Type 0} → Asked F L A S R W H → ArgumentsFault → Type 0
@@ -65,11 +66,11 @@ Prints asked _ = ⊤
 -- What the program does with these arguments, where the environment names this directory for a journal, and how it ends: with a journal;
 -- by one action, whose exit status it takes; or, where they give no options, with a text or a fault. The fault is lack of memory only
 -- where the allocator refuses growths.
-abbrev pub Does : {F L A S R W H : Type 0} → Bool → Asked F L A S R W H → (A → ChildrenView) → (S → Source)
-    → (R → Option (List ℕ)) → (W → Option (List ℕ)) → (F → DiskView) → Option (List ℕ) → List (List ℕ) → Result ℕ Fault → Type 0
-Does refuses asked tend gives left contents view named arguments ended =
+abbrev pub Does : {F L A S R W H : Type 0} → Bool → Asked F L A S R W H → (A → ChildrenView) → (SourceView → MetadataGives)
+    → (R → InputView) → (W → Option (List ℕ)) → (F → DiskView) → Option (List ℕ) → List (List ℕ) → Result ℕ Fault → Type 0
+Does refuses asked tend gives input contents view named arguments ended =
     ((o : Options) × Gives named arguments o
-    × ((r : Result Unit Fault) × DoesAs refuses asked tend gives left contents view o o.subcommand r × (ended ≡ with_status r)))
+    × ((r : Result Unit Fault) × DoesAs refuses asked tend gives input contents view o o.subcommand r × (ended ≡ with_status r)))
     ⊎ (((o : OnceOptions) × GivesOnce named arguments o × ((status : ℕ) × asked.once o status × (ended ≡ Ok status)))
     ⊎ ((f : ArgumentsFault) × IsFault named arguments f × (f ≡ arguments_fault.Memory → IsTrue refuses)
     × IsWrittenAs (is_once arguments) f ended × Prints asked f))

@@ -24,13 +24,16 @@ use Rattle.exec_options.specs.declared.options.Subcommand.{Subcommand}
 use Rattle.exec_options.specs.declared.options.Subcommand.TheVariants as subcommand
 use Rattle.exec_faults.specs.declared.fault.Fault.{Fault}
 use Rattle.exec_faults.specs.declared.fault.Fault.TheVariants as fault
-use Rattle.exec_session.specs.Answers.{Source}
 use Rattle.exec_session.specs.Ends.{Ended}
-use Rattle.exec_session.specs.Rules.{Rules}
-use Rattle.exec_session.specs.SessionViews.{at_of}
-use Rattle.exec_session.specs.declared.context.Mode.{Mode}
-use Rattle.exec_session.specs.declared.context.Mode.TheVariants as mode
-use Rattle.exec_trace.specs.Edges.{EdgeView}
+use Rattle.session_machine.specs.Behaviours.{opening}
+use Rattle.session_machine.specs.EdgeView.{EdgeView, IsFaithful}
+use Rattle.session_machine.specs.Starts.{Gives, SourceView, Start}
+use Rattle.session_machine.specs.First.{IsNew}
+use Rattle.session_machine.specs.declared.rules.Mode.{Mode}
+use Rattle.session_machine.specs.declared.rules.Mode.TheVariants as mode
+use Rattle.session_machine.specs.declared.rules.Rules.{Rules}
+use Rattle.exec_client.specs.ClientView.{ClientView}
+use Rattle.exec_lines.specs.Inputs.{InputView}
 use Rattle.exec_events.specs.Failures.{tell_failure}
 use Rattle.exec_program.specs.Asked.{AreFresh, Asked}
 use Rattle.exec_program.specs.Limits.{book_room, most_turns}
@@ -111,29 +114,41 @@ pub record PreparedRun {F L A S R W H : Type 0} (asked : Asked F L A S R W H) (t
   pub fresh : AreFresh book_room (tend agents)
   pub shown : asked.moment now
 
+-- A session over an executor that was just opened, which found this as it began, was held to these options. What happened is a behaviour
+-- that begins with the opening's report, and of which input, clock and source were asked as it says (`IsFaithful`); and it ended like this.
+pub record RunsSession {A T : Type 0} (tend : A → ChildrenView) (gives : SourceView → Gives) (view : T → StoreView) (o : Options)
+    (identity : Option (List ℕ)) (lives : List Left) (start : Start) (executor : ExecutorView T) (client : ClientView T) (edge : EdgeView T)
+    (ran : Result Unit Fault) (last_store : T) (last_agents : A) : Type 0 where
+  pub rules : Rules
+  pub held : IsHeldTo o identity lives rules
+  pub faithful : IsFaithful view gives edge
+  pub ends : Ended view tend (opening rules start executor client) edge.trace ran last_store last_agents
+
 -- The lines that this reader gives were answered over an executor that was just opened, where these processes live on, with metadata of
--- the options' site. The opening's report is the first output (`Ended`: `Runs`). The session ended like this, one of its messages told of a
--- failure or not, and it gave back this store and these agents.
-pub record RunsLines {F L A S R W H T : Type 0} (asked : Asked F L A S R W H) (tend : A → ChildrenView) (gives : S → Source)
-    (left : R → Option (List ℕ)) (contents : W → Option (List ℕ)) (view : T → StoreView) (o : Options) (reader : R) (lives : List Left)
-    (executor : ExecutorView T) (report : Report Global) (ran : Result Unit Fault) (failed : Bool) (last_store : T) (last_agents : A) : Type 0 where
+-- the options' site (`RunsSession`). The session ended like this, one of its messages told of a failure or not, and it gave back this store
+-- and these agents.
+pub record RunsLines {F L A S R W H T : Type 0} (asked : Asked F L A S R W H) (tend : A → ChildrenView) (gives : SourceView → Gives)
+    (input : R → InputView) (contents : W → Option (List ℕ)) (view : T → StoreView) (o : Options) (reader : R) (lives : List Left)
+    (executor : ExecutorView T) (ran : Result Unit Fault) (failed : Bool) (last_store : T) (last_agents : A) : Type 0 where
   pub source : S
   pub writer : W
   pub identity : Option (List ℕ)
-  pub rules : Rules
+  pub client : ClientView T
+  pub start : Start
   pub edge : EdgeView T
   pub of_journal : asked.identity (directory_of o.journal) identity
   pub of_site : asked.source (site_of o) (not o.no_groups) source
   pub writes : asked.writer (served_directory o) writer
-  pub held : IsHeldTo o identity lives rules
-  pub runs : Ended view tend (gives source) rules report
-      (at_of executor (record { left = left reader; client_view = record { opened = executor; reported = []; written = contents writer }; events = [] }))
-      edge ran last_store last_agents
-  pub fails : failed ≡ tell_failure edge.client_view.reported
+  pub new : IsNew client executor
+  pub written : client.written ≡ contents writer
+  pub reads : start.input ≡ input reader
+  pub asks : start.source ≡ record { site = site_of o; groups = not o.no_groups }
+  pub runs : RunsSession tend gives view o identity lives start executor client edge ran last_store last_agents
+  pub fails : failed ≡ tell_failure edge.trace.state.client.reported
 
 -- An executor was opened over this disk, at the site that the options name, and the session that began then ended like this.
-pub record Runs {F L A S R W H D : Type 0} (asked : Asked F L A S R W H) (tend : A → ChildrenView) (gives : S → Source)
-    (left : R → Option (List ℕ)) (contents : W → Option (List ℕ)) (view : D → DiskView) (o : Options) (log : L) (disk : D)
+pub record Runs {F L A S R W H D : Type 0} (asked : Asked F L A S R W H) (tend : A → ChildrenView) (gives : SourceView → Gives)
+    (input : R → InputView) (contents : W → Option (List ℕ)) (view : D → DiskView) (o : Options) (log : L) (disk : D)
     (ended : Result Unit Fault) : Type 0 where
   pub agents : A
   pub reader : R
@@ -151,7 +166,7 @@ pub record Runs {F L A S R W H D : Type 0} (asked : Asked F L A S R W H) (tend :
   pub at_site : executor.site ≡ site_of o
   pub reads : asked.reader reader
   pub watches : asked.watch (served_directory o) watch
-  pub lines : RunsLines asked tend gives left contents (store_view view) o reader lives executor report ran failed last_store last_agents
+  pub lines : RunsLines asked tend gives input contents (store_view view) o reader lives executor ran failed last_store last_agents
   pub ends : EndsBy asked o watch (judged o failed ran) ended
 
 -- No executor was opened over this disk, for this cause.
@@ -169,7 +184,7 @@ pub record RunsNot {F L A S R W H D : Type 0} (asked : Asked F L A S R W H) (ten
 
 -- How the program ends over a disk: with a session; because no executor was opened; or for lack of memory before the disk was asked for
 -- anything.
-abbrev pub RunsOn : {F L A S R W H D : Type 0} → Asked F L A S R W H → (A → ChildrenView) → (S → Source)
-    → (R → Option (List ℕ)) → (W → Option (List ℕ)) → (D → DiskView) → Options → L → D → Result Unit Fault → Type 0
-RunsOn asked tend gives left contents view o log disk ended =
-    Runs asked tend gives left contents view o log disk ended ⊎ (RunsNot asked tend view o log disk ended ⊎ (ended ≡ Err fault.Memory))
+abbrev pub RunsOn : {F L A S R W H D : Type 0} → Asked F L A S R W H → (A → ChildrenView) → (SourceView → Gives)
+    → (R → InputView) → (W → Option (List ℕ)) → (D → DiskView) → Options → L → D → Result Unit Fault → Type 0
+RunsOn asked tend gives input contents view o log disk ended =
+    Runs asked tend gives input contents view o log disk ended ⊎ (RunsNot asked tend view o log disk ended ⊎ (ended ≡ Err fault.Memory))

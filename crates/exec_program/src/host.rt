@@ -15,10 +15,10 @@ use exec_commands::{JournalId, Left};
 use exec_faults::Fault;
 use exec_lines::{Input, Output};
 use exec_options::{OnceOptions, Options};
-use exec_session::Metadata;
 use file_disk::{FileError, ReportsError};
 use growth::{GROWTH_LIMIT, Grows};
 use ocf_env::Site;
+use session_machine::Metadata;
 use std::alloc::{AllocError, Global};
 use std::io::{self, Write};
 use std::rt::Clock;
@@ -115,7 +115,8 @@ pub trait Host {
     /// The metadata of the agents of this site, each of which runs in a session and process group of its own, or not.
     fn source(&self, site: Site, groups: bool) -> Self::Source
         requires { may self.now (AskSite site groups) }
-        ensures { (asked self.now).source site groups result };
+        ensures asked { (asked self.now).source site groups result }
+        ensures of { Self.Source.of result ≡ record { site = site; groups = groups } };
 
     /// Stops asking agents for metadata.
     fn give_up(&self, source: Self::Source);

@@ -2,25 +2,26 @@
 ghost use Rattle.std.specs.Prelude.{◌≡◌, ℕ, true, List, Some, IfErr};
 ghost use Rattle.exec_options.specs.Arguments.{directory_of};
 ghost use Rattle.exec_faults.specs.Faults.{HasCause, IsRunEnd};
-ghost use Rattle.exec_session.specs.Reports.{IsReportOf};
-ghost use Rattle.exec_program.specs.Requests.{Allows, IsOfRun, RecordMoment};
-ghost use Rattle.exec_program.specs.Runs.{RunsLines};
+ghost use Rattle.session_machine.specs.First.{IsNew};
+ghost use Rattle.exec_session.specs.Steps.{IsReportOf};
+ghost use Rattle.exec_program.specs.Requests.{Allows, IsOfRun, OpenWriter, RecordMoment};
+ghost use Rattle.exec_program.specs.Runs.{RunsLines, RunsSession, found_identity, served_directory};
 ghost use Rattle.exec_program.specs.Starts.{site_of};
 
 use crate::host::Host;
-use crate::options::{Findings, context_of, events_of, served_directory};
+use crate::options::{Findings, events_of, rules_of, served_directory};
 use crate::upkeep::directory_of;
-use exec_client::JsonClient;
+use exec_client::{Client, JsonClient};
 use exec_commands::Left;
 use exec_events::{Eventful, Strict};
 use exec_faults::Fault;
-use exec_lines::{SessionClock, moment_now};
+use exec_lines::{ClockTicker, SessionClock, Ticker, moment_now};
 use exec_options::{JournalLocation, Options};
 use exec_session::{LineRoom, Run, run_lines};
-use exec_trace::Edge;
 use executor::{On, Report};
 use growth::Grows;
 use ocf_env::Site;
+use session_machine::{EdgeParts, SystemEdge};
 use std::alloc::Global;
 use store_model::Store;
 
@@ -47,6 +48,13 @@ pub struct LinesEnd<S: Drop, C: Drop> {
     pub children: C,
 }
 
+// The client of a session that the options ask for.
+type OptionsClient<H: Host, S> = Strict<
+    S,
+    H::Agents,
+    Eventful<JsonClient<On<S, H::Agents>, H::Writer, H::Reasons>, H::Errors>,
+>;
+
 // Records the moment that the clock of a session shows, where that is ahead of the system's clock because the journal was; the record of
 // agents was made by the system's clock.
 #[tactic(auto, using(crate::proofs::RequestLemmas::names_directory))]
@@ -59,6 +67,57 @@ fn record_moment<H: Host>(host: &H, options: Options, moment: u64)
             host.record_moment(directory, moment);
         }
     }
+}
+
+// The client of a session: standard output, with the lines about results on standard error, and whether any of them told of a failure.
+fn client_of<H: Host, S: Store + Drop>(
+    host: &H,
+    options: Options,
+    executor: &On<S, H::Agents>,
+) -> OptionsClient<H, S>
+    requires open { executor.now.is_open ≡ true }
+    requires may { H.may host.now (OpenWriter (served_directory options)) }
+    ensures new { IsNew result executor.now }
+    ensures writes { (writer : H.Writer)
+        × (H.asked host.now).writer (served_directory options.entry) writer
+        × (result.written ≡ H.Writer.contents writer) }
+{
+    let alloc = host.alloc();
+    let json_client = JsonClient::new(
+        alloc,
+        host.writer(served_directory(options)),
+        host.reasons(options.log, options.logs),
+        executor,
+    );
+    let client = Eventful::new(alloc, json_client, host.errors(), events_of(host, options));
+    Strict::new(client)
+}
+
+// Answers the lines of this input over an executor that was just opened, where the opening found this.
+fn run_over<'a, H: Host, S: Store + Drop, T: Client<S, H::Agents> + Drop, K: Ticker + Drop>(
+    alloc: Global,
+    options: Options<'a>,
+    found: Findings<'a>,
+    parts: EdgeParts<'a, H::Reader, T, K, H::Source>,
+    opened: (On<S, H::Agents>, Report),
+    room: LineRoom,
+) -> Run<SystemEdge<'a, H::Reader, S, H::Agents, T, K, H::Source>>
+    requires new { IsNew (T.client_view parts.client) opened.0 }
+    requires opening_report { IsReportOf opened.0 opened.1 }
+    ensures runs { RunsSession H.Agents.view H.Source.gives S.view options.entry
+        (found_identity found.entry) found.entry.left.now
+        (record {
+          input = H.Reader.view parts.entry.input;
+          ticks = K.asked parts.entry.ticker;
+          source = H.Source.of parts.entry.source.now;
+        })
+        opened.0 (T.client_view parts.entry.client) result.edge result.ended result.store result.children }
+    ensures memory { IfErr result.ended (HasCause T.refuses) }
+{
+    let edge = SystemEdge::new(alloc, rules_of(options, found), parts, &opened.0);
+    let run = run_lines(alloc, edge, opened, room);
+    run.edge.lemma_faithful();
+    run
 }
 
 /// Sends the report of an executor that was just opened, and answers the lines of standard input.
@@ -74,8 +133,8 @@ pub fn answer_lines<H: Host, S: Store + Drop>(
     requires opening_report { IsReportOf opened.0 opened.1 }
     requires may { Allows (H.may host.now) (IsOfRun (H.asked host.now) options) }
     ensures ends { IsRunEnd result.ended }
-    ensures runs { RunsLines (H.asked host.now) H.Agents.view H.Source.gives H.Reader.remaining H.Writer.contents S.view
-        options.entry parts.reader parts.left.items opened.0 opened.1 result.ended result.has_failed result.store result.children }
+    ensures runs { RunsLines (H.asked host.now) H.Agents.view H.Source.gives H.Reader.view H.Writer.contents S.view
+        options.entry parts.reader parts.left.items opened.0 result.ended result.has_failed result.store result.children }
     ensures memory { IfErr result.ended (HasCause ⟦<Global as Grows>⟧.refuses) }
 {
     let LineParts {
@@ -95,25 +154,21 @@ pub fn answer_lines<H: Host, S: Store + Drop>(
         identity: identity.as_ref(),
         left: left.as_slice(),
     };
-    let context = context_of(alloc, options, &source, found);
-    let json_client = JsonClient::new(
-        alloc,
-        host.writer(served_directory(options)),
-        host.reasons(options.log, options.logs),
-        &executor,
-    );
-    let client = Eventful::new(alloc, json_client, host.errors(), events_of(host, options));
-    let strict = Strict::new(client);
-    let edge = Edge::new(reader, strict, &clock);
-    let run = run_lines(&context, edge, (executor, report), room);
-    host.give_up(source);
+    let parts = EdgeParts {
+        input: reader,
+        client: client_of(host, options, &executor),
+        ticker: ClockTicker::new(clock),
+        source: &source,
+    };
+    let run = run_over::<H, S, _, _>(alloc, options, found, parts, (executor, report), room);
     let Run {
         ended,
         edge,
         store,
         children,
     } = run;
-    let (_, client, _) = edge.into_parts();
+    let (_, client) = edge.into_parts();
+    host.give_up(source);
     LinesEnd {
         ended,
         has_failed: client.has_failed(),

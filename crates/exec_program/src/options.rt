@@ -1,14 +1,13 @@
 //! What the options set for a session.
 ghost use Rattle.std.specs.Prelude.{◌≡◌, option_map};
 ghost use Rattle.exec_program.specs.Runs.{IsHeldTo, found_identity, served_directory, service_in, service_of, way_of};
-ghost use Rattle.exec_session.specs.Rules.{rules_of};
 
 use crate::host::Host;
 use crate::limits::MOST_TURNS;
 use exec_commands::{JournalId, Left, NoticeForm, Service};
 use exec_events::Events;
 use exec_options::{JournalLocation, Options, Subcommand, VERSION};
-use exec_session::{Mode, Pace, SessionContext};
+use session_machine::{Mode, Rules};
 use std::alloc::Global;
 
 // The mode of the session that this subcommand asks for.
@@ -61,24 +60,15 @@ fn form_of<'a>(options: Options<'a>, found: Findings<'a>) -> NoticeForm<'a>
     }
 }
 
-/// The context of a session after an opening that found this.
-pub fn context_of<'a, M>(
-    alloc: Global,
-    options: Options<'a>,
-    metadata: &'a M,
-    found: Findings<'a>,
-) -> SessionContext<'a, M>
-    ensures held { IsHeldTo options.entry (found_identity found.entry) found.entry.left.now (rules_of result) }
-    ensures metadata { result.metadata.now ≡ metadata.now }
+/// The rules of a session after an opening that found this.
+pub fn rules_of<'a>(options: Options<'a>, found: Findings<'a>) -> Rules<'a>
+    ensures held { IsHeldTo options.entry (found_identity found.entry) found.entry.left.now result }
 {
-    SessionContext {
-        alloc,
-        metadata,
+    Rules {
         mode: way_of(options.subcommand),
         form: form_of(options, found),
         most_turns: MOST_TURNS,
         tidy_at: options.tidy_at,
-        pace: Pace::new(),
     }
 }
 

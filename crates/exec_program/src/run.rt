@@ -70,7 +70,7 @@ pub fn serve_agents<H: Host, D: Disk + ReportsError + Drop>(
         (option_map (λ s. s.now) options.logs) log }
     requires may { Allows (H.may host.now) (IsOfRun (H.asked host.now) options) }
     ensures ends { IsRunEnd result }
-    ensures runs { RunsOn (H.asked host.now) H.Agents.view H.Source.gives H.Reader.remaining H.Writer.contents
+    ensures runs { RunsOn (H.asked host.now) H.Agents.view H.Source.gives H.Reader.view H.Writer.contents
         D.view options.entry log disk result }
     ensures memory { IfErr result (HasCause ⟦<Global as Grows>⟧.refuses) }
 {

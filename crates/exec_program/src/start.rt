@@ -75,7 +75,7 @@ pub fn program<H: Host>(host: &H, named: Option<&str>, arguments: &[String]) -> 
     requires may { Allows (H.may host.now) (IsAskedFor (H.asked host.now)
         (option_map (λ s. s.now) named) (map string_bytes arguments.now)) }
     ensures ends { StartEndsFor (option_map (λ s. s.now) named.entry) (map string_bytes arguments.now) result }
-    ensures does { Does ⟦<Global as Grows>⟧.refuses (H.asked host.now) H.Agents.view H.Source.gives H.Reader.remaining H.Writer.contents
+    ensures does { Does ⟦<Global as Grows>⟧.refuses (H.asked host.now) H.Agents.view H.Source.gives H.Reader.view H.Writer.contents
         H.Files.view (option_map (λ s. s.now) named.entry) (map string_bytes arguments.now) result }
 {
     match read_arguments(host.alloc(), named, arguments) {
@@ -90,7 +90,7 @@ fn on_journal<H: Host>(host: &H, options: Options) -> Result<(), Fault>
     requires may { Allows (H.may host.now)
         (IsOfSubcommand (H.asked host.now) options options.subcommand) }
     ensures ends { IsEndOf options.entry result }
-    ensures does { DoesAs ⟦<Global as Grows>⟧.refuses (H.asked host.now) H.Agents.view H.Source.gives H.Reader.remaining
+    ensures does { DoesAs ⟦<Global as Grows>⟧.refuses (H.asked host.now) H.Agents.view H.Source.gives H.Reader.view
         H.Writer.contents H.Files.view options.entry options.entry.subcommand result }
 {
     match options.subcommand {
@@ -119,7 +119,7 @@ fn look<H: Host>(host: &H, options: Options) -> Result<(), Fault>
 fn start_agents<H: Host>(host: &H, options: Options) -> Result<(), Fault>
     requires may { Allows (H.may host.now) (IsOfRun (H.asked host.now) options) }
     ensures ends { IsEndOf options.entry result }
-    ensures runs { RunsFor ⟦<Global as Grows>⟧.refuses (H.asked host.now) H.Agents.view H.Source.gives H.Reader.remaining
+    ensures runs { RunsFor ⟦<Global as Grows>⟧.refuses (H.asked host.now) H.Agents.view H.Source.gives H.Reader.view
         H.Writer.contents H.Files.view options.entry result }
 {
     if host.children_ignored() {

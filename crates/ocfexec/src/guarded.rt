@@ -1,7 +1,7 @@
 //! Output that counts as read only while the journal's paths lead to the files that were opened.
 use exec_lines::Output;
 use file_disk::JournalPaths;
-use std::io::{self, Write};
+use std::io;
 
 /// The output of a session over a journal. If a path of the journal leads to another file, or to none, the output counts as read by
 /// nobody: so a session that makes no device call, as `serve` while nothing happens, ends within a second.
@@ -19,17 +19,21 @@ impl<W> Guarded<W> {
     }
 }
 
-impl<W: Write> Write for Guarded<W> {
-    fn write(&mut self, buf: &[u8]) -> io::Result<usize> {
-        self.output.write(buf)
-    }
-
-    fn flush(&mut self) -> io::Result<()> {
-        self.output.flush()
-    }
-}
-
 impl<W: Output> Output for Guarded<W> {
+    ghost contents = { λ g. W.contents g.output };
+
+    ghost flushed = { λ g. W.flushed g.output };
+
+    ghost broke = { λ g. W.broke g.output };
+
+    fn put(&mut self, bytes: &[u8]) -> io::Result<usize> {
+        self.output.put(bytes)
+    }
+
+    fn flush_out(&mut self) -> io::Result<()> {
+        self.output.flush_out()
+    }
+
     fn has_reader(&self) -> bool {
         let is_there = match &self.paths {
             Some(paths) => paths.check(&self.rt).is_ok(),

@@ -16,7 +16,7 @@ use diagnostics::{
 };
 use exec_commands::{JournalId, Left};
 use exec_faults::Fault;
-use exec_lines::{Patient, moment_now, write_flushed};
+use exec_lines::{LineInput, Patient, ReadAhead, moment_now, write_flushed};
 use exec_options::{OnceOptions, Options};
 use exec_program::{Host, Upkeep};
 use file_disk::{FileDisk, FileError, JournalPaths, RamDisk};
@@ -27,7 +27,7 @@ use journal_directory::{
 use ocf_env::Site;
 use process_ends::{System, SystemAgents};
 use std::alloc::{AllocError, Global};
-use std::io::{self, BufReader, Eprint, StdinLock};
+use std::io::{self, Eprint, StdinLock};
 use std::rt::Stdout;
 
 // How many bytes of the input are read at once.
@@ -71,7 +71,7 @@ impl<'a> Host for SystemHost<'a> {
 
     type Source = SiteMetadata<'a>;
 
-    type Reader = BufReader<Patient<Noted<'a, StdinLock<'a>>>>;
+    type Reader = LineInput<ReadAhead<Noted<'a, StdinLock<'a>>>>;
 
     type Writer = Guarded<Patient<Noted<'a, Stdout>>>;
 
@@ -159,15 +159,11 @@ impl<'a> Host for SystemHost<'a> {
     }
 
     // TRUSTED: it is standard input, which waits while no reply can be written.
-    fn reader(&self) -> Result<BufReader<Patient<Noted<'a, StdinLock<'a>>>>, AllocError> {
+    fn reader(&self) -> Result<LineInput<ReadAhead<Noted<'a, StdinLock<'a>>>>, AllocError> {
         let input = self.unread.input(self.system.host().reader());
         let input = input.with_replies(libc::STDOUT_FILENO);
-        let reader = match BufReader::with_capacity(self.alloc(), READ_SIZE, input) {
-            Ok(reader) => Ok(reader),
-            Err(_) => Err(AllocError),
-        };
-        // TRUSTED: it fails only where the memory that it takes is refused.
-        Global::library_growth(reader)
+        let ahead = ReadAhead::new(self.alloc(), READ_SIZE, input)?;
+        Ok(LineInput::new(ahead))
     }
 
     // TRUSTED: it is standard output.

@@ -1,14 +1,14 @@
 //! The metadata of a site's agents.
-ghost use Rattle.std.specs.Prelude.{◌≤◌, length, IfOk};
+ghost use Rattle.std.specs.Prelude.{◌≡◌, ◌≤◌, length, IfOk};
 ghost use Rattle.ocf_types.specs.Limits.{metadata_limit};
 
 use crate::question::{Polled, Question};
 use agent_metadata::{MetaCall, run_meta};
 use agent_system::{Leading, leading_for};
-use exec_session::Metadata;
 use ocf_env::Site;
 use ocf_types::{AgentType, MetaFault, Provider};
 use process_ends::{System, SystemAgents};
+use session_machine::Metadata;
 use std::alloc::Global;
 use std::cell::Cell;
 
@@ -31,7 +31,10 @@ fn end(alloc: Global, asked: Option<Question<'_>>) {
 
 impl<'a> SiteMetadata<'a> {
     /// No agent is asked yet.
-    pub fn new(system: &'a System<'a>, site: Site, groups: bool) -> SiteMetadata<'a> {
+    pub fn new(system: &'a System<'a>, site: Site, groups: bool) -> SiteMetadata<'a>
+        ensures site { result.site ≡ site }
+        ensures groups { result.groups ≡ groups }
+    {
         SiteMetadata {
             system,
             site,
@@ -90,6 +93,8 @@ impl<'a> SiteMetadata<'a> {
 }
 
 impl Metadata for SiteMetadata<'_> {
+    ghost of = { λ source. record { site = source.site; groups = source.groups } };
+
     ghost gives = { λ source provider agent limit given. IfOk given (λ bytes. length bytes.items ≤ metadata_limit) };
 
     fn metadata(

@@ -33,7 +33,7 @@ returns-in-Ok-Once-clause-ends g c =
 
 pub returns-in-Ok-Once-clause-does : goal.returns-in-Ok-Once-clause-does
 returns-in-Ok-Once-clause-does g c =
-    does_once _ (g.H.Host.asked c.args.host.now) g.H.Agents.Children.view g.H.Source.Metadata.gives g.H.Reader.Read.remaining g.H.Writer.Write.contents
+    does_once _ (g.H.Host.asked c.args.host.now) g.H.Agents.Children.view g.H.Source.Metadata.gives g.H.Reader.Input.view g.H.Writer.Output.contents
     g.H.Files.Disk.view (option_map (λ s. s.now) c.args.named) (map string_bytes c.args.arguments.now)
     c.in-Ok-Once.field-0 c.in-Ok-Once.options _ c.in-Ok-Once.ensures.ok c.in-Ok-Once.field-0-is c.once.ensures
 

@@ -16,6 +16,6 @@ returns-in-Memory-clause-runs g c = inr (inr (
   c.in-Ok.log,
   subst (g.H.Host.asked c.args.host.now).ignored c.if-children_ignored.false c.children_ignored.ensures,
   c.in-Ok.ensures.log,
-  runs_in_memory _ (g.H.Host.asked c.args.host.now) g.H.Agents.Children.view g.H.Source.Metadata.gives g.H.Reader.Read.remaining
-      g.H.Writer.Write.contents g.H.Files.Disk.view c.args.options c.in-Ok.log c.args.options.journal c.new.result c.serve_agents-in-Memory.result c.in-Memory.is c.new.ensures.fresh c.serve_agents-in-Memory.ensures.runs c.serve_agents-in-Memory.ensures.memory,
+  runs_in_memory _ (g.H.Host.asked c.args.host.now) g.H.Agents.Children.view g.H.Source.Metadata.gives g.H.Reader.Input.view
+      g.H.Writer.Output.contents g.H.Files.Disk.view c.args.options c.in-Ok.log c.args.options.journal c.new.result c.serve_agents-in-Memory.result c.in-Memory.is c.new.ensures.fresh c.serve_agents-in-Memory.ensures.runs c.serve_agents-in-Memory.ensures.memory,
 ))
