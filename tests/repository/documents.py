@@ -253,7 +253,7 @@ class Documents(helper.Check):
 
     def test_moved(self):
         """an item or a file of one crate is not found in another one"""
-        for name, place in (("exec_session::run_lines", ""), ("src/session.rt", "`exec_session`"), ("exec_session Breaks", "")):
+        for name, place in (("exec_session::run_lines", ""), ("src/session.rt", "`exec_session`"), ("exec_session Standing", "")):
             self.assertTrue(self.names.is_there(name, place), name)
             moved = [text.replace("exec_session", "two_parts") for text in (name, place)]
             self.assertFalse(self.names.is_there(*moved), name)

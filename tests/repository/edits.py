@@ -1,8 +1,8 @@
 #!/usr/bin/env python3
 """The lines of each wrong body. An edit of crates/CRATE/must-fail, mutants/CRATE or mutants/gate/CRATE names the functions of its crate
-that must refuse it, with existing clauses, and an edit of mutants/tests a script of `make check` and a sentence of it. The list of mistakes
-in mutants/README.md names existing edits, with a star if they are tried for each commit. The old text of an edit occurs exactly once in its
-file.
+that must refuse it, with existing clauses, or with what a call in them requires; and an edit of mutants/tests a script of `make check`
+and a sentence of it. The list of mistakes in mutants/README.md names existing edits, with a star if they are tried for each commit. The
+old text of an edit occurs exactly once in its file.
 Use: edits.py PROGRAM"""
 import collections
 import os
@@ -19,6 +19,7 @@ import goals  # noqa: E402
 TOP = Path(helper.TOP)
 QUOTED = re.compile(r"`(\w+)/(\w+)`(\*?)")
 ENSURES = re.compile(r"^\s*ensures (\w+) \{", re.MULTILINE)
+REQUIRES = re.compile(r"^\s*requires (\w+) \{", re.MULTILINE)
 REFUSED_BY = re.compile(r"^refused by: ([^,\n]+), (.+)$", re.MULTILINE)
 
 
@@ -32,13 +33,13 @@ def edits():
     return found
 
 
-def clauses(crate):
-    """The functions of a crate, each with the labels of what it ensures."""
+def clauses(crate, kind=ENSURES):
+    """The functions of a crate, each with the labels of what it ensures, or requires."""
     found = collections.defaultdict(set)
-    for path in (TOP / "crates" / crate / "src").rglob("*.rt"):
+    for path in (TOP / "crates").glob(f"{crate}/src/**/*.rt"):
         text = goals.read(path)
         for name, start, end in goals.functions(text):
-            found[name] |= set(ENSURES.findall(text, start, end))
+            found[name] |= set(kind.findall(text, start, end))
     return found
 
 
@@ -72,14 +73,16 @@ class Edits(helper.Check):
     longMessage = False
 
     def test_named(self):
-        """each edit names functions of its crate that must refuse it, and existing clauses of them"""
-        known = {crate: clauses(crate) for crate in {crate for crate, _ in edits()}}
+        """each edit names functions of its crate that must refuse it, and existing clauses of them or of what they call"""
+        known, required = {crate: clauses(crate) for crate in {crate for crate, _ in edits()}}, clauses("*", REQUIRES)
         for (crate, name), path in edits().items():
             named = goals.named(path)
             self.assertTrue(named, f"{path.relative_to(TOP)}: it has no line '# refused by: FUNCTION, CLAUSE'")
             for function, clause in named:
                 self.assertIn(function, known[crate], f"{crate}/{name}: {crate} has no function {function}")
-                self.assertTrue(clause is None or clause in known[crate][function], f"{crate}/{name}: {function} ensures no {clause}")
+                called, _, label = (clause or "").partition(" ")
+                self.assertTrue(clause is None or clause in known[crate][function] or label in required[called],
+                                f"{crate}/{name}: {function} ensures no {clause}, and no such call requires it")
 
     def test_there(self):
         """the old text of an edit occurs exactly once in its file"""

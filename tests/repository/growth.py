@@ -15,7 +15,7 @@ LEMMA = re.compile(r"\bgrowth\.specs\.Refused\b|\bspecs::Refused::refuses\b|\bre
 CLAIM = re.compile(r"IsTrue\s*\(?[\w.]*\brefuses\b")
 CLAUSE = re.compile(r"^\s*(requires|ensures|ghost \w+ =|ghost \w+:|pub fn|fn|impl|\{)")
 # The claim about a failure that is kept; a new edge keeps none of this kind.
-KEPT = ("crates/exec_trace/src/edge.rt", "ghost invariant = { λ e. e.fault ≡ Memory → IsTrue T.refuses };")
+KEPT = ("crates/session_machine/src/system_edge.rt", "× (e.fault ≡ Memory → IsTrue T.refuses) };")
 TRUSTED_CALL = re.compile(r"\b\w+::library_growth\(")
 
 

@@ -3,10 +3,10 @@ use crate::runs::{DRAIN, ended, ended_in, run_over};
 use child_model::Poll;
 use disk_model::MemDisk;
 use exec_faults::Fault;
-use exec_lines::{Output, Patient};
+use exec_lines::{LineInput, Patient, ReadAhead};
 use status_report::show;
 use std::alloc::Global;
-use std::io::{self, BufReader, ErrorKind, Read, Write};
+use std::io::{self, ErrorKind, Read, Write};
 use std::str::from_utf8;
 
 // A registration, a question, a tidy, a malformed line, a drain, a watch, metadata and a registration.
@@ -114,10 +114,11 @@ fn unread(alloc: Global) -> Option<Result<(), Fault>> {
         left: b"{\"op\":\"list\"}\n{\"op\":\"list\"}",
         stumbles: false,
     };
-    let reader = BufReader::with_capacity(alloc, 5, Patient::new(input, 0)).ok()?;
+    let ahead = ReadAhead::new(alloc, 5, Patient::new(input, 0)).ok()?;
     let mut writer = Vec::new(alloc);
     let disk = MemDisk::new(alloc);
-    let ended = ended(alloc, disk, &[], reader, &mut writer)?;
+    let input = LineInput::new(ahead);
+    let ended = ended(alloc, disk, &[], input, Patient::of(&mut writer))?;
     (writer.as_slice() == b"{\"ok\":true,\"resources\":[]}\n".as_slice()).then(|| ended)
 }
 
@@ -147,12 +148,6 @@ impl Write for Sparing {
     }
 }
 
-impl Output for Sparing {
-    fn has_reader(&self) -> bool {
-        true
-    }
-}
-
 #[test]
 fn writes_that_take_little_are_made_again(rt: HostRuntime) {
     let alloc = rt.alloc();
@@ -160,7 +155,9 @@ fn writes_that_take_little_are_made_again(rt: HostRuntime) {
         taken: Vec::new(alloc),
         stumbles: false,
     };
-    let ended = ended(alloc, MemDisk::new(alloc), &[], TOGETHER, &mut writer);
+    let input = LineInput::new(TOGETHER);
+    let disk = MemDisk::new(alloc);
+    let ended = ended(alloc, disk, &[], input, Patient::of(&mut writer));
     assert_eq!(rt; ended, Some(Ok(())));
     assert_eq!(rt; from_utf8(writer.taken.as_slice()), Ok(BOTH_DONE));
 }

@@ -5,10 +5,10 @@ use disk_model::MemDisk;
 use exec_client::{JsonClient, NoReasons};
 use exec_commands::{NoticeForm, Service};
 use exec_faults::Fault;
-use exec_lines::{Input, Output};
-use exec_session::{LineRoom, Mode, Pace, SessionContext, run_lines};
-use exec_trace::Edge;
+use exec_lines::{ClockTicker, Input, LineInput, Output, Patient};
+use exec_session::{LineRoom, run_lines};
 use executor::Executor;
+use session_machine::{EdgeParts, Mode, Rules, SystemEdge};
 use std::alloc::Global;
 use std::collections::VecDeque;
 use std::io;
@@ -18,6 +18,7 @@ use std::time::Duration;
 use test_support::{NoMetadata, nowhere};
 
 // A clock that does not move.
+#[derive(Drop)]
 struct Standing;
 
 impl Clock for Standing {
@@ -58,44 +59,47 @@ fn form_of(mode: Mode) -> NoticeForm<'static> {
 }
 
 /// The end of a session over a journal that is opened at moment 5,000. Its drains make at most three turns.
-pub fn ended<R: Input + Drop, W: Output>(
+pub fn ended<I: Input + Drop, W: Output + Drop>(
     alloc: Global,
     disk: MemDisk,
     polls: &[Poll],
-    reader: R,
-    writer: &mut W,
+    input: I,
+    output: W,
 ) -> Option<Result<(), Fault>> {
-    let (ended, _disk) = ended_in_way(alloc, Mode::Run, disk, polls, reader, writer)?;
+    let (ended, _disk) = ended_in_way(alloc, Mode::Run, disk, polls, input, output)?;
     Some(ended)
 }
 
 // The end of a session in this mode, and its disk.
-fn ended_in_way<R: Input + Drop, W: Output>(
+fn ended_in_way<I: Input + Drop, W: Output + Drop>(
     alloc: Global,
     mode: Mode,
     disk: MemDisk,
     polls: &[Poll],
-    reader: R,
-    writer: &mut W,
+    input: I,
+    output: W,
 ) -> Option<(Result<(), Fault>, MemDisk)> {
     let children = children(alloc, polls)?;
-    let context = SessionContext {
-        alloc,
-        metadata: &NoMetadata,
+    let rules = Rules {
         mode,
         form: form_of(mode),
         most_turns: 3,
         tidy_at: 0,
-        pace: Pace::new(),
     };
     match Executor::open(alloc, disk, children, nowhere(alloc), 5_000) {
         Ok((executor, report)) => {
-            let client = JsonClient::new(alloc, writer, NoReasons, &executor);
+            let client = JsonClient::new(alloc, output, NoReasons, &executor);
             let Ok(room) = LineRoom::new(alloc) else {
                 return None;
             };
-            let edge = Edge::new(reader, client, &Standing);
-            let run = run_lines(&context, edge, (executor, report), room);
+            let parts = EdgeParts {
+                input,
+                client,
+                ticker: ClockTicker::new(Standing),
+                source: &NoMetadata,
+            };
+            let edge = SystemEdge::new(alloc, rules, parts, &executor);
+            let run = run_lines(alloc, edge, (executor, report), room);
             Some((run.ended, run.store.into_disk()))
         }
         Err(_) => None,
@@ -125,7 +129,14 @@ fn run_in_way(
     lines: &[u8],
 ) -> Option<Answered> {
     let mut written = Vec::new(alloc);
-    let (ended, disk) = ended_in_way(alloc, mode, disk, polls, lines, &mut written)?;
+    let (ended, disk) = ended_in_way(
+        alloc,
+        mode,
+        disk,
+        polls,
+        LineInput::new(lines),
+        Patient::of(&mut written),
+    )?;
     Some(Answered {
         ended,
         written,
@@ -146,8 +157,7 @@ pub fn ended_in(
     lines: &[u8],
     room: &mut [u8],
 ) -> Option<Result<(), Fault>> {
-    let mut writer = room;
-    ended(alloc, disk, polls, lines, &mut writer)
+    ended(alloc, disk, polls, LineInput::new(lines), Patient::of(room))
 }
 
 /// Registers r1, starts it, and drains.

@@ -1,14 +1,16 @@
 //! A source of metadata without agents.
-ghost use Rattle.std.specs.Prelude.{⊤};
+ghost use Rattle.std.specs.Prelude.{⊤, [], None, false};
 
-use exec_session::Metadata;
 use ocf_types::{AgentType, MetaFault, Provider, StartFault};
+use session_machine::Metadata;
 use std::alloc::Global;
 
 /// Every agent is missing.
 pub struct NoMetadata;
 
 impl Metadata for NoMetadata {
+    ghost of = { λ source. record { site = record { root = []; path = []; via = None; meta = false }; groups = false } };
+
     ghost gives = { λ source provider agent limit given. ⊤ };
 
     fn metadata(
