@@ -120,6 +120,16 @@ metadata() {
     replied 'metadata of no agent'
 }
 
+# Whether this process is gone within five seconds: init may reap what was killed a little later. Use: gone PID
+gone() {
+    local _
+    for _ in {1..50}; do
+        kill -0 "$1" 2> /dev/null || return 0
+        sleep 0.1
+    done
+    return 1
+}
+
 # Metadata of an agent that does not end, of one that ends and leaves its output to another process, and of one that closes its output and
 # goes on: each ends at its limit, and the agent is killed.
 limited() {
@@ -138,7 +148,7 @@ limited() {
     [ "$took" -ge 900 ] || differs 'three limits of 300 milliseconds' 'at least 900' "$took"
     took_less 'three limits of 300 milliseconds' 3000 "$took"
     for n in $(cat "$here/pids"); do
-        ! kill -0 "$n" 2> /dev/null || differs 'an agent past its limit' 'killed' "pid $n"
+        gone "$n" || differs 'an agent past its limit' 'killed' "pid $n"
     done
     kill "$(cat "$here/leaver")" 2> /dev/null || differs 'what an agent past its limit has started' 'alive' 'gone'
 }
