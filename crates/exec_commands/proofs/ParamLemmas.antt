@@ -16,7 +16,6 @@ use Rattle.ocf_types.specs.Lemmas.{and_false, before_trans, both, less_is}
 use Rattle.ocf_types.specs.declared.refusal.Refusal.TheVariants.{BadValue}
 use Rattle.exec_commands.specs.Keys.{TextPair, text_pair, texts_seen, are_ascending}
 use Rattle.exec_commands.specs.Values.{are_names, valued_params}
-use Rattle.exec_commands.specs.Objects.{param_members}
 
 after_from : (last : Option (List ℕ)) (ms : List TextPair) (i : ℕ) (d : TextPair) → i < length ms
     → are_ascending last (texts_seen ms) ≡ true
@@ -72,34 +71,3 @@ pub valued : (ps : ParamList) → AreParams ps → valued_params ps ≡ Ok ps
 valued ps h =
     let few : leb (length ps) 64 ≡ true = le-leb _ _ h.at_most_64 in
     rw (few, all_values None ps h.sorted) refl
-
-greater : (a b : List ℕ) → is_before a b ≡ true → slice_cmp nat_cmp b a ≡ Greater
-greater a b h = nat_list_cmp_total.antisymm b a ∙ ap ordering_reverse (less_is _ h)
-
-first_before : (first : List ℕ) (es : ParamList) (i : ℕ) (e : List ℕ × List ℕ) → i < length es → e ≡ get_or es i e
-    → are_params_after (Some first) es ≡ true → is_before first e.0 ≡ true
-first_before first [] i e h is sorted = absurd (omega arith)
-first_before first (q ∷ es) i e h is sorted =
-    let s = both (is_before first q.0 && is_param_name q.0 && is_param_value q.1) (are_params_after (Some q.0) es) sorted in
-    let f = both (is_before first q.0) (is_param_name q.0) (both (is_before first q.0 && is_param_name q.0) (is_param_value q.1) s.0).0 in
-    by i h is f.0 (λ j short same. before_trans first q.0 e.0 f.0 (first_before q.0 es j e short same s.1))
-  where
-    by : (i : ℕ) → i < length (q ∷ es) → e ≡ get_or (q ∷ es) i e → is_before first q.0 ≡ true
-        → ((j : ℕ) → j < length es → e ≡ get_or es j e → is_before first e.0 ≡ true) → is_before first e.0 ≡ true
-    by zero h is here later = ap (λ (x : List ℕ × List ℕ). is_before first x.0) is ∙ here
-    by (suc i) h is here later = later i (omega arith) is
-
-put_from : (last : Option (List ℕ)) (es : ParamList) (i : ℕ) (e : List ℕ × List ℕ) → i < length es → e ≡ get_or es i e
-    → are_params_after last es ≡ true
-    → put e.0 (string e.1) (param_members (take i es)) ≡ param_members (take (suc i) es)
-put_from last [] i e h is sorted = absurd (omega arith)
-put_from last (q ∷ es) zero e h is sorted = ap (λ (x : List ℕ × List ℕ). member x.0 (string x.1) no_members) is
-put_from last (q ∷ es) (suc i) e h is sorted =
-    let s = both (is_after last q.0 && is_param_name q.0 && is_param_value q.1) (are_params_after (Some q.0) es) sorted in
-    rw (greater q.0 e.0 (first_before q.0 es i e (omega arith) is s.1))
-    (ap (member q.0 (string q.1)) (put_from (Some q.0) es i e (omega arith) is s.1))
-
--- a parameter whose name comes after the others is put last into an object
-pub put_next : (es : ParamList) (i : ℕ) (e : List ℕ × List ℕ) → i < length es → e ≡ get_or es i e → AreParams es
-    → put e.0 (string e.1) (param_members (take i es)) ≡ param_members (take (i + 1) es)
-put_next es i e h is lawful = rw add-one (put_from None es i e h is lawful.sorted)

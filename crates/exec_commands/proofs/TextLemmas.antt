@@ -13,7 +13,6 @@ use Rattle.serde_json.specs.View.{view, members_view}
 use Rattle.serde_json.proofs.Views.{Entry}
 use Rattle.ocf_types.specs.Lemmas.{and_true}
 use Rattle.ocf_types.specs.Params.{ParamList}
-use Rattle.exec_commands.specs.Service.{metadata_data, no_text_data, text_data}
 use Rattle.exec_commands.specs.Keys.{TextPair, text_pair, texts_seen, member_texts, are_ascending}
 
 -- one more pair is seen last
@@ -72,14 +71,3 @@ ascending [] ps h sorted = let e : ps ≡ [] = cc in rw e refl
 ascending (e ∷ es) ps h sorted =
     let s = split (string_bytes e.0) (as_str (view e.1)) (member_texts (members_view es)) ps h in
     rw s.whole (ascending_after e.0 es s.others s.rest_is sorted.0 sorted.1)
-
--- metadata that are a text, and metadata that are not
-pub metadata_text : (metadata : List ℕ) → IsUtf8 metadata → metadata_data metadata ≡ text_data metadata
-metadata_text metadata is = rw (is_utf8-from_IsUtf8 metadata is) refl
-
-pub metadata_no_text : (metadata : List ℕ) → ¬ (IsUtf8 metadata) → metadata_data metadata ≡ no_text_data
-metadata_no_text metadata none = by (is_utf8 metadata) refl
-  where
-    by : (is : Bool) → is_utf8 metadata ≡ is → (if is then text_data metadata else no_text_data) ≡ no_text_data
-    by false e = refl
-    by true e = absurd (none (IsUtf8-from_is_utf8 metadata e))

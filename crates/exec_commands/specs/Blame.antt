@@ -11,13 +11,13 @@ use Rattle.ocf_types.specs.Expected.{expect_of_code}
 use Rattle.ocf_types.specs.Names.{is_provider, is_rsc_id}
 use Rattle.ocf_types.specs.declared.refusal.Refusal.{Refusal}
 use Rattle.ocf_types.specs.declared.refusal.Refusal.TheVariants.{Syntax, BadName, BadValue}
-use Rattle.line_keys.specs.Keys.{key_word, range_of}
-use Rattle.line_keys.specs.declared.key.Key.{Key}
-use Rattle.line_keys.specs.declared.key.Key.TheVariants.{Op}
-use Rattle.line_keys.specs.declared.range.Range.{Range}
-use Rattle.line_keys.specs.declared.range.Range.TheVariants as range
-use Rattle.line_keys.specs.declared.refused.About.{About}
-use Rattle.line_keys.specs.declared.refused.About.TheVariants as about
+use Rattle.exec_commands.specs.LineKeys.{key_word, range_of}
+use Rattle.exec_commands.specs.declared.key.Key.{Key}
+use Rattle.exec_commands.specs.declared.key.Key.TheVariants.{Op}
+use Rattle.exec_commands.specs.declared.range.Range.{Range}
+use Rattle.exec_commands.specs.declared.range.Range.TheVariants as range
+use Rattle.exec_commands.specs.declared.refused.About.{About}
+use Rattle.exec_commands.specs.declared.refused.About.TheVariants as about
 use Rattle.exec_commands.specs.Keys.{natural}
 use Rattle.exec_commands.specs.Rules.{is_known, is_needed, key_in, rules_in}
 use Rattle.exec_commands.specs.Tags.{tag_in}

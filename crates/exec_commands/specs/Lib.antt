@@ -1,13 +1,10 @@
 pub mod Keys
 pub mod Values
+pub mod LineKeys
+pub mod Messages
 pub mod Lines
-pub mod Objects
-pub mod Replies
 pub mod Twice
 pub mod Rules
 pub mod Blame
 pub mod Tags
-pub mod LineKinds
-pub mod JournalIds
-pub mod Service
 pub mod Served

@@ -4,9 +4,9 @@ use Rattle.std.specs.List.{list_any}
 use Rattle.std.specs.Str.{bytes_eq}
 use Rattle.serde_json.specs.Data.{Data}
 use Rattle.serde_json.specs.Find.{get, as_str}
-use Rattle.line_keys.specs.Keys.{key_word}
-use Rattle.line_keys.specs.declared.key.Key.{Key}
-use Rattle.line_keys.specs.declared.key.Key.TheVariants as key
+use Rattle.exec_commands.specs.LineKeys.{key_word}
+use Rattle.exec_commands.specs.declared.key.Key.{Key}
+use Rattle.exec_commands.specs.declared.key.Key.TheVariants as key
 use Rattle.exec_commands.specs.Lines.{operation_named}
 use Rattle.exec_commands.specs.declared.operation.Operation.{Operation}
 use Rattle.exec_commands.specs.declared.operation.Operation.TheVariants as operation

@@ -5,9 +5,9 @@ use Rattle.serde_json.specs.Data.{Data}
 use Rattle.ocf_types.specs.Limits.{line_limit}
 use Rattle.ocf_types.specs.declared.refusal.Refusal.{Refusal}
 use Rattle.ocf_types.specs.declared.refusal.Refusal.TheVariants.{BadValue, Memory, Syntax}
-use Rattle.line_keys.specs.declared.key.Key.TheVariants.{Tag}
-use Rattle.line_keys.specs.declared.refused.About.{About}
-use Rattle.line_keys.specs.declared.refused.About.TheVariants as about
+use Rattle.exec_commands.specs.declared.key.Key.TheVariants.{Tag}
+use Rattle.exec_commands.specs.declared.refused.About.{About}
+use Rattle.exec_commands.specs.declared.refused.About.TheVariants as about
 use Rattle.exec_commands.specs.Blame.{about_line, unknown_key}
 use Rattle.exec_commands.specs.Lines.{served_line_of, value_of}
 use Rattle.exec_commands.specs.Tags.{is_mistagged}

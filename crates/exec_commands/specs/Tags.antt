@@ -2,15 +2,10 @@
 use Rattle.std.specs.Prelude.{◌≡◌, ℕ, nat_le, is_none, Bool, false, List, length, Option, None, Some, option_and_then}
 use Rattle.std.specs.Prelude.{if◌then◌else◌, codes}
 use Rattle.std.specs.Option.{option_map_or}
-use Rattle.serde_json.specs.Data.{Data, string}
+use Rattle.serde_json.specs.Data.{Data}
 use Rattle.serde_json.specs.Find.{get, as_str}
 use Rattle.exec_commands.specs.Lines.{value_of}
-use Rattle.exec_commands.specs.Objects.{object_with}
-use Rattle.exec_commands.specs.Service.{lent}
 use Rattle.exec_commands.specs.Twice.{HasKeyTwice}
-use Rattle.exec_commands.specs.declared.notice.NoticeForm.{NoticeForm}
-use Rattle.exec_commands.specs.declared.notice.NoticeForm.TheVariants as notice_form
-use Rattle.exec_commands.specs.declared.tagged.Tagged.{Tagged}
 
 -- the tag that a text is, if it is one
 abbrev pub short_text : List ℕ → Option (List ℕ)
@@ -35,21 +30,3 @@ tag_read bytes = option_and_then tag_of (value_of bytes)
 -- the line of these bytes has this tag; one in which a key occurs twice has none
 abbrev pub IsTaggedAs : List ℕ → Option (List ℕ) → Type 0
 IsTaggedAs bytes tag = (HasKeyTwice bytes → tag ≡ None) × (¬ (HasKeyTwice bytes) → tag ≡ tag_read bytes)
-
--- the reason that a notice is to be written with
-abbrev pub written_reason : Tagged → Option (List ℕ)
-written_reason t = lent t.reason
-
--- the tag that a line is to be written with
-abbrev pub written_tag : Tagged → Option (List ℕ)
-written_tag t = lent t.tag
-
--- the same of a line of this form: a `run` session writes no tag
-abbrev pub formed_tag : NoticeForm → Option (List ℕ) → Option (List ℕ)
-formed_tag notice_form.Short tag = None
-formed_tag (notice_form.Timed service) tag = tag
-
--- an object with this tag, if any
-abbrev pub with_tag : Option (List ℕ) → Data → Data
-with_tag None d = d
-with_tag (Some tag) d = object_with (codes "tag") (string tag) d

@@ -1,5 +1,5 @@
 //! Which key of a refused line is at fault.
-ghost use Rattle.std.specs.Prelude.{◌≡◌, false, true, option_and_then, option_map, codes, IfOk, IsTrue, OnErr};
+ghost use Rattle.std.specs.Prelude.{◌≡◌, false, true, option_and_then, option_map, codes, IfOk};
 ghost use Rattle.std.specs.Option.{option_map_or};
 ghost use Rattle.ocf_types.specs.Names.{is_provider, is_rsc_id};
 ghost use Rattle.serde_json.specs.Find.{as_str, get};
@@ -8,15 +8,17 @@ ghost use Rattle.exec_commands.specs.Blame.{about_line, about_operation, is_acti
 ghost use Rattle.exec_commands.specs.Blame.{is_of_monitor, is_outside, key_at_fault, unknown_in, unknown_key};
 ghost use Rattle.exec_commands.specs.Tags.{tag_in};
 
+use crate::key::Key;
+use crate::range::Range;
+use crate::refused::About;
 use crate::rules::{KeyRule, is_known, rules_in};
 use crate::tag::{Tag, tag_in};
 use crate::values::{provider, rsc_id};
-use growth::{Grows, text_of};
-use line_keys::{About, Key, Range};
+use growth::{Refused, text_of};
 use ocf_env::Text;
 use ocf_types::{Action, Expect, Level, Refusal};
 use serde_json::{Map, Value};
-use std::alloc::{AllocError, Global};
+use std::alloc::Global;
 
 fn is_mistyped(range: Range, found: &Value) -> bool
     ensures { result ≡ is_mistyped range (view found.now) }
@@ -152,9 +154,8 @@ fn short_word(line: &Value) -> Option<Tag>
 }
 
 // The subject of a line that names no operation: its word, if that is short.
-fn about_operation(alloc: Global, line: &Value) -> Result<About, AllocError>
+fn about_operation(alloc: Global, line: &Value) -> Result<About, Refused>
     ensures about { IfOk result (λ a. a ≡ about_operation (view line.now)) }
-    ensures memory { OnErr result (IsTrue ⟦<Global as Grows>⟧.refuses) }
 {
     match short_word(line) {
         Some(word) => Ok(About::Operation(Text::new(text_of(alloc, word.as_str())?))),
@@ -163,9 +164,8 @@ fn about_operation(alloc: Global, line: &Value) -> Result<About, AllocError>
 }
 
 /// The subject of a line's refusal: the first key at fault for this reason, or else the whole line; the operation if it names none.
-pub fn about_line(alloc: Global, why: Refusal, line: &Value) -> Result<About, AllocError>
+pub fn about_line(alloc: Global, why: Refusal, line: &Value) -> Result<About, Refused>
     ensures about { IfOk result (λ a. a ≡ about_line why (view line.now)) }
-    ensures memory { OnErr result (IsTrue ⟦<Global as Grows>⟧.refuses) }
 {
     match rules_in(line) {
         Some(rules) => match key_at_fault(why, rules, line) {

@@ -1,5 +1,5 @@
 //! Lines whose reply depends on the line alone.
-use line_keys::LineRefusal;
+use crate::refused::LineRefusal;
 
 /// The reply to a line of a `serve` session that depends on the line alone.
 #[derive(Drop)]

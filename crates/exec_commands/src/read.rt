@@ -1,5 +1,5 @@
 //! Reads the lines of a `run` session.
-ghost use Rattle.std.specs.Prelude.{◌≡◌, ◌≢◌, ◌<◌, false, length, None, Some, Err, Ok, IfOk, IfErr, IsTrue, OnErr, IfSome, IfNone};
+ghost use Rattle.std.specs.Prelude.{◌≡◌, ◌≢◌, ◌<◌, false, length, None, Some, Err, Ok, IfOk, IfErr, IsTrue, IfSome, IfNone};
 ghost use Rattle.std.specs.Str.{IsUtf8};
 ghost use Rattle.serde_json.specs.Read.{read};
 ghost use Rattle.serde_json.specs.View.{view};
@@ -14,10 +14,10 @@ use crate::keys::{number_at, number_or, number_there, text_at};
 use crate::line::Line;
 use crate::operation::{Operation, operation_named};
 use crate::values::{agent_type, limit, limit_if_named, millis, provider};
-use growth::Grows;
+use growth::{Grows, Refused};
 use ocf_types::{Command, LINE_LIMIT, Question, Refusal, Request};
 use serde_json::Value;
-use std::alloc::{AllocError, Global};
+use std::alloc::Global;
 
 fn drain_in(line: &Value) -> Result<Line, Refusal>
     ensures value { result ≡ drain_in (view line.now) }
@@ -129,19 +129,18 @@ pub fn line_of(alloc: Global, value: &Value) -> Result<Line, Refusal>
 }
 
 // The JSON value of these bytes, or `None` if they are not JSON.
-fn parsed(alloc: Global, bytes: &[u8]) -> Result<Option<Value>, AllocError>
+#[tactic(auto, using(growth::specs::Refused::refuses))]
+fn parsed(alloc: Global, bytes: &[u8]) -> Result<Option<Value>, Refused>
     ensures some { IfOk result (λ found. IfSome found
         (λ v. IsUtf8 bytes.now × (read bytes.now ≡ Some (view v)))) }
     ensures none { IfOk result (λ found. IfNone found (IsUtf8 bytes.now → read bytes.now ≡ None)) }
-    ensures memory { OnErr result (IsTrue ⟦<Global as Grows>⟧.refuses) }
 {
-    let answer = match Value::from_slice(alloc, bytes) {
+    match Value::from_slice(alloc, bytes) {
         Ok(value) => Ok(Some(value)),
-        Err(error) if error.is_memory() => Err(AllocError),
+        // TRUSTED: it is lack of memory only where the memory that the value takes is refused.
+        Err(error) if error.is_memory() => Err(Refused::known()),
         Err(_) => Ok(None),
-    };
-    // TRUSTED: it is lack of memory only where the memory that the value takes is refused.
-    Global::library_growth(answer)
+    }
 }
 
 /// The JSON value of a line.

@@ -1,45 +1,60 @@
-//! Refusals, as a `serve` session writes them.
-ghost use Rattle.std.specs.Prelude.{◌≡◌, Some, None, IfOk, IsTrue, OnErr};
-ghost use Rattle.serde_json.specs.View.{view};
-ghost use Rattle.exec_commands.specs.Replies.{keyed_data, refused_data};
-ghost use Rattle.ocf_types.specs.Refusals.{refusal_row};
+//! Why a line was refused.
+ghost use Rattle.std.specs.Prelude.{◌≡◌, option_map};
+ghost use Rattle.exec_commands.specs.Messages.{about_key, key_of};
 
-use growth::Grows;
-use line_keys::{LineRefusal, about_key, message_of};
+use crate::key::Key;
+use ocf_env::Text;
 use ocf_types::Refusal;
-use serde_json::{Value, json};
-use std::alloc::{AllocError, Global};
 
-fn keyed_value(alloc: Global, why: Refusal, key: &str, message: &str) -> Result<Value, AllocError>
-    ensures value { IfOk result
-        (λ v. view v ≡ keyed_data (refusal_row why).1 (Some key.now) message.now (refusal_row why).0) }
-    ensures memory { OnErr result (IsTrue ⟦<Global as Grows>⟧.refuses) }
-{
-    let (word, number) = (why.word(), why.number());
-    // TRUSTED: it fails only where the memory that it takes is refused.
-    Global::library_growth(
-        json!(in alloc; {"error": word, "key": key, "message": message, "number": number}),
-    )
+/// The subject of a line's refusal.
+#[derive(Drop)]
+pub enum About {
+    /// The whole line: the kind of refusal says all.
+    Whole,
+    /// A key that occurs twice in an object.
+    Twice,
+    /// The value of this key, or its absence.
+    Key(Key),
+    /// A key that the operation does not have.
+    Unknown(Text),
+    /// The value of `op`, which names no operation.
+    Operation(Text),
 }
 
-fn keyless_value(alloc: Global, why: Refusal, message: &str) -> Result<Value, AllocError>
-    ensures value { IfOk result
-        (λ v. view v ≡ keyed_data (refusal_row why).1 None message.now (refusal_row why).0) }
-    ensures memory { OnErr result (IsTrue ⟦<Global as Grows>⟧.refuses) }
-{
-    let (word, number) = (why.word(), why.number());
-    // TRUSTED: it fails only where the memory that it takes is refused.
-    Global::library_growth(json!(in alloc; {"error": word, "message": message, "number": number}))
+/// Why a line of a `serve` session was refused, and what in it is at fault.
+#[derive(Drop)]
+pub struct LineRefusal {
+    pub why: Refusal,
+    pub about: About,
 }
 
-/// A refusal with the key of the line that it is about, if any, and a message.
-pub fn refused_value(alloc: Global, refusal: &LineRefusal) -> Result<Value, AllocError>
-    ensures value { IfOk result (λ v. view v ≡ refused_data refusal.now) }
-    ensures memory { OnErr result (IsTrue ⟦<Global as Grows>⟧.refuses) }
+// The key that a refusal of a well-formed line is about, if any.
+fn key_of(why: Refusal) -> Option<Key>
+    ensures { result ≡ key_of why }
 {
-    let message = message_of(alloc, refusal.why, &refusal.about)?;
-    match about_key(refusal.why, &refusal.about) {
-        Some(key) => keyed_value(alloc, refusal.why, key, message.as_str()),
-        None => keyless_value(alloc, refusal.why, message.as_str()),
+    match why {
+        Refusal::UnknownResource | Refusal::Busy | Refusal::QueueFull | Refusal::RecurringFull => {
+            Some(Key::Id)
+        }
+        Refusal::NoSuchRecurring => Some(Key::Interval),
+        Refusal::TooLarge => Some(Key::Params),
+        Refusal::NotQueued => Some(Key::Call),
+        _ => None,
+    }
+}
+
+/// The key of the line that a refusal is about, if any.
+pub fn about_key(why: Refusal, about: &About) -> Option<&str>
+    ensures { option_map (λ key. key.now) result ≡ about_key why about.now }
+{
+    match about {
+        About::Whole => match key_of(why) {
+            Some(key) => Some(key.word()),
+            None => None,
+        },
+        About::Twice => None,
+        About::Key(key) => Some(key.word()),
+        About::Unknown(name) => Some(name.as_str()),
+        About::Operation(_) => Some(Key::Op.word()),
     }
 }

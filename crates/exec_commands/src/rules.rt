@@ -3,8 +3,8 @@ ghost use Rattle.std.specs.Prelude.{◌≡◌, option_map};
 ghost use Rattle.exec_commands.specs.Rules.{is_known, is_needed, is_of_service, is_one_of, key_in, rules_in, rules_named, rules_of};
 ghost use Rattle.serde_json.specs.View.{view};
 
+use crate::key::Key;
 use crate::operation::{Operation, operation_named};
-use line_keys::Key;
 use serde_json::Value;
 
 /// A key of an operation's lines, besides `op` and `tag`.

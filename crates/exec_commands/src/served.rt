@@ -1,5 +1,5 @@
 //! Reads the JSON value of a line of a `serve` session.
-ghost use Rattle.std.specs.Prelude.{◌≡◌, ◌≢◌, Ok, Err, IfOk, IfErr, IsTrue, OnErr};
+ghost use Rattle.std.specs.Prelude.{◌≡◌, ◌≢◌, Ok, Err, IfOk, IfErr, IsTrue};
 ghost use Rattle.serde_json.specs.View.{view};
 ghost use Rattle.ocf_types.specs.declared.refusal.Refusal.TheVariants.{Memory};
 ghost use Rattle.exec_commands.specs.Lines.{served_line_of, served_meta_in};
@@ -7,17 +7,18 @@ ghost use Rattle.exec_commands.specs.Served.{known_line, refused_line, served_li
 
 use crate::blame::{about_line, unknown_key};
 use crate::direct::Direct;
+use crate::key::Key;
 use crate::keys::{number_or, text_at};
 use crate::line::Line;
 use crate::read::line_of;
+use crate::refused::{About, LineRefusal};
 use crate::tag::is_mistagged;
 use crate::values::{agent_type, limit, provider};
-use growth::{Grows, text_of};
-use line_keys::{About, Key, LineRefusal};
+use growth::{Grows, Refused, text_of};
 use ocf_env::Text;
 use ocf_types::Refusal;
 use serde_json::Value;
-use std::alloc::{AllocError, Global};
+use std::alloc::Global;
 
 // There is always a limit: turns go on while the agent runs.
 fn served_meta_in(line: &Value) -> Result<Line, Refusal>
@@ -69,9 +70,8 @@ fn tagged_line(value: &Value, line: Line) -> Line
 }
 
 // The same, or the refusal of a key that its operation does not have.
-fn known_line(alloc: Global, value: &Value, line: Line) -> Result<Line, AllocError>
+fn known_line(alloc: Global, value: &Value, line: Line) -> Result<Line, Refused>
     ensures line { IfOk result (λ l. l ≡ known_line (view value.now) line) }
-    ensures memory { OnErr result (IsTrue ⟦<Global as Grows>⟧.refuses) }
 {
     match unknown_key(value) {
         Some(name) => {
@@ -83,13 +83,12 @@ fn known_line(alloc: Global, value: &Value, line: Line) -> Result<Line, AllocErr
 }
 
 /// The line of a JSON value.
-pub fn served_line(alloc: Global, value: &Value) -> Result<Line, AllocError>
+pub fn served_line(alloc: Global, value: &Value) -> Result<Line, Refused>
     ensures line { IfOk result (λ l. l ≡ served_line (view value.now)) }
-    ensures memory { OnErr result (IsTrue ⟦<Global as Grows>⟧.refuses) }
 {
     match served_line_of(alloc, value) {
         Ok(line) => known_line(alloc, value, line),
-        Err(Refusal::Memory) => Err(AllocError),
+        Err(Refusal::Memory) => Err(Refused::known()),
         Err(why) => Ok(refused_line(why, about_line(alloc, why, value)?)),
     }
 }

@@ -1,13 +1,13 @@
 //! Invocations: programs with their arguments and environments.
-ghost use Rattle.std.specs.Prelude.{◌≡◌, IfOk, IsTrue, OnErr, Some, None};
+ghost use Rattle.std.specs.Prelude.{◌≡◌, IfOk, Some, None};
 ghost use Rattle.ocf_env.specs.Programs.{agent_path, program_at, arguments_at};
 
 use crate::site::Site;
 use crate::text::{Text, ascii, copied};
 use crate::variables::Pairs;
-use growth::{Grows, push, push_text, text_of};
+use growth::{Grows, Refused, push, push_text, text_of};
 use ocf_types::{AgentType, Provider};
-use std::alloc::{AllocError, Allocator, Global};
+use std::alloc::{Allocator, Global};
 use std::marker::Model;
 
 /// A program with its arguments and its whole environment, sorted by name. OCF Resource Agent API 1.1, actions.
@@ -56,9 +56,8 @@ pub fn agent_file<A: Grows, S: Allocator>(
     site: &Site<S>,
     provider: &Provider,
     agent: &AgentType,
-) -> Result<Text<A>, AllocError>
+) -> Result<Text<A>, Refused<A>>
     ensures file { IfOk result (λ f. f ≡ agent_path site.now.root provider.now agent.now) }
-    ensures memory { OnErr result (IsTrue A.refuses) }
 {
     let mut file = text_of(alloc, site.root())?;
     push_text(&mut file, "/resource.d/")?;
@@ -73,10 +72,9 @@ fn direct<A: Grows>(
     file: Text<A>,
     action: Text<A>,
     environment: Pairs<A>,
-) -> Result<Invocation<A>, AllocError>
+) -> Result<Invocation<A>, Refused<A>>
     ensures call { IfOk result (λ i. i
         ≡ record { program = program_at None file; arguments = arguments_at None file action; environment = environment.items }) }
-    ensures memory { OnErr result (IsTrue A.refuses) }
 {
     let mut arguments = Vec::new(alloc);
     push(&mut arguments, action)?;
@@ -93,14 +91,13 @@ fn through<A: Grows>(
     file: Text<A>,
     action: Text<A>,
     environment: Pairs<A>,
-) -> Result<Invocation<A>, AllocError>
+) -> Result<Invocation<A>, Refused<A>>
     ensures call { IfOk result (λ i. i
         ≡ record {
           program = program_at (Some via.now) file;
           arguments = arguments_at (Some via.now) file action;
           environment = environment.items;
         }) }
-    ensures memory { OnErr result (IsTrue A.refuses) }
 {
     let program = copied(alloc, via)?;
     let mut arguments = Vec::new(alloc);
@@ -120,14 +117,13 @@ pub fn called<A: Grows, S: Allocator>(
     file: Text<A>,
     action: &str,
     environment: Pairs<A>,
-) -> Result<Invocation<A>, AllocError>
+) -> Result<Invocation<A>, Refused<A>>
     ensures call { IfOk result (λ i. i
         ≡ record {
           program = program_at site.now.via file;
           arguments = arguments_at site.now.via file action.now;
           environment = environment.items;
         }) }
-    ensures memory { OnErr result (IsTrue A.refuses) }
 {
     let action = copied(alloc, action)?;
     match site.via() {

@@ -1,5 +1,5 @@
 //! Launches: the invocations of agents for actions and for metadata.
-ghost use Rattle.std.specs.Prelude.{◌≡◌, ◌↔◌, ℕ, List, codes, IfOk, OnErr, Contains, IsTrue};
+ghost use Rattle.std.specs.Prelude.{◌≡◌, ◌↔◌, ℕ, List, codes, IfOk, Contains, IsTrue};
 ghost use Rattle.ocf_env.specs.Instances.{registered};
 ghost use Rattle.ocf_env.specs.Invocations.{IsInvocation};
 ghost use Rattle.ocf_env.specs.Programs.{agent_path, program_at, arguments_at};
@@ -10,9 +10,9 @@ use crate::invocation::{Invocation, agent_file, called};
 use crate::meta_variables::add_meta;
 use crate::site::Site;
 use crate::variables::{Pairs, push_instance, push_last, push_level, push_params, push_version};
-use growth::Grows;
+use growth::{Grows, Refused};
 use ocf_types::{AgentType, CallId, Millis, Params, Provider, RscId, RunId, Running, Task};
-use std::alloc::{AllocError, Allocator, Global};
+use std::alloc::{Allocator, Global};
 
 /// An instance of an agent: its id, provider, type and parameters, all borrowed. `P` is the type of parameters. OCF Resource
 /// Agent API 1.1, OCF_RESOURCE_INSTANCE.
@@ -43,12 +43,11 @@ fn action_variables<A: Grows, S: Allocator, P: Allocator>(
     site: &Site<S>,
     instance: &Instance<'_, Params<P>>,
     task: Task,
-) -> Result<Pairs<A>, AllocError>
+) -> Result<Pairs<A>, Refused<A>>
     ensures sorted { IfOk result (λ e. IsTrue (are_ascending e.items)) }
     ensures variables { IfOk result
         (λ e. (name value : List ℕ) → Contains e.items (name, value)
         ↔ IsVariable site.now (registered instance.now) task name value) }
-    ensures memory { OnErr result (IsTrue A.refuses) }
 {
     let mut pairs = Vec::new(alloc);
     push_level(alloc, &mut pairs, task)?;
@@ -65,12 +64,11 @@ fn given_variables<A: Grows, S: Allocator, P: Allocator>(
     site: &Site<S>,
     instance: &Instance<'_, Params<P>>,
     running: Running,
-) -> Result<Pairs<A>, AllocError>
+) -> Result<Pairs<A>, Refused<A>>
     ensures sorted { IfOk result (λ e. IsTrue (are_ascending e.items)) }
     ensures variables { IfOk result
         (λ e. (name value : List ℕ) → Contains e.items (name, value)
         ↔ IsGiven site.now (registered instance.now) running name value) }
-    ensures memory { OnErr result (IsTrue A.refuses) }
 {
     let mut pairs = action_variables(alloc, site, instance, running.task)?;
     if !site.meta() {
@@ -85,12 +83,11 @@ fn meta_variables<A: Grows, S: Allocator>(
     site: &Site<S>,
     provider: &Provider,
     agent: &AgentType,
-) -> Result<Pairs<A>, AllocError>
+) -> Result<Pairs<A>, Refused<A>>
     ensures sorted { IfOk result (λ e. IsTrue (are_ascending e.items)) }
     ensures variables { IfOk result
         (λ e. (name value : List ℕ) → Contains e.items (name, value)
         ↔ IsAgentVariable site.now provider.now agent.now name value) }
-    ensures memory { OnErr result (IsTrue A.refuses) }
 {
     let mut pairs = Vec::new(alloc);
     push_version(alloc, &mut pairs)?;
@@ -108,14 +105,13 @@ pub fn launch<A: Grows, S: Allocator, P: Allocator>(
     site: &Site<S>,
     instance: &Instance<'_, Params<P>>,
     running: Running,
-) -> Result<Launch<A>, AllocError>
+) -> Result<Launch<A>, Refused<A>>
     ensures invocation { IfOk result
         (λ l. IsInvocation site.now (registered instance.now) running l.invocation) }
     ensures id { IfOk result (λ l. l.id ≡ instance.now.id.now) }
     ensures call { IfOk result (λ l. l.call ≡ running.call) }
     ensures run { IfOk result (λ l. l.run ≡ running.run) }
     ensures timeout { IfOk result (λ l. l.timeout ≡ running.timeout) }
-    ensures memory { OnErr result (IsTrue A.refuses) }
 {
     let (task, call, run) = (running.task, running.call, running.run);
     let timeout = running.timeout;
@@ -138,7 +134,7 @@ pub fn launch_meta<A: Grows, S: Allocator>(
     site: &Site<S>,
     provider: &Provider,
     agent: &AgentType,
-) -> Result<Invocation<A>, AllocError>
+) -> Result<Invocation<A>, Refused<A>>
     ensures program { IfOk result
         (λ i. i.program ≡ program_at site.now.via
         (agent_path site.now.root provider.now agent.now)) }
@@ -149,7 +145,6 @@ pub fn launch_meta<A: Grows, S: Allocator>(
     ensures variables { IfOk result
         (λ i. (name value : List ℕ) → Contains i.environment (name, value)
         ↔ IsAgentVariable site.now provider.now agent.now name value) }
-    ensures memory { OnErr result (IsTrue A.refuses) }
 {
     let environment = meta_variables(alloc, site, provider, agent)?;
     let file = agent_file(alloc, site, provider, agent)?;

@@ -1,15 +1,15 @@
 //! The variables that Pacemaker sets in addition to those of the standard.
-ghost use Rattle.std.specs.Prelude.{◌≡◌, ◌↔◌, ℕ, List, IfOk, OnErr, OnOk, Contains, IsTrue, bytes_eq, count_by};
+ghost use Rattle.std.specs.Prelude.{◌≡◌, ◌↔◌, ℕ, List, IfOk, OnOk, Contains, bytes_eq, count_by};
 ghost use Rattle.std.specs.List.{list_any};
 ghost use Rattle.ocf_types.specs.Params.{is_before};
 ghost use Rattle.ocf_env.specs.Lists.{with_meta, with_new};
 
 use crate::text::{Text, copied};
 use crate::variables::Pairs;
-use growth::Grows;
+use growth::{Grows, Refused};
 use itoa::Buffer;
 use ocf_types::Running;
-use std::alloc::{AllocError, Allocator};
+use std::alloc::Allocator;
 
 fn is_before(a: &str, b: &str) -> bool
     ensures { result ≡ is_before a.now b.now }
@@ -38,9 +38,8 @@ fn add_new<A: Grows>(
     pairs: &mut Pairs<A>,
     name: &str,
     value: &str,
-) -> Result<(), AllocError>
+) -> Result<(), Refused<A>>
     ensures pairs { OnOk result (pairs.new.items ≡ with_new (name.now, value.now) pairs.old.items) }
-    ensures memory { OnErr result (IsTrue A.refuses) }
 {
     if is_there(pairs.as_slice(), name) {
         return Ok(());
@@ -60,9 +59,8 @@ pub fn add_meta<A: Grows>(
     alloc: A,
     pairs: &mut Pairs<A>,
     running: Running,
-) -> Result<(), AllocError>
+) -> Result<(), Refused<A>>
     ensures pairs { OnOk result (pairs.new.items ≡ with_meta running pairs.old.items) }
-    ensures memory { OnErr result (IsTrue A.refuses) }
 {
     let mut digits = Buffer::new();
     let interval = digits.format(running.interval);

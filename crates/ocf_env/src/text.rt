@@ -1,10 +1,10 @@
 //! Texts that contracts see as bytes.
-ghost use Rattle.std.specs.Prelude.{◌≡◌, ◌++◌, IfOk, IsTrue, OnErr};
+ghost use Rattle.std.specs.Prelude.{◌≡◌, ◌++◌, IfOk};
 ghost use Rattle.std.specs.String.{string_bytes};
 ghost use Rattle.std.specs.Str.{IsAscii};
 
-use growth::{Grows, push_text, text_of};
-use std::alloc::{AllocError, Allocator, Global};
+use growth::{Grows, Refused, push_text, text_of};
+use std::alloc::{Allocator, Global};
 use std::marker::Model;
 use std::str::from_utf8;
 
@@ -40,17 +40,15 @@ impl<A: Allocator> Text<A> {
 }
 
 /// A copy of a text.
-pub fn copied<A: Grows>(alloc: A, text: &str) -> Result<Text<A>, AllocError>
+pub fn copied<A: Grows>(alloc: A, text: &str) -> Result<Text<A>, Refused<A>>
     ensures text { IfOk result (λ t. t ≡ text.now) }
-    ensures memory { OnErr result (IsTrue A.refuses) }
 {
     Ok(Text::new(text_of(alloc, text)?))
 }
 
 /// The concatenation of two texts.
-pub fn joined<A: Grows>(alloc: A, head: &str, tail: &str) -> Result<Text<A>, AllocError>
+pub fn joined<A: Grows>(alloc: A, head: &str, tail: &str) -> Result<Text<A>, Refused<A>>
     ensures text { IfOk result (λ t. t ≡ head.now ++ tail.now) }
-    ensures memory { OnErr result (IsTrue A.refuses) }
 {
     let mut text = text_of(alloc, head)?;
     push_text(&mut text, tail)?;

@@ -1,5 +1,5 @@
 //! Appends the variables of an environment, in the order of their names.
-ghost use Rattle.std.specs.Prelude.{◌≡◌, ◌++◌, [], ◌∷◌, IsTrue, OnErr, OnOk, decimal};
+ghost use Rattle.std.specs.Prelude.{◌≡◌, ◌++◌, [], ◌∷◌, OnOk, decimal};
 ghost use Rattle.ocf_types.specs.Actions.{level_number};
 ghost use Rattle.ocf_types.specs.Params.{AreParams};
 ghost use Rattle.ocf_env.specs.Variables.{reskey};
@@ -7,9 +7,9 @@ ghost use Rattle.ocf_env.specs.Lists.{level_pairs, version_pairs, param_pairs, i
 
 use crate::site::Site;
 use crate::text::{Text, ascii, copied, joined};
-use growth::{Grows, push};
+use growth::{Grows, Refused, push};
 use ocf_types::{Action, AgentType, Level, ParamName, ParamValue, Params, Provider, RscId, Task};
-use std::alloc::{AllocError, Allocator};
+use std::alloc::Allocator;
 
 /// A list of variables that is being filled.
 pub type Pairs<A> = Vec<(Text<A>, Text<A>), A>;
@@ -19,9 +19,8 @@ fn push_pair<A: Grows>(
     pairs: &mut Pairs<A>,
     name: &str,
     value: &str,
-) -> Result<(), AllocError>
+) -> Result<(), Refused<A>>
     ensures pairs { OnOk result (pairs.new.items ≡ pairs.old.items ++ (name.now, value.now) ∷ []) }
-    ensures memory { OnErr result (IsTrue A.refuses) }
 {
     let name = copied(alloc, name)?;
     let value = copied(alloc, value)?;
@@ -40,9 +39,8 @@ fn level_text(level: Level) -> &'static str
 }
 
 /// Appends the level of a monitor. OCF Resource Agent API 1.1, OCF_CHECK_LEVEL.
-pub fn push_level<A: Grows>(alloc: A, pairs: &mut Pairs<A>, task: Task) -> Result<(), AllocError>
+pub fn push_level<A: Grows>(alloc: A, pairs: &mut Pairs<A>, task: Task) -> Result<(), Refused<A>>
     ensures pairs { OnOk result (pairs.new.items ≡ pairs.old.items ++ level_pairs task) }
-    ensures memory { OnErr result (IsTrue A.refuses) }
 {
     match task.action() {
         Action::Monitor => {
@@ -59,9 +57,8 @@ pub fn push_level<A: Grows>(alloc: A, pairs: &mut Pairs<A>, task: Task) -> Resul
 }
 
 /// Appends the version of the standard, 1.1. OCF Resource Agent API 1.1, OCF_RA_VERSION_MAJOR.
-pub fn push_version<A: Grows>(alloc: A, pairs: &mut Pairs<A>) -> Result<(), AllocError>
+pub fn push_version<A: Grows>(alloc: A, pairs: &mut Pairs<A>) -> Result<(), Refused<A>>
     ensures pairs { OnOk result (pairs.new.items ≡ pairs.old.items ++ version_pairs) }
-    ensures memory { OnErr result (IsTrue A.refuses) }
 {
     push_pair(alloc, pairs, "OCF_RA_VERSION_MAJOR", "1")?;
     push_pair(alloc, pairs, "OCF_RA_VERSION_MINOR", "1")?;
@@ -73,10 +70,9 @@ fn push_param<A: Grows, P: Allocator>(
     alloc: A,
     pairs: &mut Pairs<A>,
     param: &(ParamName, ParamValue<P>),
-) -> Result<(), AllocError>
+) -> Result<(), Refused<A>>
     ensures pairs { OnOk result (pairs.new.items
         ≡ pairs.old.items ++ (reskey param.now.0, param.now.1) ∷ []) }
-    ensures memory { OnErr result (IsTrue A.refuses) }
 {
     let name = joined(alloc, "OCF_RESKEY_", ascii(param.0.as_bytes()))?;
     let value = copied(alloc, param.1.as_str())?;
@@ -89,10 +85,9 @@ pub fn push_params<A: Grows, P: Allocator>(
     alloc: A,
     pairs: &mut Pairs<A>,
     params: &Params<P>,
-) -> Result<(), AllocError>
+) -> Result<(), Refused<A>>
     ensures pairs { OnOk result (pairs.new.items ≡ pairs.old.items ++ param_pairs params.now) }
     ensures lawful { AreParams params.now }
-    ensures memory { OnErr result (IsTrue A.refuses) }
 {
     for param in params.as_slice() {
         push_param(alloc, pairs, param)?;
@@ -102,9 +97,8 @@ pub fn push_params<A: Grows, P: Allocator>(
 
 /// Appends the instance. OCF Resource Agent API 1.1, OCF_RESOURCE_INSTANCE.
 #[tactic(auto, using(ocf_types::specs::NameLemmas::ids))]
-pub fn push_instance<A: Grows>(alloc: A, pairs: &mut Pairs<A>, id: &RscId) -> Result<(), AllocError>
+pub fn push_instance<A: Grows>(alloc: A, pairs: &mut Pairs<A>, id: &RscId) -> Result<(), Refused<A>>
     ensures pairs { OnOk result (pairs.new.items ≡ pairs.old.items ++ instance_pair id.now ∷ []) }
-    ensures memory { OnErr result (IsTrue A.refuses) }
 {
     push_pair(alloc, pairs, "OCF_RESOURCE_INSTANCE", ascii(id.as_bytes()))?;
     Ok(())
@@ -116,10 +110,9 @@ fn push_agent<A: Grows>(
     pairs: &mut Pairs<A>,
     provider: &Provider,
     agent: &AgentType,
-) -> Result<(), AllocError>
+) -> Result<(), Refused<A>>
     ensures pairs { OnOk result (pairs.new.items
         ≡ pairs.old.items ++ agent_pairs provider.now agent.now) }
-    ensures memory { OnErr result (IsTrue A.refuses) }
 {
     push_pair(
         alloc,
@@ -135,9 +128,8 @@ fn push_site<A: Grows, S: Allocator>(
     alloc: A,
     pairs: &mut Pairs<A>,
     site: &Site<S>,
-) -> Result<(), AllocError>
+) -> Result<(), Refused<A>>
     ensures pairs { OnOk result (pairs.new.items ≡ pairs.old.items ++ site_pairs site.now) }
-    ensures memory { OnErr result (IsTrue A.refuses) }
 {
     push_pair(alloc, pairs, "OCF_ROOT", site.root())?;
     push_pair(alloc, pairs, "PATH", site.path())
@@ -150,10 +142,9 @@ pub fn push_last<A: Grows, S: Allocator>(
     site: &Site<S>,
     provider: &Provider,
     agent: &AgentType,
-) -> Result<(), AllocError>
+) -> Result<(), Refused<A>>
     ensures pairs { OnOk result (pairs.new.items
         ≡ pairs.old.items ++ last_pairs site.now provider.now agent.now) }
-    ensures memory { OnErr result (IsTrue A.refuses) }
 {
     push_agent(alloc, pairs, provider, agent)?;
     push_site(alloc, pairs, site)

@@ -16,6 +16,7 @@ mod limits;
 mod names;
 mod numbers;
 mod operation;
+mod orphan;
 mod outcome;
 mod param_name;
 mod params;
@@ -45,6 +46,7 @@ pub use limits::{
 pub use names::BadName;
 pub use numbers::{CallId, Millis, Moment, RunId};
 pub use operation::{Ended, Op, Recur, Running};
+pub use orphan::Orphan;
 pub use outcome::{MetaFault, Outcome, OutcomeRow, RunEnd, StartFault};
 pub use param_name::ParamName;
 pub use params::Params;

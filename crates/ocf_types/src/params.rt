@@ -6,8 +6,8 @@ ghost use Rattle.ocf_types.specs.Params.{AreParams, is_before, is_after, last_na
 use crate::limits::PARAMS_LIMIT;
 use crate::param_name::ParamName;
 use crate::values::{ParamValue, ValueError};
-use growth::{Grows, push};
-use std::alloc::{AllocError, Allocator, Global};
+use growth::{Grows, Refused, push};
+use std::alloc::{Allocator, Global};
 use std::marker::Model;
 
 fn is_before(a: &ParamName, b: &ParamName) -> bool
@@ -87,12 +87,11 @@ impl<A: Allocator> Params<A> {
 impl<A: Grows> Params<A> {
     /// Appends a parameter whose name comes after all names of the list.
     #[tactic(auto, using(crate::proofs::ParamsLemmas::AreParams_push))]
-    pub fn push(&mut self, name: ParamName, value: ParamValue<A>) -> Result<(), AllocError>
+    pub fn push(&mut self, name: ParamName, value: ParamValue<A>) -> Result<(), Refused<A>>
         requires room { length self.old < PARAMS_LIMIT }
         requires after { IsTrue (is_after (last_name None self.old) name) }
         ensures ok { OnOk result (self.new ≡ self.old ++ (name, value) ∷ []) }
         ensures err { OnErr result (self.new ≡ self.old) }
-        ensures memory { OnErr result (IsTrue A.refuses) }
     {
         let _ = name.as_bytes();
         let _ = value.as_str();
@@ -132,9 +131,8 @@ impl<A: Grows> Params<A> {
 
 impl<A: Grows> Params<A> {
     /// A copy of the parameters. The only error is a refused allocation.
-    pub fn copied(&self, alloc: A) -> Result<Self, AllocError>
+    pub fn copied(&self, alloc: A) -> Result<Self, Refused<A>>
         ensures params { IfOk result (λ params. params ≡ self.now) }
-        ensures memory { OnErr result (IsTrue A.refuses) }
     {
         let mut entries = Vec::new(alloc);
         for (name, value) in self.entries.as_slice() {

@@ -1,11 +1,11 @@
 //! Values of parameters.
-ghost use Rattle.std.specs.Prelude.{◌≡◌, ◌==◌, ◌≤◌, not, length, Err, IsTrue, IfOk, OnErr};
+ghost use Rattle.std.specs.Prelude.{◌≡◌, ◌==◌, ◌≤◌, not, length, Err, IsTrue, IfOk};
 ghost use Rattle.std.specs.List.{list_all};
 ghost use Rattle.ocf_types.specs.Values.{is_param_value, IsValueOrRefused};
 
 use crate::limits::VALUE_LIMIT;
-use growth::{Grows, text_of};
-use std::alloc::{AllocError, Allocator, Global};
+use growth::{Grows, Refused, text_of};
+use std::alloc::{Allocator, Global};
 use std::marker::Model;
 use std::str::from_utf8;
 use thiserror::Error;
@@ -79,9 +79,8 @@ impl<A: Allocator> ParamValue<A> {
 
 impl<A: Grows> ParamValue<A> {
     /// A copy of the value. The only error is a refused allocation.
-    pub fn copied(&self, alloc: A) -> Result<Self, AllocError>
+    pub fn copied(&self, alloc: A) -> Result<Self, Refused<A>>
         ensures value { IfOk result (λ value. value ≡ self.now) }
-        ensures memory { OnErr result (IsTrue A.refuses) }
     {
         let text = text_of(alloc, self.text.as_str())?;
         Ok(ParamValue { text })

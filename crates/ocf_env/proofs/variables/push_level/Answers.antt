@@ -5,8 +5,10 @@ use Rattle.ocf_types.specs.declared.action.Check.{Check}
 use Rattle.ocf_env.proofs.PushLemmas.{valued}
 use Rattle.ocf_env.proofs.variables.push_level.Goals as goal
 
-pub returns-in_ok-push_pair-in-Monitor-clause-pairs : goal.returns-in_ok-push_pair-in-Monitor-clause-pairs
-returns-in_ok-push_pair-in-Monitor-clause-pairs g c =
-    let monitor : c.args.task.action ≡ Monitor = sym c.action.ensures ∙ c.in-Monitor.is in
-    rw monitor (valued _ _ _ _ _ c.in_ok-push_pair-in-Monitor.ensures.pairs
-    (c.level_text.ensures ∙ ap (λ (x : Check). decimal (level_number x.level)) c.check.ensures))
+pub returns-in_ok-push_pair-in-Monitor : goal.returns-in_ok-push_pair-in-Monitor
+returns-in_ok-push_pair-in-Monitor g c = record {
+  pairs =
+      let monitor : c.args.task.action ≡ Monitor = sym c.action.ensures ∙ c.in-Monitor.is in
+      rw monitor (valued _ _ _ _ _ c.in_ok-push_pair-in-Monitor.ensures.pairs
+      (c.level_text.ensures ∙ ap (λ (x : Check). decimal (level_number x.level)) c.check.ensures));
+}

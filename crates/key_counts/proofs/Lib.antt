@@ -1,0 +1,3 @@
+pub mod ColonLemmas
+pub mod MemberLemmas
+pub mod CountLemmas
