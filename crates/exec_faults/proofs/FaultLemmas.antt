@@ -2,8 +2,8 @@
 use Rattle.std.proofs.Common.{◌≡◌, Bool, IsTrue, refl}
 use Rattle.exec_journal.specs.declared.fault.JournalFault.{JournalFault}
 use Rattle.exec_journal.specs.declared.fault.JournalFault.TheVariants as journal
-use Rattle.exec_messages.specs.declared.send.IoFault.{IoFault}
-use Rattle.exec_messages.specs.declared.send.IoFault.TheVariants as io
+use Rattle.exec_lines.specs.declared.io_fault.IoFault.{IoFault}
+use Rattle.exec_lines.specs.declared.io_fault.IoFault.TheVariants as io
 use Rattle.exec_faults.specs.Faults.{HasCause, opening_fault, output_fault}
 
 -- where an opening was refused memory, the fault of the program has the same cause

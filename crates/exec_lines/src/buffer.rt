@@ -1,10 +1,10 @@
 //! The buffer that a line is read into.
-ghost use Rattle.std.specs.Prelude.{◌≡◌, ◌≤◌, ◌↔◌, [], ◌++◌, IsTrue, IfOk, OnErr, length, take, vec_len, vec_capacity};
+ghost use Rattle.std.specs.Prelude.{◌≡◌, ◌≤◌, ◌↔◌, [], ◌++◌, IsTrue, IfOk, length, take, vec_len, vec_capacity};
 ghost use Rattle.exec_lines.specs.Lines.{line_room};
 
-use growth::{Grows, with_capacity};
+use growth::{Grows, Refused, with_capacity};
 use ocf_types::LINE_LIMIT;
-use std::alloc::{AllocError, Allocator, Global};
+use std::alloc::{Allocator, Global};
 
 // One byte more than the greatest length of a line: a full buffer holds the beginning of a longer line.
 const ROOM: usize = LINE_LIMIT + 1;
@@ -22,9 +22,8 @@ impl<A: Grows> LineBuffer<A> {
     ghost use Rattle.exec_lines.specs.Buffer.{line_bytes};
 
     /// An empty buffer.
-    pub fn new(alloc: A) -> Result<LineBuffer<A>, AllocError>
+    pub fn new(alloc: A) -> Result<LineBuffer<A>, Refused<A>>
         ensures empty { IfOk result (λ b. line_bytes b ≡ []) }
-        ensures memory { OnErr result (IsTrue A.refuses) }
     {
         let bytes = with_capacity(alloc, ROOM)?;
         Ok(LineBuffer { bytes })

@@ -100,7 +100,7 @@ impl<R: Buffered> Input for LineInput<R> {
         ensures line { IsTrue result ↔ Contains (R.ahead self.old.reader) 10 }
     {
         let has_line = self.reader.ahead().contains(&b'\n');
-        // TRUSTED: the reader was asked what was read already.
+        // TRUSTED: nothing was read or polled: only the bytes that were read before were looked at.
         self.note.follow(&has_line);
         has_line
     }

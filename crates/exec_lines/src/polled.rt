@@ -53,7 +53,7 @@ impl<T> Polled<T> {
             Some(descriptor) => is_writable(descriptor, millis),
             None => true,
         };
-        // TRUSTED: as in `is_readable`.
+        // TRUSTED: the descriptor was polled once, for at most this time, and this is the answer; what has no descriptor is ready.
         self.note.follow(&(millis, is_ready));
         is_ready
     }
@@ -64,7 +64,7 @@ impl<T> Polled<T> {
         ensures told { self.new.note.told ≡ after_look self.old.note.told result }
     {
         let is_unread = is_hung_up(replies);
-        // TRUSTED: this is the answer of the system.
+        // TRUSTED: poll(2) says whether the other end of the replies' descriptor is closed.
         self.note.follow(&is_unread);
         is_unread
     }

@@ -1,11 +1,11 @@
 //! Bytes that were read from a descriptor and not yet taken.
-ghost use Rattle.std.specs.Prelude.{◌≡◌, ◌≤◌, ◌<◌, [], IfOk, IsTrue, OnErr, length, slice_range, vec_len};
+ghost use Rattle.std.specs.Prelude.{◌≡◌, ◌≤◌, ◌<◌, [], IfOk, length, slice_range, vec_len};
 ghost use Rattle.std.specs.Io.KnownBytes.{prepend_known};
 
 use crate::buffered::Buffered;
 use crate::patient::Patient;
-use growth::{GROWTH_LIMIT, Grows, fill};
-use std::alloc::{AllocError, Allocator, Global};
+use growth::{GROWTH_LIMIT, Grows, Refused, fill};
+use std::alloc::{Allocator, Global};
 use std::io::{self, Read};
 
 /// A buffer over a reader of a descriptor. It allocates all its memory when it is made.
@@ -22,12 +22,11 @@ pub struct ReadAhead<R, A: Allocator = Global> {
 
 impl<R: Read + Drop, A: Grows> ReadAhead<R, A> {
     /// An empty buffer of so many bytes.
-    pub fn new(alloc: A, len: usize, patient: Patient<R>) -> Result<ReadAhead<R, A>, AllocError>
+    pub fn new(alloc: A, len: usize, patient: Patient<R>) -> Result<ReadAhead<R, A>, Refused<A>>
         requires some { 1 ≤ len }
         requires limit { len ≤ GROWTH_LIMIT }
         ensures patient { IfOk result (λ r. r.patient ≡ patient) }
         ensures empty { IfOk result (λ r. slice_range r.bytes.items r.start r.end ≡ []) }
-        ensures memory { OnErr result (IsTrue A.refuses) }
     {
         let mut bytes = Vec::new(alloc);
         fill(&mut bytes, len, 0)?;

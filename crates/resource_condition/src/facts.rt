@@ -1,5 +1,5 @@
 //! What the events of a journal's records hold of each resource.
-ghost use Rattle.std.specs.Prelude.{◌≡◌, ◌<◌, ◌++◌, ◌∷◌, [], List, length, IfOk, IsTrue, OnErr, OnOk};
+ghost use Rattle.std.specs.Prelude.{◌≡◌, ◌<◌, ◌++◌, ◌∷◌, [], List, length, IfOk, OnOk};
 ghost use Rattle.std.specs.List.{flat_map};
 ghost use Rattle.ocf_types.specs.Indexes.{entry_at};
 ghost use Rattle.ocf_types.specs.Resource.{ended_of};
@@ -8,11 +8,11 @@ ghost use Rattle.resource_condition.specs.Facts.{FactOf, Tells, ended_facts, fac
 
 use crate::condition::{Recorded, after, held_in};
 use exec_state::State;
-use growth::Grows;
+use growth::{Grows, Refused};
 use indexmap::IndexMap;
 use ocf_types::{Change, Ended, Event, Moment, Outcome, Params, RscId, Running, StateView, Step};
 use run_counts::{end_of, ending};
-use std::alloc::{AllocError, Global};
+use std::alloc::Global;
 
 /// What the records hold of each resource, by its id.
 pub type RecordedById = IndexMap<RscId, Recorded>;
@@ -73,10 +73,9 @@ pub fn recorded_of(recorded: &RecordedById, id: &RscId) -> Recorded
 }
 
 // Takes one more fact of a resource.
-fn take(recorded: &mut RecordedById, id: &RscId, fact: &Fact) -> Result<(), AllocError>
+fn take(recorded: &mut RecordedById, id: &RscId, fact: &Fact) -> Result<(), Refused>
     ensures told { (facts : List FactOf) → Tells recorded.old.entries facts
         → OnOk result (Tells recorded.new.entries (facts ++ fact_of id.now fact.now ∷ [])) }
-    ensures memory { OnErr result (IsTrue ⟦<Global as Grows>⟧.refuses) }
 {
     let next = taken(&recorded_of(recorded, id), fact);
     Global::reserve_entries(recorded, 1)?;
@@ -87,10 +86,9 @@ fn take(recorded: &mut RecordedById, id: &RscId, fact: &Fact) -> Result<(), Allo
 }
 
 // Takes what a change names: a new resource, or one whose results are forgotten.
-fn take_named(recorded: &mut RecordedById, change: &Change<Params>) -> Result<(), AllocError>
+fn take_named(recorded: &mut RecordedById, change: &Change<Params>) -> Result<(), Refused>
     ensures told { (facts : List FactOf) → Tells recorded.old.entries facts
         → OnOk result (Tells recorded.new.entries (facts ++ named_facts change.now)) }
-    ensures memory { OnErr result (IsTrue ⟦<Global as Grows>⟧.refuses) }
 {
     match change {
         Change::Register(registration) => {
@@ -122,11 +120,10 @@ fn take_index(
     state: &State,
     event: &Event,
     index: usize,
-) -> Result<(), AllocError>
+) -> Result<(), Refused>
     requires { index < length state.now.state.resources }
     ensures told { (facts : List FactOf) → Tells recorded.old.entries facts → OnOk result
         (Tells recorded.new.entries (facts ++ ended_facts event.now (entry_at state.now.state index))) }
-    ensures memory { OnErr result (IsTrue ⟦<Global as Grows>⟧.refuses) }
 {
     let id = state.id_at(index);
     let Some(outcome) = end_of(&event.change, id) else {
@@ -140,11 +137,10 @@ fn take_index(
 }
 
 // Takes the results of all resources whose running actions the event ends.
-fn take_ended(recorded: &mut RecordedById, state: &State, event: &Event) -> Result<(), AllocError>
+fn take_ended(recorded: &mut RecordedById, state: &State, event: &Event) -> Result<(), Refused>
     ensures told { (facts : List FactOf) → Tells recorded.old.entries facts → OnOk result
         (Tells recorded.new.entries
         (facts ++ flat_map (ended_facts event.now) state.now.state.resources)) }
-    ensures memory { OnErr result (IsTrue ⟦<Global as Grows>⟧.refuses) }
 {
     let (from, to) = ending(state, &event.change);
     for index in from..to {
@@ -154,23 +150,17 @@ fn take_ended(recorded: &mut RecordedById, state: &State, event: &Event) -> Resu
 }
 
 /// Takes the facts of an event, by the state before it.
-pub fn take_event(
-    recorded: &mut RecordedById,
-    state: &State,
-    event: &Event,
-) -> Result<(), AllocError>
+pub fn take_event(recorded: &mut RecordedById, state: &State, event: &Event) -> Result<(), Refused>
     ensures told { (facts : List FactOf) → Tells recorded.old.entries facts → OnOk result
         (Tells recorded.new.entries (facts ++ facts_by state.now.state event.now)) }
-    ensures memory { OnErr result (IsTrue ⟦<Global as Grows>⟧.refuses) }
 {
     take_named(recorded, &event.change)?;
     take_ended(recorded, state, event)
 }
 
 /// What the histories of a state hold of each resource.
-pub fn recorded_in(alloc: Global, state: &State) -> Result<RecordedById, AllocError>
+pub fn recorded_in(alloc: Global, state: &State) -> Result<RecordedById, Refused>
     ensures told { IfOk result (λ recorded. Tells recorded.entries (facts_of state.now.state)) }
-    ensures memory { OnErr result (IsTrue ⟦<Global as Grows>⟧.refuses) }
 {
     let mut recorded = RecordedById::new(alloc);
     for index in 0..state.len() {

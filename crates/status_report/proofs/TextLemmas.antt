@@ -1,5 +1,5 @@
 -- What is written of a state: the list, and then the lines of its resources.
-use Rattle.std.proofs.Common.{◌≡◌, inl, inr, ℕ, List, [], Result, Ok, Err, OnOk, Option, map, sym, ap, subst, ◌∙◌}
+use Rattle.std.proofs.Common.{◌≡◌, inl, inr, ℕ, List, [], Result, Ok, Err, OnOk, Option, None, map, sym, ap, subst, ◌∙◌}
 use Rattle.std.specs.List.{flat_map}
 use Rattle.std.specs.Io.KnownBytes.{Appends}
 use Rattle.std.proofs.KnownBytes.{Appends-trans}
@@ -9,8 +9,9 @@ use Rattle.ocf_types.specs.State.{State}
 use Rattle.ocf_types.specs.declared.command.Question.TheVariants as question
 use Rattle.ocf_types.specs.declared.reply.ReplyOf.TheVariants as reply
 use Rattle.exec_state.specs.Answers.{IsReplyOrMemory}
-use Rattle.exec_commands.specs.declared.reply.LineReply.TheVariants.{Request}
-use Rattle.exec_commands.specs.Replies.{reply_line}
+use Rattle.exec_replies.specs.declared.reply.LineReply.TheVariants.{Request}
+use Rattle.exec_replies.specs.Replies.{reply_line}
+use Rattle.exec_replies.specs.declared.notice.NoticeForm.TheVariants.{Short}
 use Rattle.status_report.specs.Shown.{answer_line, resource_lines, shown}
 
 abbrev ids_of : Reply → List (List ℕ)
@@ -26,10 +27,10 @@ ids_are s ids given (inr memory) is = absurd cc
 -- the list, and then the lines of its resources
 pub shows : {A E : Type 0} (s : State) (ids : List (List ℕ)) (given : Reply) (r : Result A E) (a b c : Option (List ℕ))
     → IsReplyOrMemory (reply_to s question.List) given → given ≡ reply.List ids
-    → Appends a b (reply_line (Request given)) → OnOk r (Appends b c (flat_map (resource_lines s) ids)) → OnOk r (Appends a c (shown s))
+    → Appends a b (reply_line Short None (Request given)) → OnOk r (Appends b c (flat_map (resource_lines s) ids)) → OnOk r (Appends a c (shown s))
 shows s ids given (Ok x) a b c answer is list rest =
     let same = ids_are s ids given answer is in
     Appends-trans a b c (answer_line s question.List) (flat_map (resource_lines s) (map (λ e. e.0) s.resources))
-    (subst (λ g. Appends a b (reply_line (Request g))) (is ∙ ap reply.List same) list)
+    (subst (λ g. Appends a b (reply_line Short None (Request g))) (is ∙ ap reply.List same) list)
     (subst (λ l. Appends b c (flat_map (resource_lines s) l)) same rest)
 shows s ids given (Err e) a b c answer is list rest = tt

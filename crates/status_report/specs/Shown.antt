@@ -1,5 +1,5 @@
 -- What `show` prints of a state.
-use Rattle.std.specs.Prelude.{◌≡◌, ℕ, ⊤, List, ◌++◌, map, Option, Result, Ok, Err}
+use Rattle.std.specs.Prelude.{◌≡◌, ℕ, ⊤, List, ◌++◌, map, Option, None, Result, Ok, Err}
 use Rattle.std.specs.Io.KnownBytes.{Appends}
 use Rattle.std.specs.List.{flat_map}
 use Rattle.ocf_types.specs.Answer.{reply_to}
@@ -8,14 +8,15 @@ use Rattle.ocf_types.specs.declared.command.Question.{Question}
 use Rattle.ocf_types.specs.declared.command.Question.TheVariants as question
 use Rattle.disk_model.specs.Image.{Image}
 use Rattle.exec_journal.specs.Found.{FoundAs, HasDamage}
-use Rattle.exec_commands.specs.declared.reply.LineReply.TheVariants.{Request}
-use Rattle.exec_commands.specs.Replies.{reply_line}
+use Rattle.exec_replies.specs.declared.reply.LineReply.TheVariants.{Request}
+use Rattle.exec_replies.specs.Replies.{reply_line}
+use Rattle.exec_replies.specs.declared.notice.NoticeForm.TheVariants.{Short}
 use Rattle.exec_faults.specs.declared.fault.Fault.{Fault}
 use Rattle.exec_faults.specs.declared.fault.Fault.TheVariants as fault
 
 -- the line of the answer to a question
 abbrev pub answer_line : State → Question → List ℕ
-answer_line s q = reply_line (Request (reply_to s q))
+answer_line s q = reply_line Short None (Request (reply_to s q))
 
 -- the lines of `info` and `history` of a resource
 abbrev pub resource_lines : State → List ℕ → List ℕ

@@ -7,7 +7,7 @@ use Rattle.serde_json.specs.Written.{compact_text}
 use Rattle.ocf_types.specs.Actions.{action_word}
 use Rattle.ocf_types.specs.State.{State}
 use Rattle.ocf_types.specs.declared.operation.Running.{Running}
-use Rattle.exec_commands.specs.Objects.{natural_data, object_from}
+use Rattle.exec_replies.specs.Objects.{natural_data, object_from}
 use Rattle.resource_condition.specs.Conditions.{condition_word}
 use Rattle.resource_status.specs.Statuses.{failure_data, reason_data}
 use Rattle.resource_condition.specs.declared.condition.Since.{Since}

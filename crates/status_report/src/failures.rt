@@ -1,5 +1,5 @@
 //! The resources that have a failed action.
-ghost use Rattle.std.specs.Prelude.{◌≡◌, ◌<◌, ◌++◌, length, IfErr, IfOk, IsTrue, OnErr, OnOk};
+ghost use Rattle.std.specs.Prelude.{◌≡◌, ◌<◌, ◌++◌, length, IfErr, IfOk, OnOk};
 ghost use Rattle.exec_journal.specs.Opening.{Opens};
 ghost use Rattle.ocf_types.specs.Indexes.{entry_at};
 ghost use Rattle.exec_faults.specs.Faults.{HasCause};
@@ -10,9 +10,9 @@ use disk_model::Disk;
 use exec_faults::Fault;
 use exec_journal::Journal;
 use exec_state::State;
-use growth::{Grows, push};
+use growth::{Grows, Refused, push};
 use ocf_types::{RscId, StateView};
-use std::alloc::{AllocError, Global};
+use std::alloc::Global;
 
 // Adds the id of a resource if it is asked for and has a failed action.
 fn add_failed_id(
@@ -20,11 +20,10 @@ fn add_failed_id(
     options: &StatusOptions,
     state: &State,
     index: usize,
-) -> Result<(), AllocError>
+) -> Result<(), Refused>
     requires { index < length state.now.state.resources }
     ensures ids { OnOk result (ids.new.items
         ≡ ids.old.items ++ failed_id options.now (entry_at state.now.state index)) }
-    ensures memory { OnErr result (IsTrue ⟦<Global as Grows>⟧.refuses) }
 {
     let id = state.id_at(index);
     if options.asks_for(id) && state.failed_at(index).is_some() {
@@ -36,13 +35,8 @@ fn add_failed_id(
 
 // The ids of these resources, in order of registration.
 #[tactic(auto, using(crate::proofs::FailedLemmas::id_more))]
-fn failed_ids(
-    alloc: Global,
-    options: &StatusOptions,
-    state: &State,
-) -> Result<Vec<RscId>, AllocError>
+fn failed_ids(alloc: Global, options: &StatusOptions, state: &State) -> Result<Vec<RscId>, Refused>
     ensures ids { IfOk result (λ ids. ids.items ≡ failed_ids options.now state.now.state) }
-    ensures memory { OnErr result (IsTrue ⟦<Global as Grows>⟧.refuses) }
 {
     let mut ids = Vec::new(alloc);
     for index in 0..state.len() {

@@ -1,14 +1,14 @@
 //! What is shown of each resource.
-ghost use Rattle.std.specs.Prelude.{◌≡◌, ◌<◌, length, IfOk, IsTrue, OnErr};
+ghost use Rattle.std.specs.Prelude.{◌≡◌, ◌<◌, length, IfOk};
 ghost use Rattle.ocf_types.specs.Indexes.{entry_at};
 ghost use Rattle.status_report.specs.Rows.{is_shown, row_of, rows_of};
 
 use crate::options::StatusOptions;
 use exec_state::State;
-use growth::{Grows, push};
+use growth::{Refused, push};
 use ocf_types::{Ended, RscId, Running, StateView};
 use resource_condition::{Condition, RecordedById, Since, condition_by, recorded_of, since_by};
-use std::alloc::{AllocError, Global};
+use std::alloc::Global;
 
 /// What is shown of a resource.
 #[derive(Drop)]
@@ -62,10 +62,9 @@ pub(crate) fn rows_of(
     options: &StatusOptions,
     recorded: &RecordedById,
     state: &State,
-) -> Result<Vec<Row>, AllocError>
+) -> Result<Vec<Row>, Refused>
     ensures rows { IfOk result
         (λ rows. rows.items ≡ rows_of options.now recorded.now.entries state.now.state) }
-    ensures memory { OnErr result (IsTrue ⟦<Global as Grows>⟧.refuses) }
 {
     let mut rows = Vec::new(alloc);
     for index in 0..state.len() {

@@ -1,20 +1,20 @@
 //! What a journal holds, as replies.
-ghost use Rattle.std.specs.Prelude.{◌≡◌, IsErrOf, OnOk, IsTrue, IfErr};
+ghost use Rattle.std.specs.Prelude.{◌≡◌, IsErrOf, None, OnOk, IsTrue, IfErr};
 ghost use Rattle.std.specs.Io.KnownBytes.{Appends};
 ghost use Rattle.std.specs.List.{flat_map};
 ghost use Rattle.disk_model.specs.Disk.{Increased};
-ghost use Rattle.exec_commands.specs.Replies.{reply_line};
+ghost use Rattle.exec_replies.specs.Replies.{reply_line};
+ghost use Rattle.exec_replies.specs.declared.notice.NoticeForm.TheVariants.{Short};
 ghost use Rattle.exec_journal.specs.Opening.{Opens};
 ghost use Rattle.exec_faults.specs.Faults.{HasCause, IsRunEnd};
-ghost use Rattle.exec_messages.specs.declared.send.IoFault.TheVariants.{Memory};
+ghost use Rattle.exec_lines.specs.declared.io_fault.IoFault.TheVariants.{Memory};
 ghost use Rattle.status_report.specs.Shown.{ShowsAs, answer_line, resource_lines, shown};
 
 use disk_model::Disk;
-use exec_commands::{LineReply, NoticeForm, Tagged, write_sent_reply};
 use exec_faults::Fault;
 use exec_journal::Journal;
-use exec_lines::write_flushed;
-use exec_messages::IoFault;
+use exec_lines::{IoFault, write_flushed};
+use exec_replies::{LineReply, NoticeForm, Tagged, write_reply};
 use exec_state::State;
 use growth::Grows;
 use ocf_types::{Question, Refusal, Reply, RscId};
@@ -28,7 +28,7 @@ pub(crate) fn send_plain<W: Write>(
     reply: &LineReply,
 ) -> Result<(), IoFault>
     ensures sent { OnOk result
-        (Appends (W.contents writer.old) (W.contents writer.new) (reply_line reply.now)) }
+        (Appends (W.contents writer.old) (W.contents writer.new) (reply_line Short None reply.now)) }
     ensures memory { IfErr result (λ f. f ≡ Memory → IsTrue ⟦<Global as Grows>⟧.refuses) }
 {
     let tagged = Tagged {
@@ -36,7 +36,8 @@ pub(crate) fn send_plain<W: Write>(
         tag: None,
         reason: None,
     };
-    let line = write_sent_reply(alloc, tagged, reply)?;
+    let mut line = Vec::new(alloc);
+    write_reply(&mut line, tagged, reply)?;
     write_flushed(writer, line.as_slice())?;
     Ok(())
 }

@@ -1,5 +1,5 @@
 //! The status of resources as a table for a person: a row of each, and lines below it where something is wrong.
-ghost use Rattle.std.specs.Prelude.{◌<◌, length, IsTrue, OnErr};
+ghost use Rattle.std.specs.Prelude.{◌<◌, length};
 
 use crate::details::{add_details, has_details, is_degraded};
 use crate::options::StatusOptions;
@@ -8,10 +8,10 @@ use crate::rows::Row;
 use crate::summary::{add_left, add_summary};
 use crate::widths::{add_column, add_fitted, pad, width_of};
 use exec_state::State;
-use growth::{Grows, append, push, vec_of};
+use growth::{Refused, append, push, vec_of};
 use line_text::LineText;
 use ocf_types::StateView;
-use std::alloc::{AllocError, Global};
+use std::alloc::Global;
 
 // The columns between two cells of a row.
 const GAP: usize = 2;
@@ -84,9 +84,8 @@ fn cut(width: usize, columns: usize) -> usize {
 }
 
 // The agent of a resource, as `heartbeat:nginx`.
-fn agent_of(alloc: Global, state: &State, index: usize) -> Result<Vec<u8>, AllocError>
+fn agent_of(alloc: Global, state: &State, index: usize) -> Result<Vec<u8>, Refused>
     requires { index < length state.now.state.resources }
-    ensures memory { OnErr result (IsTrue ⟦<Global as Grows>⟧.refuses) }
 {
     let mut text = vec_of(alloc, state.provider_at(index).as_bytes())?;
     append(&mut text, b":")?;
@@ -101,9 +100,8 @@ fn condition_of(
     state: &State,
     index: usize,
     row: &Row,
-) -> Result<Vec<u8>, AllocError>
+) -> Result<Vec<u8>, Refused>
     requires { index < length state.now.state.resources }
-    ensures memory { OnErr result (IsTrue ⟦<Global as Grows>⟧.refuses) }
 {
     let mut line = LineText::new(alloc);
     add_condition(alloc, &mut line, options, row);
@@ -114,9 +112,7 @@ fn condition_of(
 }
 
 // What a resource does now: what runs, whether it is held, and how many actions are queued.
-fn now_of(alloc: Global, options: &StatusOptions, row: &Row) -> Result<Vec<u8>, AllocError>
-    ensures memory { OnErr result (IsTrue ⟦<Global as Grows>⟧.refuses) }
-{
+fn now_of(alloc: Global, options: &StatusOptions, row: &Row) -> Result<Vec<u8>, Refused> {
     let mut line = LineText::new(alloc);
     let mut sign = "";
     match &row.running {
@@ -146,9 +142,8 @@ fn cells_of(
     state: &State,
     index: usize,
     row: &Row,
-) -> Result<Cells, AllocError>
+) -> Result<Cells, Refused>
     requires { index < length state.now.state.resources }
-    ensures memory { OnErr result (IsTrue ⟦<Global as Grows>⟧.refuses) }
 {
     Ok(Cells {
         agent: agent_of(alloc, state, index)?,
@@ -163,9 +158,7 @@ fn all_cells(
     options: &StatusOptions,
     state: &State,
     rows: &[Row],
-) -> Result<Vec<Cells>, AllocError>
-    ensures memory { OnErr result (IsTrue ⟦<Global as Grows>⟧.refuses) }
-{
+) -> Result<Vec<Cells>, Refused> {
     let mut cells = Vec::new(alloc);
     for index in 0..state.len() {
         if let Some(row) = rows.get(index) {
@@ -276,9 +269,7 @@ pub(crate) fn table_of(
     options: &StatusOptions,
     state: &State,
     rows: &[Row],
-) -> Result<Vec<u8>, AllocError>
-    ensures memory { OnErr result (IsTrue ⟦<Global as Grows>⟧.refuses) }
-{
+) -> Result<Vec<u8>, Refused> {
     let cells = all_cells(alloc, options, state, rows)?;
     let mut line = LineText::new(alloc);
     add_left(alloc, &mut line, options, state);

@@ -3,7 +3,7 @@ ghost use Rattle.std.specs.Prelude.{◌≡◌, IfErr, IsTrue, OnOk};
 ghost use Rattle.std.specs.Io.KnownBytes.{Appends};
 ghost use Rattle.std.specs.List.{flat_map};
 ghost use Rattle.exec_faults.specs.Faults.{HasCause};
-ghost use Rattle.exec_messages.specs.declared.send.IoFault.TheVariants.{Memory};
+ghost use Rattle.exec_lines.specs.declared.io_fault.IoFault.TheVariants.{Memory};
 ghost use Rattle.status_report.specs.Endings.{IsWritten};
 ghost use Rattle.status_report.specs.StatusLines.{IsLinesOf, prefix_lines, row_lines};
 
@@ -12,8 +12,7 @@ use crate::rows::Row;
 use crate::shown::{write_resource, write_state};
 use crate::state_lines::status_lines;
 use exec_faults::Fault;
-use exec_lines::write_flushed;
-use exec_messages::IoFault;
+use exec_lines::{IoFault, write_flushed};
 use exec_state::State;
 use growth::Grows;
 use std::alloc::Global;

@@ -26,9 +26,11 @@ loop-index-preserved c =
     (ap (λ (f : FactOf). before ++ f ∷ []) one ∙ sym (map_more fact s.resources i no_entry lt))
     (c.in_ok-take.ensures.told before c.loop-index.invariant)
 
-pub returns-clause-told : goal.returns-clause-told
-returns-clause-told c =
-    let s = c.args.state.now.state in
-    let all : length s.resources ≤ c.loop-index.index = search rules in
-    subst (λ (l : List (List ℕ × Resource)). Tells c.loop-index.recorded.entries (map fact l)) (take_all c.loop-index.index s.resources all)
-    c.loop-index.invariant
+pub returns : goal.returns
+returns c = record {
+  told =
+      let s = c.args.state.now.state in
+      let all : length s.resources ≤ c.loop-index.index = search rules in
+      subst (λ (l : List (List ℕ × Resource)). Tells c.loop-index.recorded.entries (map fact l)) (take_all c.loop-index.index s.resources all)
+      c.loop-index.invariant;
+}

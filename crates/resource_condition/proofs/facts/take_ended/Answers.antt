@@ -21,13 +21,15 @@ loop-index-preserved c = λ facts were.
     subst (λ (l : List FactOf). Tells c.take_index.new.recorded.entries l) (index_more f s index facts lt)
     (c.in_ok-take_index.ensures.told (facts ++ flat_map f (take index s.resources)) (c.loop-index.invariant facts were))
 
-pub returns-clause-told : goal.returns-clause-told
-returns-clause-told c = λ facts were.
-    let s = c.args.state.now.state in
-    let v = c.args.event.now in
-    let f = ended_facts v in
-    let to = c.ending-from.result.1 in
-    let all = none_after f s v.change _ to c.ending-from.ensures.range.0 c.ending-from.ensures.range.1 c.ending-from.ensures.others (ended_none v) in
-    let last : c.loop-index.index ≡ to = search rules in
-    subst (λ (l : List FactOf). Tells c.loop-index.recorded.entries (facts ++ l)) (ap (λ n. flat_map f (take n s.resources)) last ∙ all)
-    (c.loop-index.invariant facts were)
+pub returns : goal.returns
+returns c = record {
+  told = λ facts were.
+      let s = c.args.state.now.state in
+      let v = c.args.event.now in
+      let f = ended_facts v in
+      let to = c.ending-from.result.1 in
+      let all = none_after f s v.change _ to c.ending-from.ensures.range.0 c.ending-from.ensures.range.1 c.ending-from.ensures.others (ended_none v) in
+      let last : c.loop-index.index ≡ to = search rules in
+      subst (λ (l : List FactOf). Tells c.loop-index.recorded.entries (facts ++ l)) (ap (λ n. flat_map f (take n s.resources)) last ∙ all)
+      (c.loop-index.invariant facts were);
+}

@@ -1,5 +1,5 @@
 use Rattle.std.proofs.Common.{◌≡◌, map, take}
-use Rattle.exec_commands.specs.Replies.{statuses_in}
+use Rattle.exec_replies.specs.Replies.{statuses_in}
 use Rattle.resource_status.specs.Statuses.{status_of}
 use Rattle.resource_status.proofs.status_data.statuses_of.Given as goal
 

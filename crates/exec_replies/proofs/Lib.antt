@@ -1,0 +1,9 @@
+pub mod AddLemmas
+pub mod NoticeLemmas
+pub mod StatusLemmas
+pub mod TagLemmas
+pub mod TextLemmas
+pub mod WholeLemmas
+pub mod WriteLemmas
+pub mod JournalIdLemmas
+pub mod PrefixLemmas

@@ -1,0 +1,12 @@
+pub mod Objects
+pub mod Tokens
+pub mod Results
+pub mod Infos
+pub mod Notices
+pub mod Places
+pub mod Errors
+pub mod Replies
+pub mod Tags
+pub mod LineKinds
+pub mod JournalIds
+pub mod Service
