@@ -1,5 +1,5 @@
 //! Replies to questions.
-ghost use Rattle.std.specs.Prelude.{IsTrue, ◌≡◌, map, IfOk, OnErr};
+ghost use Rattle.std.specs.Prelude.{IsTrue, ◌≡◌, map, IfOk};
 ghost use Rattle.ocf_types.specs.Answer.{info_of, reply_to};
 ghost use Rattle.recurring.specs.Monitors.{recurs};
 ghost use Rattle.exec_state.specs.Seen.{seen};
@@ -8,20 +8,18 @@ ghost use Rattle.exec_state.specs.Answers.{IsReplyOrMemory};
 use crate::registered::Registered;
 use crate::state::State;
 use arrayvec::ArrayVec;
-use growth::{Grows, push};
+use growth::{Grows, Refused, push};
 use ocf_types::{
     CallId, Ended, Info, InfoOf, Items, QUEUE_LIMIT, Question, RECURRING_LIMIT, Recur, Refusal,
     Reply, ReplyOf, RscId,
 };
 use op_history::Ops;
 use recurring::Recurrings;
-use std::alloc::AllocError;
 
 /// The results, oldest first.
 #[tactic(auto, using(crate::proofs::Choices::take_more_some))]
-fn results<A: Grows>(alloc: A, ops: &Ops<A>) -> Result<Vec<Ended, A>, AllocError>
+fn results<A: Grows>(alloc: A, ops: &Ops<A>) -> Result<Vec<Ended, A>, Refused<A>>
     ensures results { IfOk result (λ v. v.items ≡ ops.now.ended) }
-    ensures memory { OnErr result (IsTrue A.refuses) }
 {
     let mut results = Vec::new(alloc);
     for at in 0..ops.ended_len() {
@@ -55,9 +53,8 @@ fn recurring(monitors: &Recurrings) -> ArrayVec<Recur, { RECURRING_LIMIT }>
 
 impl<A: Grows> Registered<A> {
     /// The info of the resource: its agent, its parameters and its operations.
-    fn info(&self, alloc: A, id: &RscId) -> Result<Info<A>, AllocError>
+    fn info(&self, alloc: A, id: &RscId) -> Result<Info<A>, Refused<A>>
         ensures info { IfOk result (λ i. i ≡ info_of id.now (seen self.now)) }
-        ensures memory { OnErr result (IsTrue A.refuses) }
     {
         Ok(InfoOf {
             id: id.copied(),

@@ -18,7 +18,7 @@ ghost use Rattle.exec_state.specs.Resting.{AllRest, RestBefore};
 ghost use Rattle.exec_state.specs.StateValue.{all_pairs, dues_by_id, monitors_at};
 
 use crate::registered::Registered;
-use growth::{Grows, push};
+use growth::{Grows, Refused, push};
 use indexmap::IndexMap;
 use ocf_types::{
     CallId, Moment, Params, RESOURCES_LIMIT, Registration, ResourceParts, RscId, Step,
@@ -175,9 +175,8 @@ impl<A: Grows> Registry<A> {
     }
 
     /// The ids, in order of registration.
-    pub(crate) fn ids(&self, alloc: A) -> Result<Vec<RscId, A>, AllocError>
+    pub(crate) fn ids(&self, alloc: A) -> Result<Vec<RscId, A>, Refused<A>>
         ensures ids { IfOk result (λ v. v.items ≡ map (λ e. e.0) self.now.resources) }
-        ensures memory { OnErr result (IsTrue A.refuses) }
     {
         let mut ids = Vec::new(alloc);
         for id in self.resources.keys() {

@@ -1,5 +1,5 @@
 -- The ends of a turn.
-use Rattle.std.proofs.Common.{◌≡◌, inl, inr, ℕ, Bool, List, [], ◌++◌, Result, Ok, Err, IsErr, map, refl, sym, ◌∙◌, ap, subst, append_assoc, append-nil, arith}
+use Rattle.std.proofs.Common.{◌≡◌, inl, inr, ℕ, Bool, List, [], ◌++◌, Result, Ok, Err, IsErr, map, refl, sym, ◌∙◌, ap, subst, append_assoc, append-nil, arith, length, length-append, ◌-◌}
 use Rattle.ocf_types.specs.Due.{Due}
 use Rattle.ocf_types.specs.Kinds.{Event}
 use Rattle.ocf_types.specs.Lemmas.{after_all-append}
@@ -30,6 +30,7 @@ book_full kind view k x from does leaves = record {
   effects = no_effects;
   book = sym (append-nil from.book);
   log = sym (append-nil from.log);
+  room = omega arith;
   site = refl;
   does = does;
   crash = leaves;
@@ -42,6 +43,11 @@ book_full kind view k x from does leaves = record {
 both_entries : (was first second : List Entry) {mid now : List Entry} → mid ≡ was ++ first → now ≡ mid ++ second → now ≡ was ++ (first ++ second)
 both_entries was first second one two = two ∙ ap (λ (l : List Entry). l ++ second) one ∙ append_assoc was first second
 
+-- the room after both
+both_room : (was : ℕ) (first second : List Entry) {mid now : ℕ} → mid ≡ was - length first → now ≡ mid - length second
+    → now ≡ was - length (first ++ second)
+both_room was first second one two = omega (arith, one, two, length-append first second)
+
 module _ {S : Type 0} {view : S → StoreView} {at : ℕ} {k0 k1 : S} {s0 s1 : State} {d0 d1 : Due} {p0 p1 : ℕ} {a0 a1 : Bool} {from c1 : ChildrenView}
     {n1 : List Notice} where
   -- the batch of results failed
@@ -52,6 +58,7 @@ module _ {S : Type 0} {view : S → StoreView} {at : ℕ} {k0 k1 : S} {s0 s1 : S
     effects = record { entries = polls at p.answers; events = []; pending = results at p.answers };
     book = p.book;
     log = p.log;
+    room = p.room;
     site = p.site;
     does = does;
     crash = p.crash;
@@ -75,6 +82,7 @@ module _ {S : Type 0} {view : S → StoreView} {at : ℕ} {k0 k1 : S} {s0 s1 : S
     effects = record { entries = polls at p.answers; events = results at p.answers; pending = [] };
     book = p.book;
     log = p.log;
+    room = p.room;
     site = p.site;
     does = (p.answers, p.each, refl, p.reported_is);
     crash = p.crash;
@@ -103,6 +111,7 @@ module _ {S : Type 0} {view : S → StoreView} {at : ℕ} {k0 k1 : S} {s0 s1 : S
           effects = record { entries = polls at p.answers; events = results at p.answers; pending = begins at begun };
           book = p.book;
           log = p.log;
+          room = p.room;
           site = p.site;
           does = inr (inl (p.answers, b.end, begun, p.each, picks begun b.end b.picked, refl, p.reported_is));
           crash =
@@ -174,6 +183,7 @@ module _ {S : Type 0} {view : S → StoreView} {at : ℕ} {k0 k1 : S} {s0 s1 : S
         effects = record { entries = entries x.answers x.each; events = before; pending = refusals at x.answers };
         book = both_entries from.book (polls at p.answers) (starts (view k2).clock x.answers) p.book x.book;
         log = both_entries from.log (polls at p.answers) (starts (view k2).clock x.answers) p.log x.log;
+        room = both_room from.room (polls at p.answers) (starts (view k2).clock x.answers) p.room x.room;
         site = x.site ∙ p.site;
         does = subst (λ held. IsTurn held turn_end.Disk (batch_start s0 d0 p0 at a0)
             (record { entries = entries x.answers x.each; events = before; pending = refusals at x.answers }) n3) (sym x.held)
@@ -227,6 +237,7 @@ module _ {S : Type 0} {view : S → StoreView} {at : ℕ} {k0 k1 : S} {s0 s1 : S
             effects = did;
             book = both_entries from.book (polls at p.answers) (starts (view k2).clock x.answers) p.book x.book;
             log = both_entries from.log (polls at p.answers) (starts (view k2).clock x.answers) p.log x.log;
+            room = both_room from.room (polls at p.answers) (starts (view k2).clock x.answers) p.room x.room;
             site = x.site ∙ p.site;
             does = subst (λ held. IsTurn held end (batch_start s0 d0 p0 at a0) did n3) (sym x.held) (is_whole end (batch_start s0 d0 p0 at a0) did n3 picked (
               all_reported x.answers x.each,

@@ -1,5 +1,5 @@
 -- Polls: the entries in the book, the live runs, and the state after the results.
-use Rattle.std.proofs.Common.{◌≡◌, ℕ, ◌+◌, ◌*◌, ◌<◌, ◌≤◌, nat_eq, Bool, true, false, if◌then◌else◌, List, [], ◌∷◌, ◌++◌, map, length, Option, Some, None, option_to_list, Result, Contains, refl, sym, ◌∙◌, ap, subst, arith, append-nil, take, drop, append_assoc}
+use Rattle.std.proofs.Common.{◌≡◌, ℕ, ◌+◌, ◌*◌, ◌<◌, ◌≤◌, nat_eq, Bool, true, false, if◌then◌else◌, List, [], ◌∷◌, ◌++◌, map, length, Option, Some, None, option_to_list, Result, Contains, refl, sym, ◌∙◌, ap, subst, arith, append-nil, take, drop, append_assoc, length-append, ◌-◌}
 use Rattle.std.specs.List.{AllByRecursion, IsDistinct, flat_map}
 use Rattle.std.proofs.lemmas.Grind.{flat_map-append}
 use Rattle.std.proofs.lemmas.List.{drop_more, length-map, map-append, take_more}
@@ -52,6 +52,7 @@ record PolledAs (x : Running) (answer : Poll) (entries : List Entry) (end : Opti
   site : w.site ≡ v.site
   live : w.live ≡ live_after end x.run v.live
   room : v.room ≤ w.room + 2
+  used : w.room ≡ v.room - length entries
   unasked : AllByRecursion IsUnasked entries
   ends : IsPoll answer → AllByRecursion IsRunEnd (option_to_list end)
 
@@ -65,6 +66,7 @@ polled_once x answer end v live ends = record {
   site = refl;
   live = live;
   room = omega arith;
+  used = omega arith;
   unasked = ((λ h. h), tt);
   ends = ends;
 }
@@ -88,6 +90,7 @@ polled_as at x poll.Running kill v = by (is_late at x)
       site = refl;
       live = refl;
       room = omega arith;
+      used = omega arith;
       unasked = ((λ h. h), ((λ h. h), tt));
       ends = λ byte. (tt, tt);
     }
@@ -112,6 +115,19 @@ polls_as at v (p ∷ ps) =
       rest.2 ∙ one.last,
       rest.3 ∙ one.site,
       omega (arith, one.room, rest.4),
+    )
+
+-- the book has room for fewer entries by those of polls
+pub polls_room : (at : ℕ) (v : ChildrenView) (ps : List Polled) → (after_polls at v ps).room ≡ v.room - length (polls at ps)
+polls_room at v [] = omega arith
+polls_room at v (p ∷ ps) =
+    let x = p.who.running in
+    let entries = entries_of at x p.poll p.kill in
+    omega (
+      arith,
+      (polled_as at x p.poll p.kill v).used,
+      polls_room at (polled_on at x p.poll p.kill v) ps,
+      length-append entries (polls at ps),
     )
 
 -- no poll is a start

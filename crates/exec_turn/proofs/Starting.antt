@@ -1,5 +1,5 @@
 -- Starts: the entries in the book, the live runs, and the results of refused ones.
-use Rattle.std.proofs.Common.{◌≡◌, ⊎_elim, ℕ, ◌+◌, ◌≤◌, ◌<◌, nat_eq, false, List, [], ◌∷◌, ◌++◌, map, length, get_or, refl, sym, ◌∙◌, ap, subst, arith, append_assoc, length-append, Result, Ok, Err}
+use Rattle.std.proofs.Common.{◌≡◌, ⊎_elim, ℕ, ◌+◌, ◌-◌, ◌≤◌, ◌<◌, nat_eq, false, List, [], ◌∷◌, ◌++◌, map, length, get_or, refl, sym, ◌∙◌, ap, subst, arith, append_assoc, length-append, Result, Ok, Err}
 use Rattle.std.specs.List.{AllByRecursion, Contains, IsDistinct, flat_map}
 use Rattle.std.specs.Map.{keys_of}
 use Rattle.std.specs.Str.{bytes_eq}
@@ -79,6 +79,11 @@ starts_as clock v (x ∷ xs) =
       rest.3,
       rest.4,
     )
+
+-- the book has room for fewer entries by those of starts
+pub starts_room : (clock : ℕ) (v : ChildrenView) (xs : List Started) → (after_starts clock v xs).room ≡ v.room - length (starts clock xs)
+starts_room clock v [] = omega arith
+starts_room clock v (x ∷ xs) = let rest = starts_room clock (after_start v x.what.running.run clock x.answer) xs in omega (arith, rest)
 
 -- the last run whose start was asked
 pub starts_last : (clock n : ℕ) (v : ChildrenView) (xs : List Started) → v.last_run < n

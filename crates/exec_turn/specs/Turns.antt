@@ -1,5 +1,5 @@
 -- The contracts of a turn and of its three batches.
-use Rattle.std.specs.Prelude.{◌≡◌, ◌≢◌, ◌*◌, ◌+◌, ◌<◌, ◌≤◌, ℕ, List, [], ◌++◌, length, map, Result, Ok, Err, IfOk, OnErr, is_ok, if◌then◌else◌}
+use Rattle.std.specs.Prelude.{◌≡◌, ◌≢◌, ◌*◌, ◌+◌, ◌-◌, ◌<◌, ◌≤◌, ℕ, List, [], ◌++◌, length, map, Result, Ok, Err, IfOk, OnErr, is_ok, if◌then◌else◌}
 use Rattle.std.specs.List.{AllByRecursion}
 use Rattle.ocf_types.specs.Due.{Due}
 use Rattle.ocf_types.specs.State.{State}
@@ -39,6 +39,7 @@ pub record PollsBatch {S : Type 0} (view : S → StoreView) (k l : S) (x y : Bat
   pub each : EachPolled x answers
   pub book : to.book ≡ from.book ++ polls x.at answers
   pub log : to.log ≡ from.log ++ polls x.at answers
+  pub room : to.room ≡ from.room - length (polls x.at answers)
   pub site : to.site ≡ from.site
   pub left : from.room ≤ to.room + 2 * length x.state.resources
   pub moves : Moves x y (results x.at answers) result
@@ -71,6 +72,7 @@ pub record StartsBatch {S : Type 0} (view : S → StoreView) (k l : S) (x y : Ba
   pub each : map (λ a. a.what) answers ≡ begun
   pub book : to.book ≡ from.book ++ starts (view k).clock answers
   pub log : to.log ≡ from.log ++ starts (view k).clock answers
+  pub room : to.room ≡ from.room - length (starts (view k).clock answers)
   pub held : to.held ≡ from.held
   pub site : to.site ≡ from.site
   pub recorded : RecordsBatch view k l x y (refusals x.at answers) result
@@ -89,6 +91,8 @@ pub record TurnsAs {S : Type 0} (kind : TurnKind) (view : S → StoreView) (old 
   pub book : to.book ≡ from.book ++ effects.entries
   -- the log of all answers ever got the same entries; it keeps them when the book is emptied, which is never done in a turn
   pub log : to.log ≡ from.log ++ effects.entries
+  -- the book has room for as many entries fewer
+  pub room : to.room ≡ from.room - length effects.entries
   -- the site that the children name, if any, stays
   pub site : to.site ≡ from.site
   pub does : kind to.held end x effects reported

@@ -1,5 +1,5 @@
 //! The second batch of a turn: the actions that it begins.
-ghost use Rattle.std.specs.Prelude.{◌≡◌, ◌<◌, ◌≤◌, IfOk, IsTrue, OnErr, length, vec_len};
+ghost use Rattle.std.specs.Prelude.{◌≡◌, ◌<◌, ◌≤◌, IfOk, IsTrue, length, vec_len};
 ghost use Rattle.std.specs.List.{AllByRecursion};
 ghost use Rattle.std.specs.Vec.{vec_capacity};
 ghost use Rattle.exec_state.specs.StateValue.{dues};
@@ -11,11 +11,11 @@ ghost use Rattle.exec_turn.specs.Picks.{Picked, begin_of, begins};
 
 use child_model::Children;
 use exec_state::State;
-use growth::Grows;
+use growth::{Grows, Refused};
 use ocf_env::{Instance, Invocation, LaunchOf, Site, launch};
 use ocf_types::laws::lemma_lengths;
 use ocf_types::{Change, Event, EventOf, Moment, RunId, Running, StateView, Step, TurnEnd};
-use std::alloc::{AllocError, Allocator, Global};
+use std::alloc::{Allocator, Global};
 use store_model::Store;
 
 /// An action to be spawned once its begin is recorded, and its launch. `I` is the type of the invocation.
@@ -54,13 +54,12 @@ fn start_of<A: Grows, S: Allocator>(
     state: &State<A>,
     index: usize,
     running: Running,
-) -> Result<Start<A>, AllocError>
+) -> Result<Start<A>, Refused<A>>
     requires index { index < length state.now.state.resources }
     ensures start { IfOk result (IsStart site.now state.now.state) }
     ensures what { IfOk result
         (λ start. action_of_start start
         ≡ record { id = id_at state.now.state index; running = running }) }
-    ensures memory { OnErr result (IsTrue A.refuses) }
 {
     state.lemma_known();
     let instance = Instance {

@@ -1,10 +1,4 @@
 pub mod Keeping
 pub mod Openings
 pub mod Sessions
-pub mod Isolation
-pub mod Incarnations
-pub mod History
-pub mod Machines
 pub mod Sharing
-pub mod Lasting
-pub mod Memory

@@ -1,3 +1,2 @@
 -- Sessions, as lists of inputs.
 pub mod Growing
-pub mod Calls

@@ -1,6 +1,6 @@
 -- Lemmas on calls of an executor, for proofs here and in the crates above.
-use Rattle.std.specs.Prelude.{◌≡◌, ◌↔◌, ℕ, Bool, true, false, List, [], ◌∷◌, ◌++◌}
-use Rattle.std.proofs.Common.{append_assoc, refl, sym, ap, subst, ◌∙◌}
+use Rattle.std.specs.Prelude.{◌≡◌, ◌↔◌, ℕ, Bool, true, false, List, [], ◌++◌}
+use Rattle.std.proofs.Common.{append_assoc, refl, sym, ap, ◌∙◌}
 use Rattle.std.proofs.lemmas.List.{append-nil}
 use Rattle.ocf_types.specs.Kinds.{Event, Reply, Request}
 use Rattle.ocf_types.specs.declared.refusal.Refusal.TheVariants.{Disk}
@@ -8,7 +8,6 @@ use Rattle.ocf_types.specs.declared.reply.ReplyOf.TheVariants.{Refused, Turn}
 use Rattle.ocf_types.specs.declared.reply.TurnEnd.{TurnEnd}
 use Rattle.child_model.specs.declared.answer.Entry.{Entry}
 use Rattle.executor.specs.Commands.{ServesWhile}
-use Rattle.executor.specs.Incarnations.{Calls, Exchange}
 use Rattle.exec_ledger.specs.Pieces.{Effects, followed_by, no_effects}
 use Rattle.executor.specs.Sessions.{TakesWhile, request_effects}
 use Rattle.executor.specs.ExecutorView.{OnlyLedgerChanges, ExecutorView, ledger_of, executor_view}
@@ -51,19 +50,3 @@ followed_by_none a =
     ap (λ (es : List Entry). record { entries = es; events = a.events ++ []; pending = a.pending ++ [] }) (append-nil a.entries)
     ∙ ap (λ (es : List Event). record { entries = a.entries; events = es; pending = a.pending ++ [] }) (append-nil a.events)
     ∙ ap (λ (es : List Event). record { entries = a.entries; events = a.events; pending = es }) (append-nil a.pending)
-
-module _ {S : Type 0} (view : S → StoreView) where
-  -- calls after others
-  pub calls_after : (x y z : ExecutorView S) (es fs : List Exchange) (a b : Effects) → Calls view x es y a → Calls view y fs z b
-      → Calls view x (es ++ fs) z (followed_by a b)
-  calls_after x y z [] fs a b (same, none) later =
-      subst (λ (d : Effects). Calls view x fs z d) (sym (ap (λ (d : Effects). followed_by d b) none))
-      (subst (λ (w : ExecutorView S). Calls view w fs z b) same later)
-  calls_after x y z (e ∷ es) fs a b (mid, first, rest, does, calls, is) later = (
-    mid,
-    first,
-    followed_by rest b,
-    does,
-    calls_after mid y z es fs rest b calls later,
-    ap (λ (d : Effects). followed_by d b) is ∙ sym (followed_by_assoc first rest b),
-  )

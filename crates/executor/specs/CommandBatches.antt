@@ -1,42 +1,11 @@
 -- Group commit: commands that arrived together.
-use Rattle.std.specs.Prelude.{◌≡◌, ℕ, List, [], ◌∷◌}
-use Rattle.std.specs.List.{AllByRecursion, flat_map}
+use Rattle.std.specs.Prelude.{ℕ, List}
 use Rattle.ocf_types.specs.Kinds.{Command, Reply}
-use Rattle.ocf_types.specs.declared.command.RequestOf.TheVariants as asked
-use Rattle.executor.specs.Incarnations.{Calls, Exchange, Batch, Took}
-use Rattle.exec_ledger.specs.Pieces.{Effects}
 use Rattle.exec_ledger.specs.CommitGroups.{TakesCommands as LedgerTakesCommands}
 use Rattle.executor.specs.ExecutorView.{OnlyLedgerChanges, ExecutorView, ledger_of}
-use Rattle.executor.specs.declared.session.InputOf.TheVariants as input
 use Rattle.store_model.specs.StoreView.{StoreView}
 
 -- An executor takes commands one after the other at this moment, none left out, each with one reply: those of a batch have one
 -- record.
 abbrev pub TakesCommands : {S : Type 0} → (S → StoreView) → ℕ → List Command → ExecutorView S → ExecutorView S → List Reply → Type 0
 TakesCommands view now commands old new given = LedgerTakesCommands view now commands (ledger_of old) (ledger_of new) given × OnlyLedgerChanges old new
-
--- the commands of a call, and the replies to them
-abbrev pub commands_of : Exchange → List Command
-commands_of (Took (input.Request now (asked.Command c)) reply) = c ∷ []
-commands_of (Batch now commands replies) = commands
-commands_of _ = []
-
-abbrev pub replies_of : Exchange → List Reply
-replies_of (Took i reply) = reply ∷ []
-replies_of (Batch now commands replies) = replies
-replies_of _ = []
-
--- the call is a command, or a batch of commands, at this moment
-abbrev pub IsAt : ℕ → Exchange → Type 0
-IsAt now (Took (input.Request at (asked.Command c)) reply) = at ≡ now
-IsAt now (Batch at commands replies) = at ≡ now
-IsAt now _ = ⊥
-
--- The same as calls, one after the other: each a command by itself, or a batch.
-pub record CallsCommands {S : Type 0} (view : S → StoreView) (now : ℕ) (commands : List Command) (old new : ExecutorView S) (given : List Reply) : Type 0 where
-  pub exchanges : List Exchange
-  pub effects : Effects
-  pub calls : Calls view old exchanges new effects
-  pub asked : flat_map commands_of exchanges ≡ commands
-  pub answered : flat_map replies_of exchanges ≡ given
-  pub at_once : AllByRecursion (IsAt now) exchanges

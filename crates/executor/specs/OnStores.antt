@@ -31,7 +31,7 @@ pub record Starts (was_found : State → Type 0) (now : ℕ) (t : State) (due : 
 abbrev pub StartsLike : (State → Type 0) → ℕ → State → Type 0
 StartsLike was_found now x = (s : State) × was_found s × BootsFrom s now x
 
--- an executor over these children, after all were given up and ended: none of them was started for a later state than its own
+-- an executor over these children, after all were given up and their end was asked for: none was started for a later state than its own
 pub record IsOver {S : Type 0} (from : ChildrenView) (x : ExecutorView S) : Type 0 where
   pub is_open : x.is_open ≡ true
   pub children : AllEnded from x.children

@@ -48,7 +48,7 @@ impl From<JournalFault> for OpenError {
 
 impl<D: Disk + Drop, C: Children + Drop, A: Grows> On<Journal<D, A>, C, A> {
     /// Opens the executor of a journal, or of a fresh pair of parts, at a moment in milliseconds since 1970. It spawns agents as the
-    /// site says. Agent processes that still live are given up and ended.
+    /// site says. Agent processes that still live are given up, and their end is asked for.
     ///
     /// Where actions were queued or running a boot is recorded: running actions are interrupted, queued ones are dropped, and the
     /// report lists both. Each fault hands the disk and the children back; after a disk fault the disk has to be opened again

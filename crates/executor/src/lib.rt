@@ -4,9 +4,6 @@
 mod commands;
 mod executor;
 mod files;
-pub mod histories;
-pub mod laws;
-pub mod machine;
 mod opening;
 mod report;
 mod session;

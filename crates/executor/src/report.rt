@@ -1,14 +1,14 @@
 //! The report of an opening: the actions that the executor before this opening left running or queued.
-ghost use Rattle.std.specs.Prelude.{◌≡◌, ◌++◌, ◌<◌, IfOk, IsTrue, OnErr, OnOk, length};
+ghost use Rattle.std.specs.Prelude.{◌≡◌, ◌++◌, ◌<◌, IfOk, OnOk, length};
 ghost use Rattle.ocf_types.specs.Indexes.{entry_at};
 ghost use Rattle.executor.specs.Interruptions.{dropped, dropped_in, interrupted, interrupted_in};
 
 use exec_state::State;
-use growth::{Grows, push};
+use growth::{Grows, Refused, push};
 use ocf_types::{Moment, Notice, Outcome, StateView};
 use op_history::{drop_notice, run_notice};
 use past::Past;
-use std::alloc::{AllocError, Allocator, Global};
+use std::alloc::{Allocator, Global};
 
 /// The actions that the executor before this opening left: those that ran, and those that were queued, each list in the order
 /// of registrations and then of calls.
@@ -42,11 +42,10 @@ fn push_interrupted<A: Grows>(
     state: &State<A>,
     index: usize,
     at: Moment,
-) -> Result<(), AllocError>
+) -> Result<(), Refused<A>>
     requires index { index < length state.now.state.resources }
     ensures pushed { OnOk result (notices.new.items
         ≡ notices.old.items ++ interrupted_in at (entry_at state.now.state index)) }
-    ensures memory { OnErr result (IsTrue A.refuses) }
 {
     if let Some(running) = state.running_at(index) {
         let id = state.id_at(index).copied();
@@ -62,11 +61,10 @@ fn push_dropped<A: Grows>(
     state: &State<A>,
     index: usize,
     at: Moment,
-) -> Result<(), AllocError>
+) -> Result<(), Refused<A>>
     requires index { index < length state.now.state.resources }
     ensures pushed { OnOk result (notices.new.items
         ≡ notices.old.items ++ dropped_in at (entry_at state.now.state index)) }
-    ensures memory { OnErr result (IsTrue A.refuses) }
 {
     for i in 0..state.queue_len(index) {
         let id = state.id_at(index).copied();
@@ -79,11 +77,10 @@ fn push_dropped<A: Grows>(
 impl<A: Grows> Report<A> {
     /// The report of an opening at this moment that found this state. The only error is lack of memory.
     #[tactic(auto, using(crate::proofs::Openings::Reporting::reported_more))]
-    pub(crate) fn of(alloc: A, state: &State<A>, at: Moment) -> Result<Report<A>, AllocError>
+    pub(crate) fn of(alloc: A, state: &State<A>, at: Moment) -> Result<Report<A>, Refused<A>>
         ensures interrupted { IfOk result
             (λ r. r.interrupted.items ≡ interrupted state.now.state at) }
         ensures dropped { IfOk result (λ r. r.dropped.items ≡ dropped state.now.state at) }
-        ensures memory { OnErr result (IsTrue A.refuses) }
     {
         let mut interrupted = Vec::new(alloc);
         let mut dropped = Vec::new(alloc);

@@ -78,8 +78,8 @@ impl<S: Store + Drop, C: Children + Drop, A: Grows> On<S, C, A> {
         self.children.clear_book();
     }
 
-    /// Gives up every agent process and ends it, and closes the executor: the running actions are reported as interrupted when the
-    /// journal is opened again.
+    /// Gives up every agent process and asks for its end, and closes the executor: the running actions are reported as interrupted when
+    /// the journal is opened again. Processes may live on.
     pub fn abandon(&mut self)
         ensures abandoned { Abandons self.old self.new }
     {

@@ -1,5 +1,5 @@
 //! The operations of one resource.
-ghost use Rattle.std.specs.Prelude.{IsTrue, ◌≡◌, ◌↔◌, ◌<◌, ◌≤◌, length, slice_get, IfOk, IsErr, OnOk, OnErr};
+ghost use Rattle.std.specs.Prelude.{◌≡◌, ◌↔◌, ◌<◌, ◌≤◌, length, slice_get, IfOk, IsErr, OnOk, OnErr};
 ghost use Rattle.ocf_types.specs.Resource.{kept, no_history, is_busy, accepted, begun, ended, booted, forgotten};
 ghost use Rattle.ocf_types.specs.Resource.{failed_after, history_in, queued_of, withdrawn};
 ghost use Rattle.ocf_types.specs.declared.layout.Layout.TheVariants.{First};
@@ -8,12 +8,12 @@ use crate::entries::{cancelled_of, failed_of, run_of_monitor, run_of_op};
 use crate::queued::{Queued, queue_of};
 use crate::results::Results;
 use arrayvec::ArrayVec;
-use growth::Grows;
+use growth::{Grows, Refused};
 use ocf_types::{
     CallId, Ended, HistoryParts, Layout, Moment, Op, Outcome, QUEUE_LIMIT, Recur, RunEnd, RunId,
     Running,
 };
-use std::alloc::{AllocError, Allocator, Global};
+use std::alloc::{Allocator, Global};
 use std::marker::Model;
 use thiserror::Error;
 
@@ -48,9 +48,8 @@ impl<A: Allocator> Model for Ops<A> {
 
 impl<A: Grows> Ops<A> {
     /// The operations of a newly registered resource: none. The only error is a refused allocation.
-    pub fn new(alloc: A) -> Result<Ops<A>, AllocError>
+    pub fn new(alloc: A) -> Result<Ops<A>, Refused<A>>
         ensures none { IfOk result (λ o. o ≡ no_history) }
-        ensures memory { OnErr result (IsTrue A.refuses) }
     {
         Ok(Ops {
             queue: ArrayVec::new(),
@@ -62,11 +61,10 @@ impl<A: Grows> Ops<A> {
 
     /// The operations of these parts. The only error is a refused allocation.
     #[tactic(auto, using(crate::proofs::Last::kept_whole))]
-    pub fn from_parts(alloc: A, parts: &HistoryParts<A>) -> Result<Ops<A>, AllocError>
+    pub fn from_parts(alloc: A, parts: &HistoryParts<A>) -> Result<Ops<A>, Refused<A>>
         requires queue { length parts.now.queue ≤ QUEUE_LIMIT }
         requires ended { length parts.now.ended ≤ kept }
         ensures parts { IfOk result (λ o. o ≡ parts.now) }
-        ensures memory { OnErr result (IsTrue A.refuses) }
     {
         let mut ended = Results::new(alloc)?;
         ended.push_all(parts.ended());

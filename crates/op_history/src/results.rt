@@ -1,14 +1,14 @@
 //! The results that are kept.
-ghost use Rattle.std.specs.Prelude.{IsTrue, ◌≡◌, ◌<◌, ◌≤◌, [], ◌∷◌, ◌++◌, length, map, slice_get, IfOk, OnErr};
+ghost use Rattle.std.specs.Prelude.{◌≡◌, ◌<◌, ◌≤◌, [], ◌∷◌, ◌++◌, length, map, slice_get, IfOk};
 ghost use Rattle.std.specs.Prelude.{option_to_list};
 ghost use Rattle.ocf_types.specs.Resource.{kept, last_in, last_ended, ended_of, dropped_of};
 
 use crate::entries::{dropped_of, ended_of};
 use crate::queued::Queued;
 use circular_buffer::HeapCircularBuffer;
-use growth::Grows;
+use growth::{Grows, Refused};
 use ocf_types::{ENDED_KEPT, Ended, Layout, Moment, Outcome, Running};
-use std::alloc::{AllocError, Allocator, Global};
+use std::alloc::{Allocator, Global};
 use std::marker::Model;
 
 /// The last results of one resource, oldest first: as many as [`ENDED_KEPT`].
@@ -31,9 +31,8 @@ impl<A: Allocator> Model for Results<A> {
 
 impl<A: Grows> Results<A> {
     /// No results, with capacity for all that are kept.
-    pub(crate) fn new(alloc: A) -> Result<Results<A>, AllocError>
+    pub(crate) fn new(alloc: A) -> Result<Results<A>, Refused<A>>
         ensures none { IfOk result (λ r. r ≡ []) }
-        ensures memory { OnErr result (IsTrue A.refuses) }
     {
         let ring = A::ring(alloc, ENDED_KEPT)?;
         Ok(Results { ring })

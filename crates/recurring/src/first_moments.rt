@@ -1,10 +1,10 @@
 //! The first of many moments, updated as single ones change: a tournament tree.
-ghost use Rattle.std.specs.Prelude.{◌≡◌, ◌≢◌, ◌+◌, ◌*◌, ◌/◌, ◌<◌, ◌≤◌, ℕ, [], length, drop, remove, slice_index_or, slice_set, None, false, IfOk, IsTrue, OnErr, OnOk};
+ghost use Rattle.std.specs.Prelude.{◌≡◌, ◌≢◌, ◌+◌, ◌*◌, ◌/◌, ◌<◌, ◌≤◌, ℕ, [], length, drop, remove, slice_index_or, slice_set, None, false, IfOk, OnOk};
 ghost use Rattle.recurring.specs.FirstMoments.{earlier, IsFirstOf, IsWon, IsTournament};
 
 use crate::due_index::INDEX_LIMIT;
-use growth::{Grows, append, fill};
-use std::alloc::{AllocError, Allocator, Global};
+use growth::{Grows, Refused, append, fill};
+use std::alloc::{Allocator, Global};
 use std::marker::Model;
 
 /// A moment, in milliseconds, or `None`, for each index; and the first of all. It is a tournament tree: each node has the
@@ -39,13 +39,12 @@ impl<A: Grows> FirstMoments<A> {
     }
 
     /// Grows to at least that many indices. The moments stay, and the new ones are `None`. The only error is a refused allocation.
-    pub(crate) fn grow(&mut self, indexes: usize) -> Result<(), AllocError>
+    pub(crate) fn grow(&mut self, indexes: usize) -> Result<(), Refused<A>>
         requires limit { indexes ≤ INDEX_LIMIT }
         ensures moments { (k : ℕ) → slice_index_or self.new k None
             ≡ slice_index_or self.old k None }
         ensures kept { length self.old ≤ length self.new }
         ensures room { OnOk result (indexes ≤ length self.new) }
-        ensures memory { OnErr result (IsTrue A.refuses) }
     {
         if indexes <= self.indexes {
             return Ok(());
@@ -101,13 +100,12 @@ fn nodes_of<A: Grows>(
     alloc: A,
     moments: &[Option<u64>],
     indexes: usize,
-) -> Result<Vec<Option<u64>, A>, AllocError>
+) -> Result<Vec<Option<u64>, A>, Refused<A>>
     requires moments { length moments.now ≤ indexes }
     requires limit { indexes ≤ INDEX_LIMIT }
     ensures won { IfOk result (λ v. IsTournament indexes v.items) }
     ensures moments { IfOk result (λ v. (k : ℕ) → slice_index_or (drop indexes v.items) k None
         ≡ slice_index_or moments.now k None) }
-    ensures memory { OnErr result (IsTrue A.refuses) }
 {
     let mut nodes = Vec::new(alloc);
     fill(&mut nodes, indexes, None)?;

@@ -1,9 +1,10 @@
-use Rattle.std.proofs.Common.{◌≡◌, ◌++◌, [], List, ap, subst, sym, ◌∙◌}
+use Rattle.std.proofs.Common.{◌≡◌, ◌++◌, [], List, length, ap, subst, sym, ◌∙◌}
 use Rattle.ocf_types.specs.Kinds.{Reply}
-use Rattle.executor.specs.Joins.{as_calls}
-use Rattle.executor.specs.Incarnations.{Exchange}
+use Rattle.executor_laws.specs.Joins.{as_calls}
+use Rattle.executor_laws.specs.Incarnations.{Exchange}
 use Rattle.test_incarnations.specs.History.{IsIncarnation}
-use Rattle.test_incarnations.proofs.Steps.{not_opened, served, unanswered}
+use Rattle.exec_journal.specs.StoreViews.{store_view}
+use Rattle.test_incarnations.proofs.Steps.{all_answered, not_opened, served, unanswered}
 use Rattle.test_incarnations.proofs.run_incarnation.Goals as goal
 
 pub returns-in-Ok-session-clause-runs : goal.returns-in-Ok-session-clause-runs
@@ -20,6 +21,15 @@ returns-in-Ok-session-clause-runs g c =
     (c.lemma_whole_history.ensures.opening c.args.disk (g.C.Children.view c.args.machine.children) c.args.machine.now c.in-Ok.executor
     c.in-Ok._report.interrupted.items c.in-Ok._report.dropped.items c.in-Ok.ensures.opened)
     calls c.close-disk.ensures.disk)
+
+pub returns-in-Ok-session-clause-answers : goal.returns-in-Ok-session-clause-answers
+returns-in-Ok-session-clause-answers g c =
+    let takes_inputs = c.in-Ok-session.ensures.takes_inputs in
+    let inputs = c.args.machine.inputs.items in
+    let given : c.session.new.replies.items ≡ takes_inputs.0 =
+    takes_inputs.1 ∙ ap (λ (l : List Reply). l ++ takes_inputs.0) c.new-replies.ensures.items in
+    ap (λ (l : List Reply). length l) given
+    ∙ all_answered (store_view g.D.Disk.view) c.in-Ok.executor c.session.new.self inputs takes_inputs.0 takes_inputs.2.effects takes_inputs.2.each
 
 pub returns-in-Err-clause-runs : goal.returns-in-Err-clause-runs
 returns-in-Err-clause-runs g c =

@@ -72,3 +72,8 @@ returns-in_err-reserve-clause-memory g c =
     ) in
     let refused : length c.args.parts.items ≤ INDEX_LIMIT → IsTrue g.A.Grows.refuses = λ le. c.in_err-reserve.ensures.memory (few le) in
     search rules
+
+pub returns-in_err-reserve_entries-clause-memory : goal.returns-in_err-reserve_entries-clause-memory
+returns-in_err-reserve_entries-clause-memory g c =
+    let refused : length c.args.parts.items ≤ INDEX_LIMIT → IsTrue g.A.Grows.refuses = λ le. c.in_err-reserve_entries.field-0.0.refused in
+    search rules

@@ -1,5 +1,0 @@
-use Rattle.executor.proofs.History.Order.{begin_in_order}
-use Rattle.executor.proofs.histories.begin_in_order.Goals as goal
-
-pub returns : goal.returns
-returns c = begin_in_order

@@ -1,5 +1,0 @@
-use Rattle.executor.specs.BatchLemmas.{commands_called}
-use Rattle.executor.proofs.laws.lemma_commands_are_calls.Goals as goal
-
-pub returns : goal.returns
-returns g c now = commands_called g.S.Store.view now

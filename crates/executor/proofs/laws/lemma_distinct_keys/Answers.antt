@@ -1,5 +1,0 @@
-use Rattle.executor.proofs.Isolation.Runs.{lemma_distinct_keys}
-use Rattle.executor.proofs.laws.lemma_distinct_keys.Goals as goal
-
-pub returns : goal.returns
-returns c = record { apart = lemma_distinct_keys }

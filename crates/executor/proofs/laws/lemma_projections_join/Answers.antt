@@ -1,5 +1,0 @@
-use Rattle.executor.proofs.Isolation.Joins.{lemma_projections_join}
-use Rattle.executor.proofs.laws.lemma_projections_join.Goals as goal
-
-pub returns : goal.returns
-returns c = lemma_projections_join

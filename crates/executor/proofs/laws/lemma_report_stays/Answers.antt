@@ -1,5 +1,0 @@
-use Rattle.executor.proofs.Lasting.{lemma_report_stays}
-use Rattle.executor.proofs.laws.lemma_report_stays.Goals as goal
-
-pub returns : goal.returns
-returns g c = lemma_report_stays g.S.Store.view

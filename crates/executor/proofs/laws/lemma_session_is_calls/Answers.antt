@@ -1,5 +1,0 @@
-use Rattle.executor.proofs.Sessions.Calls.{lemma_session_is_calls}
-use Rattle.executor.proofs.laws.lemma_session_is_calls.Goals as goal
-
-pub returns : goal.returns
-returns g c = lemma_session_is_calls g.S.Store.view

@@ -1,0 +1,9 @@
+pub mod Openings
+pub mod SessionCalls
+pub mod Isolation
+pub mod Incarnations
+pub mod History
+pub mod Machines
+pub mod Lasting
+pub mod Memory
+pub mod RunLemmas

@@ -1,0 +1,17 @@
+pub mod BatchCalls
+pub mod FinishCalls
+pub mod Incarnations
+pub mod Isolated
+pub mod Projections
+pub mod CommandBatches
+pub mod CallLemmas
+pub mod BatchLemmas
+pub mod Histories
+pub mod Joins
+pub mod Machine
+pub mod Behaves
+pub mod OnFiles
+pub mod SeenIncarnations
+pub mod Promise
+pub mod Runs
+pub mod KeepsPromise
