@@ -3,7 +3,7 @@ use Rattle.std.proofs.Common.{ℕ, true≢false, List, [], ◌∷◌, ◌++◌, 
 use Rattle.ocf_types.specs.Kinds.{Event, Reply, Request}
 use Rattle.ocf_types.specs.declared.reply.ReplyOf.TheVariants.{Done}
 use Rattle.store_model.specs.StoreView.{StoreView}
-use Rattle.executor.specs.Incarnations.{Took}
+use Rattle.executor_laws.specs.Incarnations.{Took}
 use Rattle.executor.specs.Sessions.{Effects}
 use Rattle.executor.specs.ExecutorView.{ExecutorView}
 use Rattle.executor.specs.declared.session.InputOf.TheVariants as input

@@ -11,14 +11,16 @@ use Rattle.ocf_types.specs.declared.reply.ReplyOf.TheVariants as reply
 use Rattle.ocf_types.specs.declared.reply.TidyEnd.{TidyEnd}
 use Rattle.ocf_types.specs.declared.reply.TurnEnd.{TurnEnd}
 use Rattle.store_model.specs.StoreView.{StoreView}
-use Rattle.executor.specs.CallLemmas.{followed_by_none, calls_after}
+use Rattle.executor.specs.CallLemmas.{followed_by_none}
+use Rattle.executor_laws.specs.CallLemmas.{calls_after}
 use Rattle.exec_ledger.specs.Commands.{Obeys}
 use Rattle.executor.specs.Commands.{Serves, ServesWhile}
-use Rattle.executor.specs.Incarnations.{Abandoned, Calls, Cleared, Does, Exchange, Finished, Batch, Tidied, Took}
-use Rattle.executor.specs.BatchCalls.{TakesBatch}
-use Rattle.executor.specs.BatchLemmas.{commands_called}
+use Rattle.executor_laws.specs.Incarnations.{Abandoned, Calls, Cleared, Does, Exchange, Finished, Batch, Tidied, Took}
+use Rattle.executor_laws.specs.BatchCalls.{TakesBatch}
+use Rattle.executor_laws.specs.BatchLemmas.{commands_called}
 use Rattle.exec_ledger.specs.Together.{batch_replies}
-use Rattle.executor.specs.CommandBatches.{IsAt, TakesCommands, replies_of}
+use Rattle.executor.specs.CommandBatches.{TakesCommands}
+use Rattle.executor_laws.specs.CommandBatches.{IsAt, replies_of}
 use Rattle.exec_ledger.specs.Lemmas.{while_open}
 use Rattle.exec_ledger.specs.Pieces.{Effects, followed_by, no_effects, batch_effects}
 use Rattle.executor.specs.Sessions.{TakesWhile, command_effects}

@@ -2,7 +2,7 @@
 use Rattle.std.proofs.Common.{◌≡◌, inl, inr, List, [], ◌∷◌, ◌++◌, refl, sym, subst}
 use Rattle.ocf_types.specs.Kinds.{Event}
 use Rattle.ocf_types.specs.State.{State}
-use Rattle.executor.specs.Incarnations.{InOpening, Up, SurvivingEvents, Incarnation}
+use Rattle.executor_laws.specs.Incarnations.{InOpening, Up, SurvivingEvents, Incarnation}
 use Rattle.exec_client.specs.BackedBy.{BackedBy, nothing}
 use Rattle.exec_client.specs.Incarnations.{SentOver}
 use Rattle.exec_client.specs.SentItem.{SentItem}

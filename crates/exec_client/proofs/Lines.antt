@@ -6,9 +6,9 @@ use Rattle.exec_lines.specs.Prefixes.{AppendsPrefix}
 use Rattle.ocf_types.specs.Kinds.{Reply}
 use Rattle.ocf_types.specs.declared.reply.Notice.{Notice}
 use Rattle.ocf_types.specs.declared.reply.ReplyOf.TheVariants as reply
-use Rattle.exec_commands.specs.Replies.{formed_line}
-use Rattle.exec_commands.specs.declared.notice.NoticeForm.{NoticeForm}
-use Rattle.exec_commands.specs.declared.notice.Origin.TheVariants.{Opening}
+use Rattle.exec_replies.specs.Replies.{notice_line}
+use Rattle.exec_replies.specs.declared.notice.NoticeForm.{NoticeForm}
+use Rattle.exec_replies.specs.declared.notice.Origin.TheVariants.{Opening}
 use Rattle.child_model.specs.declared.answer.Entry.{Entry}
 use Rattle.exec_client.specs.SentItem.{Noticed, Reported, answered, line_of, lines_of, noticed_by}
 use Rattle.exec_client.specs.Signals.{signal_of}
@@ -33,9 +33,9 @@ err_same r a b l m same part = subst (λ (t : List ℕ). OnErr r (AppendsPrefix 
 
 -- the lines of a report have no tags
 pub report_lines : (form : NoticeForm) (reasons : List RunReason) (ns : List Notice)
-    → lines_of form reasons [] (map Reported ns) ≡ flat_map (formed_line form None None Opening) ns
+    → lines_of form reasons [] (map Reported ns) ≡ flat_map (notice_line form None None Opening) ns
 report_lines form reasons [] = refl
-report_lines form reasons (n ∷ ns) = ap (λ (l : List ℕ). formed_line form None None Opening n ++ l) (report_lines form reasons ns)
+report_lines form reasons (n ∷ ns) = ap (λ (l : List ℕ). notice_line form None None Opening n ++ l) (report_lines form reasons ns)
 
 -- a reply removes no line that waits
 reply_lines : (r : Reply) (v : TagsView) → (after_reply r v).lines ≡ v.lines
@@ -102,30 +102,30 @@ module _ (form : NoticeForm) (reasons : List RunReason) where
       pub kept : after_notices ns was ≡ after_notices (drop i ns) now
 
     -- the line of the next notice
-    abbrev pub notice_line : TagsView → Notice → List ℕ
-    notice_line v n = line_of form reasons (tag_of_call n.result.call v.calls) (noticed_by book n)
+    abbrev pub signal_line : TagsView → Notice → List ℕ
+    signal_line v n = line_of form reasons (tag_of_call n.result.call v.calls) (noticed_by book n)
 
     -- it is the line of a notice with this signal
     pub signaled_line : (v : TagsView) (m n : Notice) (s : Option ℕ) → m ≡ n → s ≡ signal_of book n.result.run
-        → line_of form reasons (tag_of_call m.result.call v.calls) (Noticed m s) ≡ notice_line v n
+        → line_of form reasons (tag_of_call m.result.call v.calls) (Noticed m s) ≡ signal_line v n
     signaled_line v m n s same is =
         ap (λ (k : Notice). line_of form reasons (tag_of_call k.result.call v.calls) (Noticed k s)) same
         ∙ ap (λ (t : Option ℕ). line_of form reasons (tag_of_call n.result.call v.calls) (Noticed n t)) is
 
     pub notices_more : (was v w : TagsView) (ns : List Notice) (i : ℕ) (n : Notice) (a b c : Option (List ℕ)) → i < length ns → n ≡ get_or ns i n
-        → Noticing was v ns i a b → Appends b c (notice_line v n) → w ≡ after_notice n v → Noticing was w ns (i + 1) a c
+        → Noticing was v ns i a b → Appends b c (signal_line v n) → w ≡ after_notice n v → Noticing was w ns (i + 1) a c
     notices_more was v w ns i n a b c lt at so_far sent is =
         let next = drop_next ns i n lt at in
         subst (λ (u : TagsView). Noticing was u ns (i + 1) a c) (sym is) (record {
-          lines = along_more (notice_rest was ns) (notice_line v n) (notice_rest (after_notice n v) (drop (i + 1) ns)) a b c
+          lines = along_more (notice_rest was ns) (signal_line v n) (notice_rest (after_notice n v) (drop (i + 1) ns)) a b c
               (subst (λ (xs : List Notice). Along (notice_rest was ns) (notice_rest v xs) a b) next so_far.lines) sent;
           kept = so_far.kept ∙ ap (λ (xs : List Notice). after_notices xs v) next;
         })
 
     pub notices_part : (was v : TagsView) (ns : List Notice) (i : ℕ) (n : Notice) (a b c : Option (List ℕ)) → i < length ns → n ≡ get_or ns i n
-        → Noticing was v ns i a b → AppendsPrefix b c (notice_line v n) → AppendsPrefix a c (notice_rest was ns)
+        → Noticing was v ns i a b → AppendsPrefix b c (signal_line v n) → AppendsPrefix a c (notice_rest was ns)
     notices_part was v ns i n a b c lt at so_far part =
-        along_part (notice_rest was ns) (notice_line v n) (notice_rest (after_notice n v) (drop (i + 1) ns)) a b c
+        along_part (notice_rest was ns) (signal_line v n) (notice_rest (after_notice n v) (drop (i + 1) ns)) a b c
         (subst (λ (xs : List Notice). Along (notice_rest was ns) (notice_rest v xs) a b) (drop_next ns i n lt at) so_far.lines) part
 
     pub notices_all : (was v : TagsView) (ns : List Notice) (i : ℕ) (a b : Option (List ℕ)) → length ns ≤ i → Noticing was v ns i a b

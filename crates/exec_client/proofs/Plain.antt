@@ -13,11 +13,12 @@ use Rattle.ocf_types.specs.declared.refusal.Refusal.TheVariants.{Disk}
 use Rattle.ocf_types.specs.declared.reply.ReplyOf.TheVariants as reply
 use Rattle.store_model.specs.StoreView.{StoreView}
 use Rattle.exec_ledger.specs.Commands.{Obeys}
-use Rattle.executor.specs.Incarnations.{Abandoned, Calls, Cleared, Does, Exchange, Finished, Batch, Tidied, Took}
+use Rattle.executor_laws.specs.Incarnations.{Abandoned, Calls, Cleared, Does, Exchange, Finished, Batch, Tidied, Took}
 use Rattle.exec_ledger.specs.Replies.{IsReplyTo, acknowledged}
 use Rattle.exec_ledger.specs.Together.{Adds, Answered, disk_each, failed, batch_replies}
-use Rattle.executor.specs.BatchLemmas.{commands_called}
-use Rattle.executor.specs.CommandBatches.{IsAt, TakesCommands, replies_of}
+use Rattle.executor_laws.specs.BatchLemmas.{commands_called}
+use Rattle.executor.specs.CommandBatches.{TakesCommands}
+use Rattle.executor_laws.specs.CommandBatches.{IsAt, replies_of}
 use Rattle.executor.specs.Sessions.{Effects, TakesWhile}
 use Rattle.executor.specs.ExecutorView.{ExecutorView, ledger_of}
 use Rattle.executor.specs.declared.session.InputOf.TheVariants as input

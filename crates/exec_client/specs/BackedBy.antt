@@ -3,8 +3,8 @@ use Rattle.std.specs.Prelude.{◌≡◌, Bool, true, false, List, [], ◌∷◌}
 use Rattle.ocf_types.specs.Kinds.{Event}
 use Rattle.ocf_types.specs.declared.reply.ReplyOf.TheVariants.{Accepted, Done}
 use Rattle.exec_ledger.specs.Replies.{KeepsRunning, acknowledged}
-use Rattle.executor.specs.Promise.{IsOfResult}
-use Rattle.exec_commands.specs.declared.reply.LineReply.TheVariants.{Request}
+use Rattle.executor_laws.specs.Promise.{IsOfResult}
+use Rattle.exec_replies.specs.declared.reply.LineReply.TheVariants.{Request}
 use Rattle.exec_client.specs.SentItem.{SentItem, Answered, Noticed}
 
 -- a message claims that something is recorded: it acknowledges a command, or is the notice of a result

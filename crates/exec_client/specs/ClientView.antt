@@ -3,7 +3,7 @@ use Rattle.std.specs.Prelude.{◌≡◌, ℕ, Bool, true, false, List, [], ◌�
 use Rattle.std.specs.Io.KnownBytes.{Appends}
 use Rattle.executor.specs.ExecutorView.{ExecutorView}
 use Rattle.exec_lines.specs.Prefixes.{AppendsPrefix}
-use Rattle.exec_commands.specs.declared.notice.NoticeForm.{NoticeForm}
+use Rattle.exec_replies.specs.declared.notice.NoticeForm.{NoticeForm}
 use Rattle.exec_client.specs.MessageTags.{after_sent, sent_tags}
 use Rattle.exec_client.specs.MessageView.{MessageView}
 use Rattle.exec_client.specs.SentItem.{SentItem, lines_of, sent_in}

@@ -1,6 +1,6 @@
 -- What clients were sent over a history of incarnations.
 use Rattle.std.specs.Prelude.{◌≡◌, List, [], ◌∷◌, ◌++◌}
-use Rattle.executor.specs.Incarnations.{InOpening, Up, Incarnation}
+use Rattle.executor_laws.specs.Incarnations.{InOpening, Up, Incarnation}
 use Rattle.exec_client.specs.BackedBy.{BackedBy}
 use Rattle.exec_client.specs.SentItem.{SentItem}
 

@@ -7,13 +7,13 @@ use Rattle.ocf_types.specs.declared.command.Question.{Question}
 use Rattle.ocf_types.specs.declared.reply.Notice.{Notice}
 use Rattle.ocf_types.specs.declared.reply.ReplyOf.TheVariants as reply
 use Rattle.store_model.specs.StoreView.{StoreView}
-use Rattle.executor.specs.Incarnations.{Calls, Exchange}
+use Rattle.executor_laws.specs.Incarnations.{Calls, Exchange}
 use Rattle.executor.specs.Sessions.{Effects}
 use Rattle.executor.specs.ExecutorView.{ExecutorView}
-use Rattle.exec_commands.specs.Replies.{statuses_in}
-use Rattle.exec_commands.specs.declared.reply.LineReply.{LineReply}
-use Rattle.exec_commands.specs.declared.reply.LineReply.TheVariants as line
-use Rattle.exec_commands.specs.declared.service.Counts.{Counts}
+use Rattle.exec_replies.specs.Replies.{statuses_in}
+use Rattle.exec_replies.specs.declared.reply.LineReply.{LineReply}
+use Rattle.exec_replies.specs.declared.reply.LineReply.TheVariants as line
+use Rattle.exec_replies.specs.declared.service.Counts.{Counts}
 use Rattle.resource_status.specs.Statuses.{statuses_of}
 use Rattle.resource_status.specs.declared.reasons.RunReason.{RunReason}
 use Rattle.exec_client.specs.BackedBy.{BackedBy}

@@ -3,7 +3,7 @@ use Rattle.std.specs.Prelude.{List}
 use Rattle.ocf_types.specs.Kinds as kinds
 use Rattle.ocf_types.specs.declared.reply.Notice.{Notice}
 use Rattle.child_model.specs.declared.answer.Entry.{Entry}
-use Rattle.exec_commands.specs.declared.reply.LineReply.{LineReply}
+use Rattle.exec_replies.specs.declared.reply.LineReply.{LineReply}
 use Rattle.exec_client.specs.declared.message.Message.{Message}
 use Rattle.exec_client.specs.declared.message.Message.TheVariants as message
 

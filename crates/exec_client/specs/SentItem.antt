@@ -2,11 +2,11 @@
 use Rattle.std.specs.Prelude.{ℕ, List, [], ◌∷◌, ◌++◌, drop, map, Option, None}
 use Rattle.ocf_types.specs.Kinds.{Reply}
 use Rattle.ocf_types.specs.declared.reply.Notice.{Notice}
-use Rattle.exec_commands.specs.Replies.{formed_line, sent_reply_line}
-use Rattle.exec_commands.specs.declared.notice.NoticeForm.{NoticeForm}
-use Rattle.exec_commands.specs.declared.notice.Origin.TheVariants.{Opening, Turn}
-use Rattle.exec_commands.specs.declared.reply.LineReply.{LineReply}
-use Rattle.exec_commands.specs.declared.reply.LineReply.TheVariants.{Request}
+use Rattle.exec_replies.specs.Replies.{notice_line, reply_line}
+use Rattle.exec_replies.specs.declared.notice.NoticeForm.{NoticeForm}
+use Rattle.exec_replies.specs.declared.notice.Origin.TheVariants.{Opening, Turn}
+use Rattle.exec_replies.specs.declared.reply.LineReply.{LineReply}
+use Rattle.exec_replies.specs.declared.reply.LineReply.TheVariants.{Request}
 use Rattle.child_model.specs.declared.answer.Entry.{Entry}
 use Rattle.resource_status.specs.Reasons.{reason_of}
 use Rattle.exec_client.specs.MessageView as message
@@ -39,9 +39,9 @@ sent_in (message.Report notices) = map Reported notices
 
 -- the bytes of a line in a session whose notices have this form, with this tag; a notice has the reason of its run among these, if any
 abbrev pub line_of : NoticeForm → List RunReason → LineTag → SentItem → List ℕ
-line_of form reasons tag (Answered reply) = sent_reply_line form tag reply
-line_of form reasons tag (Noticed notice signal) = formed_line form (reason_of reasons notice.result.run) tag (Turn signal) notice
-line_of form reasons tag (Reported notice) = formed_line form None tag Opening notice
+line_of form reasons tag (Answered reply) = reply_line form tag reply
+line_of form reasons tag (Noticed notice signal) = notice_line form (reason_of reasons notice.result.run) tag (Turn signal) notice
+line_of form reasons tag (Reported notice) = notice_line form None tag Opening notice
 
 -- the bytes of lines, the first with the first of these tags and so on; if there are fewer tags, the other lines have none
 abbrev pub lines_of : NoticeForm → List RunReason → List LineTag → List SentItem → List ℕ

@@ -4,8 +4,8 @@ use Rattle.std.specs.List.{find}
 use Rattle.ocf_types.specs.Kinds.{Reply}
 use Rattle.ocf_types.specs.declared.reply.Notice.{Notice}
 use Rattle.ocf_types.specs.declared.reply.ReplyOf.TheVariants as reply
-use Rattle.exec_commands.specs.declared.reply.LineReply.{LineReply}
-use Rattle.exec_commands.specs.declared.reply.LineReply.TheVariants.{Request}
+use Rattle.exec_replies.specs.declared.reply.LineReply.{LineReply}
+use Rattle.exec_replies.specs.declared.reply.LineReply.TheVariants.{Request}
 
 -- the tag of a line, if it has one
 abbrev pub LineTag : Type 0

@@ -6,22 +6,22 @@ ghost use Rattle.ocf_types.specs.State.{State, after_all};
 ghost use Rattle.child_model.specs.Children.{poll_answer};
 ghost use Rattle.child_model.specs.declared.answer.Entry.{Entry};
 ghost use Rattle.child_model.specs.declared.answer.Poll.TheVariants.{Signaled};
-ghost use Rattle.executor.specs.Incarnations.{AreIncarnations, GoesOnFrom, IncarnationsLeave, SurvivingEvents, Incarnation};
-ghost use Rattle.executor.specs.Promise.{IsKept};
-ghost use Rattle.executor.specs.Behaves.{Behaves};
-ghost use Rattle.executor.specs.SeenIncarnations.{seen};
+ghost use Rattle.executor_laws.specs.Incarnations.{AreIncarnations, GoesOnFrom, IncarnationsLeave, SurvivingEvents, Incarnation};
+ghost use Rattle.executor_laws.specs.Promise.{IsKept};
+ghost use Rattle.executor_laws.specs.Behaves.{Behaves};
+ghost use Rattle.executor_laws.specs.SeenIncarnations.{seen};
 ghost use Rattle.exec_client.specs.BackedBy.{BackedBy};
 ghost use Rattle.exec_client.specs.Incarnations.{SentOver};
 ghost use Rattle.exec_client.specs.SentItem.{SentItem};
 ghost use Rattle.exec_client.specs.Signals.{signal_of};
 
-use executor::laws::promise_on;
+use executor_laws::laws::promise_on;
 use store_model::Store;
 
 /// The promise, with what clients were sent. Each list of events that remains of a history of incarnations has for each acknowledgement
 /// and each notice that a client was sent in any incarnation an event of its own, in the order in which they were sent: `backed`. So the
-/// list for which all of `executor::laws::promise` holds, over a pair of files, has them; and so has that of
-/// `executor::laws::promise_on`, over any store: `holds`.
+/// list for which all of `executor_laws::laws::promise` holds, over a pair of files, has them; and so has that of
+/// `executor_laws::laws::promise_on`, over any store: `holds`.
 pub fn lemma_sent_holds<S: Store>()
     ensures backed { (start : State) (incarnations : List (Incarnation S)) (reported : List SentItem) (zs : List Event)
         → SentOver incarnations reported → SurvivingEvents start incarnations zs → BackedBy reported zs }

@@ -4,7 +4,7 @@ ghost use Rattle.exec_client.specs.MessageView.{Turn, message_view};
 ghost use Rattle.exec_client.specs.declared.message.Message.TheVariants.{Notices};
 
 use child_model::{Children, Entry};
-use exec_commands::LineReply;
+use exec_replies::LineReply;
 use executor::On;
 use ocf_types::{Notice, Reply};
 use store_model::Store;

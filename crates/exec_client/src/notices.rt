@@ -2,7 +2,7 @@
 ghost use Rattle.std.specs.Prelude.{◌≡◌, IfErr, IsTrue, OnErr, OnOk, map};
 ghost use Rattle.std.specs.Io.KnownBytes.{Appends};
 ghost use Rattle.exec_lines.specs.Prefixes.{AppendsPrefix};
-ghost use Rattle.exec_messages.specs.declared.send.IoFault.TheVariants.{InputOrOutput, Memory};
+ghost use Rattle.exec_lines.specs.declared.io_fault.IoFault.TheVariants.{InputOrOutput, Memory};
 ghost use Rattle.exec_client.specs.SentItem.{Noticed, line_of, lines_of, noticed_by};
 ghost use Rattle.exec_client.specs.Signals.{signal_of};
 ghost use Rattle.exec_client.specs.Tags.{after_notice, tag_of_call};
@@ -13,9 +13,8 @@ use crate::replies::Making;
 use crate::signals::signal_of;
 use crate::tags::Tags;
 use child_model::Entry;
-use exec_commands::{Origin, Tagged};
-use exec_lines::Output;
-use exec_messages::{IoFault, put_notice};
+use exec_lines::{IoFault, Output};
+use exec_replies::{JsonLines, Origin, Tagged};
 use growth::Grows;
 use ocf_types::Notice;
 use resource_status::reason_of;
@@ -42,20 +41,20 @@ fn with_signal<'a>(notice: &'a Notice, book: &[Entry]) -> Signaled<'a>
 // Writes the line of a notice. On error a prefix of the line was written.
 fn put_signaled<W: Output>(
     making: &Making,
-    writer: &mut W,
+    lines: &mut JsonLines<W>,
     tags: &mut Tags,
     signaled: &Signaled,
 ) -> Result<(), IoFault>
     ensures sent { OnOk result
-        (Appends (W.contents writer.old) (W.contents writer.new)
+        (Appends (W.contents lines.old.writer) (W.contents lines.new.writer)
         (line_of making.now.form making.now.reasons.now (tag_of_call signaled.now.notice.now.result.call tags.old.calls)
         (Noticed signaled.now.notice.now signaled.now.signal))) }
     ensures prefix { OnErr result
-        (AppendsPrefix (W.contents writer.old) (W.contents writer.new)
+        (AppendsPrefix (W.contents lines.old.writer) (W.contents lines.new.writer)
         (line_of making.now.form making.now.reasons.now (tag_of_call signaled.now.notice.now.result.call tags.old.calls)
         (Noticed signaled.now.notice.now signaled.now.signal))) }
     ensures kept { OnOk result (tags.new ≡ after_notice signaled.now.notice.now tags.old) }
-    ensures output { IfErr result (λ f. f ≡ InputOrOutput → IsTrue (W.broke writer.new)) }
+    ensures output { IfErr result (λ f. f ≡ InputOrOutput → IsTrue (W.broke lines.new.writer)) }
     ensures memory { IfErr result (λ f. f ≡ Memory → IsTrue ⟦<Global as Grows>⟧.refuses) }
 {
     let tagged = Tagged {
@@ -63,13 +62,7 @@ fn put_signaled<W: Output>(
         tag: tags.of_call(signaled.notice.result.call),
         reason: reason_of(making.reasons, signaled.notice.result.run),
     };
-    put_notice(
-        making.alloc,
-        writer,
-        tagged,
-        signaled.notice,
-        Origin::Turn(signaled.signal),
-    )?;
+    lines.put_notice(tagged, signaled.notice, Origin::Turn(signaled.signal))?;
     tags.forget_by(signaled.notice);
     Ok(())
 }
@@ -77,25 +70,25 @@ fn put_signaled<W: Output>(
 /// Writes the notices of a turn, a line each with its reason if that is known, without a flush. On error a prefix of the lines was written.
 pub(crate) fn put_turn<W: Output>(
     making: &Making,
-    writer: &mut W,
+    lines: &mut JsonLines<W>,
     tags: &mut Tags,
     turn: &TurnNotices,
 ) -> Result<(), IoFault>
     ensures sent { OnOk result
-        (Appends (W.contents writer.old) (W.contents writer.new)
+        (Appends (W.contents lines.old.writer) (W.contents lines.new.writer)
         (lines_of making.now.form making.now.reasons.now (notice_tags tags.old turn.now.notices.now)
         (map (noticed_by turn.now.book.now) turn.now.notices.now))) }
     ensures prefix { OnErr result
-        (AppendsPrefix (W.contents writer.old) (W.contents writer.new)
+        (AppendsPrefix (W.contents lines.old.writer) (W.contents lines.new.writer)
         (lines_of making.now.form making.now.reasons.now (notice_tags tags.old turn.now.notices.now)
         (map (noticed_by turn.now.book.now) turn.now.notices.now))) }
     ensures kept { OnOk result (tags.new ≡ after_notices turn.now.notices.now tags.old) }
-    ensures output { IfErr result (λ f. f ≡ InputOrOutput → IsTrue (W.broke writer.new)) }
+    ensures output { IfErr result (λ f. f ≡ InputOrOutput → IsTrue (W.broke lines.new.writer)) }
     ensures memory { IfErr result (λ f. f ≡ Memory → IsTrue ⟦<Global as Grows>⟧.refuses) }
 {
     let (notices, book) = (turn.notices, turn.book);
     for notice in notices {
-        put_signaled(making, writer, tags, &with_signal(notice, book))?;
+        put_signaled(making, lines, tags, &with_signal(notice, book))?;
     }
     Ok(())
 }

@@ -1,13 +1,14 @@
 //! The tags of lines that wait for a reply, and of the calls that lines were given.
-ghost use Rattle.std.specs.Prelude.{◌≡◌, ◌+◌, ◌-◌, ◌<◌, ◌≤◌, ◌^◌, if◌then◌else◌, is_ok, length, min, None, option_map, IsTrue, OnErr, OnOk, vec_capacity, vec_len};
+ghost use Rattle.std.specs.Prelude.{◌≡◌, ◌+◌, ◌-◌, ◌<◌, ◌≤◌, ◌^◌, if◌then◌else◌, is_ok, length, min, None, option_map, OnOk, vec_capacity, vec_len};
 ghost use Rattle.exec_client.specs.Tags.{after_line_reply, after_notice, after_reply, call_limit, forgotten, kept, next_line, no_tags, tag_of_call, with_line};
 
 use crate::kept_calls::{CALL_LIMIT, KeptCall, add_call, find_call};
 use crate::waiting::{Waiting, take_first};
-use exec_commands::{LineReply, Tag};
-use growth::Grows;
+use exec_commands::Tag;
+use exec_replies::LineReply;
+use growth::{Grows, Refused};
 use ocf_types::{CallId, Notice, Reply};
-use std::alloc::{AllocError, Global};
+use std::alloc::Global;
 use std::marker::Model;
 
 /// The tags of lines that wait for a reply, and of the newest 16,384 calls that lines were given. Replies answer lines in the order in
@@ -39,14 +40,13 @@ impl Model for Tags {
 }
 
 // Reserves memory for the tag of one more line, and for the calls that all lines may be given, also the one that is being answered.
-fn reserve(waiting: &mut Vec<Waiting>, calls: &mut Vec<KeptCall>) -> Result<(), AllocError>
+fn reserve(waiting: &mut Vec<Waiting>, calls: &mut Vec<KeptCall>) -> Result<(), Refused>
     ensures waiting { waiting.new.items ≡ waiting.old.items }
     ensures calls { calls.new.items ≡ calls.old.items }
     ensures grows { vec_capacity calls.old ≤ vec_capacity calls.new }
     ensures line { OnOk result (vec_len waiting.new < vec_capacity waiting.new) }
     ensures room { OnOk result
         (min call_limit (vec_len calls.new + vec_len waiting.new + 2) ≤ vec_capacity calls.new) }
-    ensures memory { OnErr result (IsTrue ⟦<Global as Grows>⟧.refuses) }
 {
     Global::reserve(waiting, 1)?;
     let more = CALL_LIMIT
@@ -71,9 +71,8 @@ impl Tags {
 
     /// A line was read, with this tag or with none. If memory is refused, the line counts as one without a tag. While 2^64 - 1 lines wait,
     /// nothing is noted.
-    pub fn note(&mut self, tag: Option<Tag>) -> Result<(), AllocError>
+    pub fn note(&mut self, tag: Option<Tag>) -> Result<(), Refused>
         ensures noted { self.new ≡ with_line (if is_ok result then tag else None) self.old }
-        ensures memory { OnErr result (IsTrue ⟦<Global as Grows>⟧.refuses) }
     {
         if self.count == u64::MAX {
             return Ok(());

@@ -5,9 +5,9 @@ use Rattle.ocf_types.specs.Notices.{is_failure}
 use Rattle.ocf_types.specs.Kinds.{Reply}
 use Rattle.ocf_types.specs.declared.reply.ReplyOf.TheVariants as reply
 use Rattle.ocf_types.specs.declared.reply.TidyEnd.TheVariants as tidy
-use Rattle.exec_commands.specs.declared.ends.DrainEnd.TheVariants as drain
-use Rattle.exec_commands.specs.declared.reply.LineReply.{LineReply}
-use Rattle.exec_commands.specs.declared.reply.LineReply.TheVariants as line
+use Rattle.exec_replies.specs.declared.ends.DrainEnd.TheVariants as drain
+use Rattle.exec_replies.specs.declared.reply.LineReply.{LineReply}
+use Rattle.exec_replies.specs.declared.reply.LineReply.TheVariants as line
 use Rattle.exec_client.specs.SentItem.{Answered, Noticed, Reported, SentItem}
 
 -- a request was refused

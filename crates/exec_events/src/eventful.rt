@@ -7,13 +7,14 @@ ghost use Rattle.exec_events.specs.Events.{IsEventLine, WritesEvents, notices_in
 use crate::lines::event_line;
 use child_model::Children;
 use exec_client::{Client, Message};
-use exec_commands::{NoticeForm, Tag};
-use exec_lines::write_flushed;
-use exec_messages::IoFault;
+use exec_commands::Tag;
+use exec_lines::{IoFault, write_flushed};
+use exec_replies::NoticeForm;
 use executor::On;
+use growth::Refused;
 use ocf_types::Notice;
 use resource_status::RunReason;
-use std::alloc::{AllocError, Global};
+use std::alloc::Global;
 use std::io::Write;
 use store_model::Store;
 
@@ -101,8 +102,6 @@ impl<S: Store + Drop, C: Children + Drop, T: Client<S, C>, W: Write> Client<S, C
     for Eventful<T, W> {
     ghost client_view = { λ e. T.client_view e.client };
 
-    ghost refuses = { T.refuses };
-
     fn send(
         &mut self,
         executor: &On<S, C>,
@@ -125,7 +124,7 @@ impl<S: Store + Drop, C: Children + Drop, T: Client<S, C>, W: Write> Client<S, C
         sent
     }
 
-    fn note_tag(&mut self, tag: Option<Tag>) -> Result<(), AllocError> {
+    fn note_tag(&mut self, tag: Option<Tag>) -> Result<(), Refused> {
         self.client.note_tag(tag)
     }
 

@@ -7,7 +7,7 @@ ghost use Rattle.exec_client.specs.SentItem.{sent_in};
 ghost use Rattle.exec_events.specs.Failures.{is_refused, is_undone, tell_failure};
 
 use exec_client::Message;
-use exec_commands::{DrainEnd, LineReply};
+use exec_replies::{DrainEnd, LineReply};
 use ocf_codes::is_failure;
 use ocf_types::{Notice, Reply, TidyEnd};
 

@@ -1,15 +1,15 @@
 //! The line of a result, for a person.
-ghost use Rattle.std.specs.Prelude.{◌≡◌, IfOk, IsTrue, OnErr};
+ghost use Rattle.std.specs.Prelude.{◌≡◌, IfOk};
 ghost use Rattle.ocf_types.specs.Notices.{is_failure};
 ghost use Rattle.resource_status.specs.Meanings.{tone_of};
 ghost use Rattle.exec_events.specs.Events.{IsEventLine, is_bad, is_unknown, mark_of, marked};
 
-use growth::Grows;
+use growth::Refused;
 use line_text::LineText;
 use ocf_codes::{is_failure, name, read_code};
 use ocf_types::{Action, Notice, Outcome, RunEnd};
 use resource_status::{Tone, failure_meaning, meaning, tone_of};
-use std::alloc::{AllocError, Global};
+use std::alloc::Global;
 
 // Whether the outcome is a failure whatever exit code was expected.
 fn is_bad(outcome: Outcome) -> bool
@@ -98,9 +98,7 @@ fn add_time(text: &mut LineText, notice: &Notice) {
 }
 
 // What the line of a result says of its resource.
-fn sentence(alloc: Global, notice: &Notice) -> Result<Vec<u8>, AllocError>
-    ensures memory { OnErr result (IsTrue ⟦<Global as Grows>⟧.refuses) }
-{
+fn sentence(alloc: Global, notice: &Notice) -> Result<Vec<u8>, Refused> {
     let mut text = LineText::new(alloc);
     text.text(": ");
     text.text(notice.result.action.word());
@@ -111,9 +109,8 @@ fn sentence(alloc: Global, notice: &Notice) -> Result<Vec<u8>, AllocError>
 }
 
 /// The line of a result, with or without its mark.
-pub fn event_line(alloc: Global, marks: bool, notice: &Notice) -> Result<Vec<u8>, AllocError>
+pub fn event_line(alloc: Global, marks: bool, notice: &Notice) -> Result<Vec<u8>, Refused>
     ensures line { IfOk result (λ line. IsEventLine marks notice.now line.items) }
-    ensures memory { OnErr result (IsTrue ⟦<Global as Grows>⟧.refuses) }
 {
     let sentence = sentence(alloc, notice)?;
     let mut line = LineText::new(alloc);

@@ -5,11 +5,12 @@ ghost use Rattle.exec_events.specs.Failures.{tell_failure};
 use crate::failures::tells_failure;
 use child_model::Children;
 use exec_client::{Client, Message};
-use exec_commands::{NoticeForm, Tag};
-use exec_messages::IoFault;
+use exec_commands::Tag;
+use exec_lines::IoFault;
+use exec_replies::NoticeForm;
 use executor::On;
+use growth::Refused;
 use resource_status::RunReason;
-use std::alloc::AllocError;
 use std::marker::{Model, PhantomData};
 use store_model::Store;
 
@@ -62,8 +63,6 @@ impl<S: Store + Drop, C: Children + Drop, T: Client<S, C>> Strict<S, C, T> {
 impl<S: Store + Drop, C: Children + Drop, T: Client<S, C>> Client<S, C> for Strict<S, C, T> {
     ghost client_view = { λ s. s };
 
-    ghost refuses = { T.refuses };
-
     fn send(
         &mut self,
         executor: &On<S, C>,
@@ -74,7 +73,7 @@ impl<S: Store + Drop, C: Children + Drop, T: Client<S, C>> Client<S, C> for Stri
         self.client.send(executor, form, what)
     }
 
-    fn note_tag(&mut self, tag: Option<Tag>) -> Result<(), AllocError> {
+    fn note_tag(&mut self, tag: Option<Tag>) -> Result<(), Refused> {
         self.client.note_tag(tag)
     }
 

@@ -1,5 +1,5 @@
 -- Replies to lines: when a session may note them, and what is answered once they are sent.
-use Rattle.std.proofs.Common.{◌≡◌, ◌≢◌, ◌↔◌, ◌==◌, ℕ, suc, ◌+◌, Bool, true, false, List, [], ◌∷◌, ◌++◌, drop, length, map, Option, Some, None, Result, Ok, Err, OnOk, refl, sym, ap, subst, ◌∙◌, arith, eqb-true}
+use Rattle.std.proofs.Common.{◌≡◌, ◌≢◌, ◌↔◌, ◌==◌, ℕ, suc, ◌≤◌, Bool, true, false, List, [], ◌∷◌, ◌++◌, drop, length, map, Option, Some, None, Result, Ok, Err, OnOk, refl, sym, ap, subst, ◌∙◌, arith, eqb-true}
 use Rattle.std.specs.Prelude.{is_ok, replicate}
 use Rattle.std.specs.Global.{Vec}
 use Rattle.std.proofs.lemmas.List.{drop-map, drop_at, length-map}
@@ -12,16 +12,17 @@ use Rattle.store_model.specs.StoreView.{StoreView}
 use Rattle.executor.specs.CommandBatches.{TakesCommands}
 use Rattle.executor.specs.Commands.{Serves}
 use Rattle.executor.specs.ExecutorView.{ExecutorView}
-use Rattle.exec_commands.specs.declared.ends.DrainEnd.{DrainEnd}
+use Rattle.exec_replies.specs.declared.ends.DrainEnd.{DrainEnd}
 use Rattle.exec_commands.specs.declared.line.Line.{Line}
 use Rattle.exec_commands.specs.declared.line.Line.TheVariants as line
-use Rattle.exec_commands.specs.declared.reply.LineReply.{LineReply}
-use Rattle.exec_commands.specs.declared.reply.LineReply.TheVariants as answer
+use Rattle.exec_replies.specs.declared.reply.LineReply.{LineReply}
+use Rattle.exec_replies.specs.declared.reply.LineReply.TheVariants as answer
 use Rattle.exec_client.specs.ClientView.{ClientView}
 use Rattle.exec_client.specs.MessageView.{Replies, Reply as ReplyTo}
 use Rattle.session_machine.specs.After.{sent_at, settled_at, woken_by}
 use Rattle.session_machine.specs.Behaviours.{Trace, then}
 use Rattle.session_machine.specs.Events.{GaveMetadata, Sent, Shown, Together}
+use Rattle.session_machine.specs.Limits.{most_together}
 use Rattle.session_machine.specs.May.{IsDue, IsNextReply, MayServe, MayServeTogether}
 use Rattle.session_machine.specs.Replies.{IsClosedReply, IsOpenReply, IsStatusReply, WhileOpen}
 use Rattle.session_machine.specs.Room.{MakesRoom}
@@ -96,14 +97,15 @@ module _ {S : Type 0} where
   -- the replies to the commands that wait, after a clock reading
   pub may_serve_together : (view : S → StoreView) (t s u : Trace S) (now : ℕ) (commands waits : List Command) (rest : Lines)
       (y middle x : ExecutorView S) (replies given : List Reply) → s ≡ t → u ≡ then s (Shown now) → t.state.at ≡ Reading
-      → t.state.executor.is_open ≡ true → commands ≡ waits → waits ≢ [] → lines_in t.state ≡ map of_command waits ++ rest
+      → t.state.executor.is_open ≡ true → commands ≡ waits → waits ≢ [] → length commands ≤ most_together
+      → lines_in t.state ≡ map of_command waits ++ rest
       → y ≡ s.state.executor → MakesRoom view u.state.rules now y middle
       → (middle.is_open ≡ true → TakesCommands view now commands middle x replies)
       → (middle.is_open ≡ false → (replies ≡ replicate (length commands) (reply.Refused Disk)) × (x ≡ middle)) → given ≡ replies
       → MayServeTogether view u.state given x
-  may_serve_together view t s u now [] waits rest y middle x replies given same shown at is_open asked some are of room takes fails sent =
+  may_serve_together view t s u now [] waits rest y middle x replies given same shown at is_open asked some few are of room takes fails sent =
       absurd (some (sym asked))
-  may_serve_together view t s u now (first ∷ others) waits rest y middle x replies given same shown at is_open asked some are of room takes fails sent =
+  may_serve_together view t s u now (first ∷ others) waits rest y middle x replies given same shown at is_open asked some few are of room takes fails sent =
       let now_shown = shown ∙ ap (λ (v : Trace S). then v (Shown now)) same in
       let from = of ∙ ap (λ (v : Trace S). v.state.executor) same in
       subst (λ (v : Trace S). MayServeTogether view v.state given x) (sym now_shown)
@@ -116,6 +118,7 @@ module _ {S : Type 0} where
         others = others;
         rest = rest;
         are = are ∙ ap (λ (cs : List Command). map of_command cs ++ rest) (sym asked);
+        few = few;
         serves = record {
           middle = middle;
           room =
@@ -152,16 +155,17 @@ module _ {S : Type 0} where
         own = woken_by (ReplyTo given) t.state.own;
       } in
       subst (λ (v : Trace S). HasAnswered t v []) (sym e) (record {
-        stays = record {
-          lasts = record { rules = refl; first = refl; grows = omega (arith, then_longer t (Sent (ReplyTo given) true client)) };
-          part = refl;
-          found = refl;
-          ended = refl;
-          there = refl;
-          own = record { now = refl; since = refl; end = refl; reads = refl; polls = refl; waits = refl; looked = λ e. e; woken = λ e. refl };
+        answers = record {
+          stays = record {
+            lasts = record { rules = refl; first = refl; grows = omega (arith, then_longer t (Sent (ReplyTo given) true client)) };
+            part = refl;
+            found = refl;
+            ended = refl;
+            own = record { now = refl; since = refl; end = refl; reads = refl; polls = refl; looked = λ e. e; woken = λ e. refl };
+          };
+          at = ap (settled_at w) (ap (λ (a : At). sent_at a (ReplyTo given)) at ∙ reply_at given stays);
+          lines = none_left t.state.lines found is;
         };
-        at = ap (settled_at w) (ap (λ (a : At). sent_at a (ReplyTo given)) at ∙ reply_at given stays);
-        lines = none_left t.state.lines found is;
         woken = refl;
       })
 
@@ -175,16 +179,17 @@ module _ {S : Type 0} where
       let led = e ∙ ap (λ (v : Trace S). then v sent) (gave ∙ ap (λ (v : Trace S). then v asks) same) in
       subst (λ (v : Trace S). HasAnswered t v [] × (v.state.own.looked ≡ true)) (sym led) (
         record {
-          stays = record {
-            lasts = record { rules = refl; first = refl; grows = omega (arith, then_longer t asks, then_longer (then t asks) sent) };
-            part = refl;
-            found = refl;
-            ended = refl;
-            there = refl;
-            own = record { now = refl; since = refl; end = refl; reads = refl; polls = refl; waits = refl; looked = λ e. refl; woken = λ e. refl };
+          answers = record {
+            stays = record {
+              lasts = record { rules = refl; first = refl; grows = omega (arith, then_longer t asks, then_longer (then t asks) sent) };
+              part = refl;
+              found = refl;
+              ended = refl;
+              own = record { now = refl; since = refl; end = refl; reads = refl; polls = refl; looked = λ e. refl; woken = λ e. refl };
+            };
+            at = refl;
+            lines = none_left t.state.lines found is;
           };
-          at = refl;
-          lines = none_left t.state.lines found is;
           woken = refl;
         },
         refl,
@@ -202,20 +207,21 @@ module _ {S : Type 0} where
       let three = Sent (Replies given) true client in
       let led = e ∙ ap (λ (v : Trace S). then v three) (noted ∙ ap (λ (v : Trace S). then v two) (shown ∙ ap (λ (v : Trace S). then v one) same)) in
       subst (λ (v : Trace S). HasAnswered t v rest) (sym led) (record {
-        stays = record {
-          lasts = record {
-            rules = refl;
-            first = refl;
-            grows = omega (arith, then_longer t one, then_longer (then t one) two, then_longer (then (then t one) two) three);
+        answers = record {
+          stays = record {
+            lasts = record {
+              rules = refl;
+              first = refl;
+              grows = omega (arith, then_longer t one, then_longer (then t one) two, then_longer (then (then t one) two) three);
+            };
+            part = refl;
+            found = refl;
+            ended = refl;
+            own = record { now = refl; since = refl; end = refl; reads = refl; polls = refl; looked = λ e. e; woken = λ e. refl };
           };
-          part = refl;
-          found = refl;
-          ended = refl;
-          there = refl;
-          own = record { now = refl; since = refl; end = refl; reads = refl; polls = refl; waits = refl; looked = λ e. e; woken = λ e. refl };
+          at = refl;
+          lines = some_left t.state.lines commands rest (length given) as_many are;
         };
-        at = refl;
-        lines = some_left t.state.lines commands rest (length given) as_many are;
         woken = refl;
       })
 
@@ -232,8 +238,7 @@ module _ {S : Type 0} where
         part = refl;
         found = refl;
         ended = refl;
-        there = refl;
-        own = record { now = refl; since = refl; end = refl; reads = refl; polls = refl; waits = refl; looked = λ e. e; woken = λ e. e };
+        own = record { now = refl; since = refl; end = refl; reads = refl; polls = refl; looked = λ e. e; woken = λ e. e };
       }) in
       let both = stays_both t a m begins drains.stays in
       let w = record m.state {
@@ -243,28 +248,28 @@ module _ {S : Type 0} where
         own = woken_by (ReplyTo (answer.Drain end)) m.state.own;
       } in
       subst (λ (v : Trace S). HasAnswered t v []) (sym e) (record {
-        stays = record {
-          lasts = record {
-            rules = both.lasts.rules;
-            first = both.lasts.first;
-            grows = omega (arith, both.lasts.grows, then_longer m sent);
+        answers = record {
+          stays = record {
+            lasts = record {
+              rules = both.lasts.rules;
+              first = both.lasts.first;
+              grows = omega (arith, both.lasts.grows, then_longer m sent);
+            };
+            part = both.part;
+            found = both.found;
+            ended = both.ended;
+            own = record {
+              now = both.own.now;
+              since = both.own.since;
+              end = both.own.end;
+              reads = both.own.reads;
+              polls = both.own.polls;
+              looked = both.own.looked;
+              woken = λ e. refl;
+            };
           };
-          part = both.part;
-          found = both.found;
-          ended = both.ended;
-          there = both.there;
-          own = record {
-            now = both.own.now;
-            since = both.own.since;
-            end = both.own.end;
-            reads = both.own.reads;
-            polls = both.own.polls;
-            waits = both.own.waits;
-            looked = both.own.looked;
-            woken = λ e. refl;
-          };
+          at = ap (settled_at w) (ap (λ (at : At). sent_at at (ReplyTo (answer.Drain end))) drained.at);
+          lines = none_left m.state.lines found (drains.lines ∙ ap (λ (v : Trace S). lines_in v.state) led ∙ is);
         };
-        at = ap (settled_at w) (ap (λ (at : At). sent_at at (ReplyTo (answer.Drain end))) drained.at);
-        lines = none_left m.state.lines found (drains.lines ∙ ap (λ (v : Trace S). lines_in v.state) led ∙ is);
         woken = refl;
       })

@@ -1,22 +1,23 @@
 -- Drains, watches and the orderly end of a session.
-use Rattle.std.proofs.Common.{◌≡◌, ◌≢◌, ◌≤◌, ◌<◌, ◌+◌, ℕ, Bool, true, false, not, List, [], ◌∷◌, ◌++◌, length, Option, None, Some, refl, sym, ap, subst, ◌∙◌, arith, inl, inr, length-append}
+use Rattle.std.proofs.Common.{◌≡◌, ◌≢◌, ◌≤◌, ◌+◌, ℕ, Bool, true, false, not, [], ◌∷◌, Option, None, Some, refl, sym, ap, subst, ◌∙◌, arith, inl, inr, length-append}
 use Rattle.ocf_types.specs.Boot.{any_busy}
 use Rattle.ocf_types.specs.declared.reply.TurnEnd.{TurnEnd}
 use Rattle.ocf_types.specs.declared.reply.TurnEnd.TheVariants as turn_end
 use Rattle.executor.specs.ExecutorView.{ExecutorView}
-use Rattle.exec_commands.specs.declared.ends.DrainEnd.{DrainEnd}
+use Rattle.exec_replies.specs.declared.ends.DrainEnd.{DrainEnd}
 use Rattle.session_machine.specs.After.{after_drain_turn, drain_of}
 use Rattle.session_machine.specs.Behaviours.{Trace, then}
 use Rattle.session_machine.specs.Drains.{end_after}
 use Rattle.session_machine.specs.Events.{Shown}
 use Rattle.session_machine.specs.May.{IsTurnDue, MayShow}
 use Rattle.session_machine.specs.Pausing.{IsShort}
-use Rattle.session_machine.specs.Session.{At, Drain, OwnTurn, Draining, at_then, lines_in}
+use Rattle.session_machine.specs.Session.{At, Drain, Draining, at_then, lines_in}
 use Rattle.session_machine.specs.declared.terms.Terms.{Terms}
 use Rattle.session_machine.specs.declared.rules.Rules.{Rules}
 use Rattle.exec_session.specs.declared.pause.Pause.{Pause}
-use Rattle.exec_session.specs.Standing.{KeepsTurn, Lasts, Stays, StaysLonger}
+use Rattle.exec_session.specs.Standing.{Stays, StaysLonger}
 use Rattle.exec_session.specs.Steps.{HasFinished, HasPaused, IsDrained, IsDraining, IsLeaving, MayPauseNow}
+use Rattle.exec_session.proofs.RoundLemmas.{keeps_both, lasts_both}
 
 -- a drain goes on after a turn that is done
 done : (t : Terms) (turns now : ℕ) (end : TurnEnd) (idle : Bool) → end_after t turns now end idle ≡ None → end ≡ turn_end.Done
@@ -34,33 +35,13 @@ short_since before since now micros le (inl short) = inl short
 short_since before since now micros le (inr (long, part)) = inr (long, omega (arith, le, part))
 
 -- one after the other
-pub keeps_both : (p q r : OwnTurn) → KeepsTurn p q → KeepsTurn q r → KeepsTurn p r
-keeps_both p q r one two = record {
-  now = two.now ∙ one.now;
-  since = two.since ∙ one.since;
-  end = two.end ∙ one.end;
-  reads = two.reads ∙ one.reads;
-  polls = two.polls ∙ one.polls;
-  waits = two.waits ∙ one.waits;
-  looked = λ is. two.looked (one.looked is);
-  woken = λ is. two.woken (one.woken is);
-}
-
 module _ {S : Type 0} where
-  pub lasts_both : (p q r : Trace S) → Lasts p q → Lasts q r → Lasts p r
-  lasts_both p q r one two = record {
-    rules = two.rules ∙ one.rules;
-    first = two.first ∙ one.first;
-    grows = omega (arith, one.grows, two.grows);
-  }
-
   pub stays_both : (p q r : Trace S) → Stays p q → Stays q r → Stays p r
   stays_both p q r one two = record {
     lasts = lasts_both p q r one.lasts two.lasts;
     part = two.part ∙ one.part;
     found = two.found ∙ one.found;
     ended = two.ended ∙ one.ended;
-    there = two.there ∙ one.there;
     own = keeps_both p.state.own q.state.own r.state.own one.own two.own;
   }
 
@@ -113,7 +94,6 @@ module _ {S : Type 0} where
                   part = all.part;
                   found = all.found;
                   ended = all.ended;
-                  there = all.there;
                   own = all.own;
                 };
             lines = paused.lines ∙ longer.lines;
@@ -152,8 +132,10 @@ module _ {S : Type 0} where
   pub leaves_on : (q r : Trace S) (pause : Pause) → q.state.executor.is_open ≡ true → HasFinished q.state pause → HasPaused q r → IsLeaving r.state
   leaves_on q r pause is_open finished paused = record {
     serves = ap (λ (w : Rules). w.mode) paused.stays.lasts.rules ∙ finished.serves;
-    is_open = ap (λ (x : ExecutorView S). x.is_open) paused.executor ∙ is_open;
-    at = paused.at (record { since = 0; now = pause.moment; made = false }) None (finished.rests is_open);
-    goes_on = paused.stays.ended ∙ finished.goes_on;
+    goes_on = (
+      paused.at (record { since = 0; now = pause.moment; made = false }) None (finished.rests is_open),
+      paused.stays.ended ∙ finished.goes_on,
+      λ serves. ap (λ (x : ExecutorView S). x.is_open) paused.executor ∙ is_open,
+    );
     is = paused.lines ∙ finished.is;
   }

@@ -12,11 +12,13 @@ use Rattle.session_machine.specs.May.{IsAtRest}
 use Rattle.session_machine.specs.Pausing.{is_quiet}
 use Rattle.session_machine.specs.Session.{At, Drain, Lines, OwnTurn, ReadLine, SessionState, Reading, lines_in}
 use Rattle.session_machine.specs.declared.rules.Mode.TheVariants.{Serve}
-use Rattle.exec_session.specs.Standing.{Flows, KnowsTurn, Lasts, Standing}
+use Rattle.exec_session.specs.Rounds.{Goes}
+use Rattle.exec_session.specs.Standing.{Flows, KnowsTurn, Lasts, Standing, Steps}
 use Rattle.exec_session.specs.Steps.{MakesOwnTurn, OnlySends}
 use Rattle.exec_session.specs.declared.flow.Flow.{Flow}
 use Rattle.exec_session.specs.declared.flow.Flow.TheVariants as flow
 use Rattle.exec_session.specs.declared.pause.Pause.{Pause}
+use Rattle.exec_session.proofs.RoundLemmas.{goes_so}
 
 -- these lines ask for no drain
 at_rest : (lines : Lines) (now most : ℕ) → IsAtRest lines → drain_of Reading lines now most ≡ None
@@ -95,18 +97,6 @@ module _ {S : Type 0} (old : Trace S) (now : ℕ) where
     executor = sends.executor ∙ after.executor;
   }
 
-  pub makes : (new : Trace S) (end : TurnEnd) (x : ExecutorView S) → AfterOwnTurn old now new end x → old.state.found ≡ None → MakesOwnTurn old new
-  makes new end x after none = record {
-    lasts = after.lasts;
-    longer = after.longer;
-    lines = after.lines;
-    part = after.part;
-    found = after.found ∙ none;
-    reads = ap (λ (o : OwnTurn). o.reads) after.own;
-    polls = ap (λ (o : OwnTurn). o.polls) after.own;
-    waits = ap (λ (o : OwnTurn). o.waits) after.own;
-  }
-
 -- the session knows that turn
 since_in : (quiet : Bool) (since now most : ℕ) → since ≤ most → (quiet ≡ false → now ≤ most) → cond quiet since now ≤ most
 since_in true since now most before later = before
@@ -136,19 +126,40 @@ knows_turn s own now end x before after book is ended pauses moment since same s
           ∙ woken_in quiet (ap (λ (b : Bool). cond b false true) (sym as_left) ∙ sym stirred ∙ sym (ap (λ (p : Pause). p.is_stirred) pauses) ∙ does);
     }
 
--- a fact that a session which goes on has where it was before
-pub where_it_was : {S E : Type 0} (P : Type 0) (old new : Trace S) (result : Result Flow E) → (new ≡ old → P)
-    → IfOk result (λ so. so ≡ flow.GoesOn → new ≡ old) → IfOk result (λ so. so ≡ flow.GoesOn → P)
-where_it_was P old new (Ok so) holds same = λ is. holds (same is)
-where_it_was P old new (Err why) holds same = tt
+-- a turn was made, and the session is as its messages left it
+pub makes : {S : Type 0} (old new : Standing S) (now : ℕ) (mid : Trace S) (end : TurnEnd) (x : ExecutorView S) → AfterOwnTurn old.trace now mid end x
+    → old.trace.state.found ≡ None → new.trace ≡ mid → new.pending ≡ old.pending → Flows flow.GoesOn new.trace.state → KnowsTurn new
+    → MakesOwnTurn old new
+makes {S} old new now mid end x before none same pending flows knows =
+    let after = subst (λ (t : Trace S). AfterOwnTurn old.trace now t end x) (sym same) before in record {
+      pending = pending;
+      goes_on = flows;
+      knows = knows;
+      longer = after.longer;
+      lines = after.lines;
+      part = after.part;
+      found = after.found ∙ none;
+      reads = ap (λ (o : OwnTurn). o.reads) after.own;
+      polls = ap (λ (o : OwnTurn). o.polls) after.own;
+      waits = ap (λ (o : OwnTurn). o.waits) after.own;
+    }
+
+-- how it goes on after that, or is over
+pub own_goes : {S E : Type 0} (old mid new : Standing S) (result : Result Flow E) → Lasts old.trace mid.trace → Steps mid new result
+    → IfOk result (λ so. Flows so new.trace.state) → IfOk result (λ so. so ≡ flow.GoesOn → new.trace ≡ mid.trace)
+    → (Flows flow.GoesOn new.trace.state → new.trace ≡ mid.trace → MakesOwnTurn old new) → Goes MakesOwnTurn old new result
+own_goes {S} {E} old mid new result lasts steps flows same to =
+    goes_so MakesOwnTurn old mid new result lasts steps.continues flows (by result flows same)
+  where
+    by : (r : Result Flow E) → IfOk r (λ so. Flows so new.trace.state) → IfOk r (λ so. so ≡ flow.GoesOn → new.trace ≡ mid.trace)
+        → IfOk r (λ so. so ≡ flow.GoesOn → MakesOwnTurn old new)
+    by (Ok flow.GoesOn) flows same = λ is. to flows (same refl)
+    by (Ok flow.Over) flows same = λ is. absurd cc
+    by (Err why) flows same = tt
 
 -- in `serve` a session with a closed executor does not go on
-pub closed_ends : {S E : Type 0} (P : Type 0) (old new : Trace S) (result : Result Flow E) → old.state.rules.mode ≡ Serve
-    → old.state.executor.is_open ≡ false → IfOk result (λ so. Flows so new.state) → IfOk result (λ so. so ≡ flow.GoesOn → new ≡ old)
-    → IfOk result (λ so. so ≡ flow.GoesOn → P)
-closed_ends {S} P old new (Ok flow.GoesOn) serves closed (at, ended, opens) same = λ _.
-    let is : new ≡ old = same refl in
-    let is_open = opens (ap (λ (t : Trace S). t.state.rules.mode) is ∙ serves) in
-    absurd (false≢true (sym closed ∙ sym (ap (λ (t : Trace S). t.state.executor.is_open) is) ∙ is_open))
-closed_ends P old new (Ok flow.Over) serves closed flows same = λ is. absurd cc
-closed_ends P old new (Err why) serves closed flows same = tt
+pub closed_ends : {S : Type 0} (P : Type 0) (old new : Trace S) → old.state.rules.mode ≡ Serve → old.state.executor.is_open ≡ false
+    → Flows flow.GoesOn new.state → new ≡ old → P
+closed_ends {S} P old new serves closed (at, ended, opens) same =
+    let is_open = opens (ap (λ (t : Trace S). t.state.rules.mode) same ∙ serves) in
+    absurd (false≢true (sym closed ∙ sym (ap (λ (t : Trace S). t.state.executor.is_open) same) ∙ is_open))

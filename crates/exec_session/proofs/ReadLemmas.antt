@@ -45,7 +45,6 @@ read_once own = record {
   end = refl;
   reads = refl;
   polls = refl;
-  waits = refl;
   looked = λ is. ap (λ (b : Bool). eqb (own.reads + 1) reads_a_turn || b) is ∙ or_true (eqb (own.reads + 1) reads_a_turn);
   all = λ is. ap (λ (b : Bool). b || own.looked) (eq-eqb (own.reads + 1) reads_a_turn is);
   woken = refl;
@@ -167,12 +166,15 @@ module _ {S : Type 0} (s : SessionState S) (listens : Listens s) where
       got_line kept bytes piece next.TooLong is (λ over. cc) (λ short. let bad : ⊥ = cc in absurd bad) keeps
 
 -- what a read gave
-pub read_got : {S : Type 0} (old new : Trace S) (kept : List ℕ) (n : Option Next) → Listens old.state → IsReadOf {E = Failed} old new kept (Ok n)
-    → ReadsOn old new × IsGot new.state kept (got_of n kept)
-read_got {S} old new kept n listens (bytes, piece, same, is, keeps) = (
-  reads_on old new bytes piece same,
-  subst (λ (t : Trace S). IsGot t.state kept (got_of n kept)) (sym same) (got_is old.state listens kept bytes piece n is keeps),
-)
+pub read_got : {S : Type 0} (old from new : Trace S) (kept : List ℕ) (n : Option Next) → from ≡ old → Listens old.state
+    → IsReadOf {E = Failed} from new kept (Ok n) → ReadsOn old new × IsGot new.state kept (got_of n kept)
+read_got {S} old from new kept n of listens (bytes, piece, is_read, is, keeps) =
+    let same = is_read ∙ ap (λ (t : Trace S). then t (Took bytes piece)) of in
+    let (whole, keeps_whole) =
+    subst (λ (t : Trace S). (n ≡ next_after piece (t.state.part ++ bytes)) × (kept ≡ take line_room (t.state.part ++ bytes))) of (is, keeps) in (
+      reads_on old new bytes piece same,
+      subst (λ (t : Trace S). IsGot t.state kept (got_of n kept)) (sym same) (got_is old.state listens kept bytes piece n whole keeps_whole),
+    )
 
 -- a line was noted
 pub is_noted : {S : Type 0} (old new : Trace S) (found : Result Line Refusal) (tag : LineTag) → new ≡ then old (Noted found tag)
@@ -183,7 +185,6 @@ is_noted {S} old new found tag same = subst (λ (t : Trace S). IsNoted old t fou
   executor = refl;
   part = refl;
   ended = refl;
-  there = refl;
   found_none = refl;
   lines = map-append (λ (l : ReadLine). l.line) old.state.lines (record { line = found; tag = tag } ∷ []);
   own =
@@ -193,7 +194,6 @@ is_noted {S} old new found tag same = subst (λ (t : Trace S). IsNoted old t fou
         end = refl;
         reads = refl;
         polls = refl;
-        waits = refl;
         looked = λ is. ap (λ (b : Bool). is_held old.state.rules.mode found || b) is ∙ or_true (is_held old.state.rules.mode found);
         woken = λ is. is;
       };

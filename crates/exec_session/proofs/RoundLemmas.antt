@@ -13,7 +13,7 @@ use Rattle.session_machine.proofs.AfterLemmas.{rules_stay, then_longer}
 use Rattle.exec_session.specs.Gathered.{waiting}
 use Rattle.exec_session.specs.Held.{IsHeldMeta, held_lines}
 use Rattle.exec_session.specs.Rounds.{Goes, HasFound, TakesOn}
-use Rattle.exec_session.specs.Standing.{Answers, BeginsWith, Emptied, Flows, IsBetween, IsOver, KeepsTurn, Lasts, Moves, Standing}
+use Rattle.exec_session.specs.Standing.{Answers, BeginsWith, Continues, Emptied, Flows, IsBetween, KeepsTurn, Lasts, Standing}
 use Rattle.exec_session.specs.declared.flow.Flow.{Flow}
 use Rattle.exec_session.specs.declared.flow.Flow.TheVariants as flow
 use Rattle.exec_session.specs.declared.held.Held.{Held}
@@ -34,13 +34,14 @@ module _ {S : Type 0} where
     grows = omega (arith, then_longer p e);
   })
 
--- a session goes on like this, or is over
-module _ {S E : Type 0} (on : Type 0) (old new : Standing S) where
-  pub goes_over : Lasts old.trace new.trace → IsOver new.trace.state.at → Goes {E = E} on old new (Ok flow.Over)
-  goes_over lasts over = record { lasts = lasts; goes_on = λ is. absurd cc; over = λ is. over; broke = tt }
-
-  pub goes_more : Lasts old.trace new.trace → on → Goes {E = E} on old new (Ok flow.GoesOn)
-  goes_more lasts more = record { lasts = lasts; goes_on = λ is. more; over = λ is. absurd cc; broke = tt }
+-- a session goes on like this, or is over, or broke off
+pub goes_so : {S E : Type 0} (on : Standing S → Standing S → Type 0) (old mid new : Standing S) (r : Result Flow E) → Lasts old.trace mid.trace
+    → Continues mid.trace new.trace r → IfOk r (λ f. Flows f new.trace.state) → IfOk r (λ f. f ≡ flow.GoesOn → on old new) → Goes on old new r
+goes_so {S} {E} on old mid new r lasts continues flows goes = record {
+  continues = record { lasts = lasts_both old.trace mid.trace new.trace lasts continues.lasts; broke = continues.broke };
+  goes_on = λ is. subst (λ (q : Result Flow E). IfOk q (λ f. f ≡ flow.GoesOn → on old new)) is goes refl;
+  over = λ is. subst (λ (q : Result Flow E). IfOk q (λ f. Flows f new.trace.state)) is flows;
+}
 
 -- own turns that stay
 pub keeps_same : (p q : OwnTurn) → q ≡ p → KeepsTurn p q
@@ -50,7 +51,6 @@ keeps_same p q same = subst (λ (own : OwnTurn). KeepsTurn p own) (sym same) (re
   end = refl;
   reads = refl;
   polls = refl;
-  waits = refl;
   looked = λ is. is;
   woken = λ is. is;
 })
@@ -62,7 +62,6 @@ keeps_both p m q one two = record {
   end = two.end ∙ one.end;
   reads = two.reads ∙ one.reads;
   polls = two.polls ∙ one.polls;
-  waits = two.waits ∙ one.waits;
   looked = λ is. two.looked (one.looked is);
   woken = λ is. two.woken (one.woken is);
 }
@@ -72,20 +71,14 @@ none_held h is = ap held_lines is
 
 -- what the commands that wait, and the end of the input, gave
 module _ {S E : Type 0} (old mid new : Standing S) where
-  pub waiting_goes : (on : Type 0) (rest : Lines) (r : Result Flow E) → Lasts old.trace mid.trace → Moves mid new r
-      → OnOk r (Emptied mid.pending new.pending) → IfOk r (λ f. Flows f new.trace.state)
+  pub waiting_goes : (on : Standing S → Standing S → Type 0) (rest : Lines) (r : Result Flow E) → Lasts old.trace mid.trace
+      → Continues mid.trace new.trace r → OnOk r (Emptied mid new) → IfOk r (λ f. Flows f new.trace.state)
       → IfOk r (λ f. f ≡ flow.GoesOn → Answers mid.trace new.trace rest)
-      → (Emptied mid.pending new.pending → Flows flow.GoesOn new.trace.state → Answers mid.trace new.trace rest → on) → Goes on old new r
-  waiting_goes on rest (Ok flow.GoesOn) lasts moves emptied flows answers to =
-      goes_more on old new (lasts_both old.trace mid.trace new.trace lasts moves.lasts) (to emptied flows (answers refl))
-  waiting_goes on rest (Ok flow.Over) lasts moves emptied flows answers to =
-      goes_over on old new (lasts_both old.trace mid.trace new.trace lasts moves.lasts) flows
-  waiting_goes on rest (Err e) lasts moves emptied flows answers to = record {
-    lasts = lasts_both old.trace mid.trace new.trace lasts moves.lasts;
-    goes_on = λ is. absurd cc;
-    over = λ is. absurd cc;
-    broke = moves.broke;
-  }
+      → (Emptied mid new → Flows flow.GoesOn new.trace.state → Answers mid.trace new.trace rest → on old new) → Goes on old new r
+  waiting_goes on rest (Ok flow.GoesOn) lasts continues emptied flows answers to =
+      goes_so on old mid new (Ok flow.GoesOn) lasts continues flows (λ is. to emptied flows (answers refl))
+  waiting_goes on rest (Ok flow.Over) lasts continues emptied flows answers to = goes_so on old mid new (Ok flow.Over) lasts continues flows (λ is. absurd cc)
+  waiting_goes on rest (Err e) lasts continues emptied flows answers to = goes_so on old mid new (Err e) lasts continues flows tt
 
 -- with no command that waits it is between two lines
 pub none_between : {S : Type 0} (new : Standing S) → Flows flow.GoesOn new.trace.state → new.trace.state.found ≡ None
@@ -93,8 +86,7 @@ pub none_between : {S : Type 0} (new : Standing S) → Flows flow.GoesOn new.tra
     → line_bytes new.pending.buffer ≡ take line_room new.trace.state.part → (new.trace.state.rules.mode ≡ Run → new.pending.held ≡ None)
     → IsBetween new.trace.state new.pending
 none_between new flows found none lines kept free = record {
-  at = flows.0;
-  goes_on = flows.1;
+  goes_on = flows;
   noted = found;
   in_hand =
       record {
@@ -105,10 +97,9 @@ none_between new flows found none lines kept free = record {
   while_open = λ closed. none;
   there = λ some. absurd (some none);
   free = free;
-  serves = flows.2;
 }
 
-pub emptied_between : {S : Type 0} (mid new : Standing S) (rest : Lines) → Emptied mid.pending new.pending → Flows flow.GoesOn new.trace.state
+pub emptied_between : {S : Type 0} (mid new : Standing S) (rest : Lines) → Emptied mid new → Flows flow.GoesOn new.trace.state
     → Answers mid.trace new.trace rest → rest ≡ held_lines mid.pending.held → mid.trace.state.found ≡ None
     → line_bytes mid.pending.buffer ≡ take line_room mid.trace.state.part → (mid.trace.state.rules.mode ≡ Run → mid.pending.held ≡ None)
     → IsBetween new.trace.state new.pending
@@ -126,22 +117,22 @@ no_meta (Some h) is meta = let none : ⊥ = cc in none
 module _ {S E : Type 0} (old mid new : Standing S) (r : Result Flow E) (lasts : Lasts old.trace mid.trace)
     (pause : mid.pause ≡ old.pause) (own_end : mid.own_end ≡ old.own_end) (rest : Lines) (is : rest ≡ held_lines mid.pending.held)
     (found : mid.trace.state.found ≡ None) (kept : line_bytes mid.pending.buffer ≡ take line_room mid.trace.state.part)
-    (free : mid.trace.state.rules.mode ≡ Run → mid.pending.held ≡ None) (moves : Moves mid new r)
-    (emptied : OnOk r (Emptied mid.pending new.pending)) (flows : IfOk r (λ f. Flows f new.trace.state))
+    (free : mid.trace.state.rules.mode ≡ Run → mid.pending.held ≡ None) (continues : Continues mid.trace new.trace r)
+    (emptied : OnOk r (Emptied mid new)) (flows : IfOk r (λ f. Flows f new.trace.state))
     (answers : IfOk r (λ f. f ≡ flow.GoesOn → Answers mid.trace new.trace rest)) where
   pub takes_all : KeepsTurn old.trace.state.own mid.trace.state.own → (IsHeldMeta mid.pending.held → mid.trace.state.own.looked ≡ true)
-      → Goes (TakesOn old new) old new r
+      → Goes TakesOn old new r
   takes_all keeps looked =
-      waiting_goes old mid new (TakesOn old new) rest r lasts moves emptied flows answers
+      waiting_goes old mid new TakesOn rest r lasts continues emptied flows answers
       (λ none goes_on answered. record {
         on =
             record {
               between = emptied_between mid new rest none goes_on answered is found kept free;
-              pause = moves.pause ∙ pause;
-              own_end = moves.own_end ∙ own_end;
+              looked = λ meta. answered.stays.own.looked (looked (subst IsHeldMeta none.held meta));
+              pause = none.pause ∙ pause;
+              own_end = none.own_end ∙ own_end;
             };
         own = keeps_both old.trace.state.own mid.trace.state.own new.trace.state.own keeps answered.stays.own;
-        held = λ meta. answered.stays.own.looked (looked (subst IsHeldMeta none.held meta));
       })
 
 -- A command that was found waits after the others: whether the line after it is there was asked.
@@ -177,10 +168,10 @@ module _ {S : Type 0} (old mid : Standing S) (command : Command) (has : HasFound
   queued_keeps = keeps_same old.trace.state.own mid.trace.state.own (ap (λ (s : SessionState S). s.own) peeked_is)
 
   -- the commands are answered
-  pub command_answered : {E : Type 0} (new : Standing S) (r : Result Flow E) → Moves mid new r → OnOk r (Emptied mid.pending new.pending)
+  pub command_answered : {E : Type 0} (new : Standing S) (r : Result Flow E) → Continues mid.trace new.trace r → OnOk r (Emptied mid new)
       → IfOk r (λ f. Flows f new.trace.state) → IfOk r (λ f. f ≡ flow.GoesOn → Answers mid.trace new.trace [])
-      → Goes (TakesOn old new) old new r
-  command_answered new r moves emptied flows answers =
+      → Goes TakesOn old new r
+  command_answered new r continues emptied flows answers =
       takes_all old mid new r queued_lasts pause own_end [] (sym (none_held mid.pending.held queued_free))
-      (ap (λ (s : SessionState S). s.found) peeked_is ∙ has.noted) queued_kept (λ run. queued_free) moves emptied flows answers queued_keeps
+      (ap (λ (s : SessionState S). s.found) peeked_is ∙ has.noted) queued_kept (λ run. queued_free) continues emptied flows answers queued_keeps
       (λ meta. absurd (no_meta mid.pending.held queued_free meta))

@@ -3,7 +3,7 @@ use Rattle.std.proofs.Common.{◌≡◌, true, Result, Ok, Err, OnOk, ap, subst,
 use Rattle.std.specs.Prelude.{is_ok}
 use Rattle.exec_client.specs.ClientView.{ClientView}
 use Rattle.exec_client.specs.MessageView.{MessageView}
-use Rattle.exec_commands.specs.declared.notice.NoticeForm.{NoticeForm}
+use Rattle.exec_replies.specs.declared.notice.NoticeForm.{NoticeForm}
 use Rattle.session_machine.specs.Behaviours.{ReceivesAs, Trace, then}
 use Rattle.session_machine.specs.Events.{Sent}
 use Rattle.exec_session.specs.Standing.{Sends}

@@ -1,5 +1,5 @@
 -- A wait of a session in `serve`.
-use Rattle.std.proofs.Common.{◌≡◌, ◌≤◌, ◌<◌, ◌+◌, ◌*◌, ℕ, Bool, true, false, not, cond, ◌||◌, ◌⊎◌, List, [], ◌∷◌, ◌++◌, length, map, refl, sym, ap, subst, ◌∙◌, arith, inl, inr, length-append}
+use Rattle.std.proofs.Common.{◌≡◌, ◌≤◌, ◌<◌, ◌+◌, ◌*◌, ℕ, Bool, true, not, cond, ◌||◌, ◌⊎◌, [], ◌∷◌, ◌++◌, map, refl, sym, ap, subst, ◌∙◌, arith, inl, inr, length-append}
 use Rattle.std.proofs.lemmas.Bool.{lt-ltb, or_right}
 use Rattle.session_machine.specs.After.{polled}
 use Rattle.session_machine.specs.Behaviours.{Trace, then}
@@ -7,7 +7,7 @@ use Rattle.session_machine.specs.Events.{Polled}
 use Rattle.session_machine.specs.May.{MayPoll, MayWait}
 use Rattle.session_machine.specs.Pausing.{IsShort, IsUntilDue}
 use Rattle.session_machine.specs.Session.{OwnTurn, ReadLine, SessionState, lines_in}
-use Rattle.exec_session.specs.Waits.{Asks, HasWaited, MayWaitNow, OnlyShows}
+use Rattle.exec_session.specs.Waits.{HasWaited, MayWaitNow, OnlyShows}
 
 -- at most as long as the wait may be
 pub waits_less : {S : Type 0} (s : SessionState S) (less micros : ℕ) → less ≤ micros → MayWait s micros → MayWait s less

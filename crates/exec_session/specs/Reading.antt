@@ -20,7 +20,6 @@ pub record HasReadOnce (old new : OwnTurn) : Type 0 where
   pub end : new.end ≡ old.end
   pub reads : new.reads ≡ old.reads + 1
   pub polls : new.polls ≡ old.polls
-  pub waits : new.waits ≡ old.waits
   pub looked : old.looked ≡ true → new.looked ≡ true
   pub all : new.reads ≡ reads_a_turn → new.looked ≡ true
   pub woken : new.woken ≡ true
@@ -55,7 +54,6 @@ pub record IsNoted {S : Type 0} (old new : Trace S) (found : Result Line Refusal
   pub executor : new.state.executor ≡ old.state.executor
   pub part : new.state.part ≡ old.state.part
   pub ended : new.state.ended ≡ old.state.ended
-  pub there : new.state.there ≡ old.state.there
   pub found_none : new.state.found ≡ None
   pub lines : lines_in new.state ≡ lines_in old.state ++ found ∷ []
   pub own : KeepsTurn old.state.own new.state.own

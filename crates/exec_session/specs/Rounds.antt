@@ -1,26 +1,24 @@
 -- Rounds of a session: in `run` a read, and in `serve` the lines that are there, a turn and a wait.
-use Rattle.std.specs.Prelude.{◌≡◌, ◌≢◌, ◌<◌, ◌++◌, ◌∷◌, true, false, [], length, map, None, Result, Ok, OnErr}
+use Rattle.std.specs.Prelude.{◌≡◌, ◌≢◌, ◌<◌, ◌++◌, ◌∷◌, true, false, [], length, map, None, Result, Ok}
 use Rattle.ocf_types.specs.declared.refusal.Refusal.{Refusal}
 use Rattle.ocf_types.specs.declared.reply.TurnEnd.TheVariants.{Done}
 use Rattle.exec_commands.specs.declared.line.Line.{Line}
 use Rattle.exec_lines.specs.Buffer.{line_bytes}
-use Rattle.session_machine.specs.Behaviours.{HasBroken}
 use Rattle.session_machine.specs.Limits.{most_together}
 use Rattle.session_machine.specs.May.{IsAtRest}
-use Rattle.session_machine.specs.Session.{Reading, lines_in, of_command}
+use Rattle.session_machine.specs.Session.{lines_in, of_command}
 use Rattle.session_machine.specs.declared.rules.Mode.TheVariants.{Run, Serve}
 use Rattle.exec_session.specs.Gathered.{waiting}
 use Rattle.exec_session.specs.Pending.{IsClear}
 use Rattle.exec_session.specs.Held.{IsHeldMeta, held_lines}
 use Rattle.exec_session.specs.Reading.{HasReadOnce}
-use Rattle.exec_session.specs.Standing.{IsBetween, IsOver, KeepsTurn, KnowsTurn, Lasts, Standing}
+use Rattle.exec_session.specs.Standing.{Continues, Flows, IsBetween, IsOver, KeepsTurn, KnowsTurn, Standing}
 use Rattle.exec_session.specs.declared.flow.Flow.{Flow}
 use Rattle.exec_session.specs.declared.flow.Flow.TheVariants as flow
 
 -- A line was found and noted: it comes after the commands that wait, of which there may be one more, and no other line is held.
 pub record HasFound {S : Type 0} (s : Standing S) (found : Result Line Refusal) : Type 0 where
-  pub at : s.trace.state.at ≡ Reading
-  pub goes_on : s.trace.state.ended ≡ false
+  pub goes_on : Flows flow.GoesOn s.trace.state
   pub noted : s.trace.state.found ≡ None
   pub lines : lines_in s.trace.state ≡ map of_command (waiting s.pending.gathered) ++ found ∷ []
   pub part : s.trace.state.part ≡ []
@@ -28,18 +26,17 @@ pub record HasFound {S : Type 0} (s : Standing S) (found : Result Line Refusal) 
   pub free : s.pending.held ≡ None
   pub few : length (waiting s.pending.gathered) < most_together
   pub while_open : s.trace.state.executor.is_open ≡ false → waiting s.pending.gathered ≡ []
-  pub serves : s.trace.state.rules.mode ≡ Serve → s.trace.state.executor.is_open ≡ true
 
 -- A step that goes on like this, or comes to the session's end, or breaks off.
-pub record Goes {S E : Type 0} (on : Type 0) (old new : Standing S) (result : Result Flow E) : Type 0 where
-  pub lasts : Lasts old.trace new.trace
-  pub goes_on : result ≡ Ok flow.GoesOn → on
+pub record Goes {S E : Type 0} (on : Standing S → Standing S → Type 0) (old new : Standing S) (result : Result Flow E) : Type 0 where
+  pub continues : Continues old.trace new.trace result
+  pub goes_on : result ≡ Ok flow.GoesOn → on old new
   pub over : result ≡ Ok flow.Over → IsOver new.trace.state.at
-  pub broke : OnErr result (HasBroken new.trace)
 
--- the session is between two lines, with the same pause
+-- the session is between two lines, with the same pause; a line that asks for metadata is held only after input was looked for
 pub record IsOn {S : Type 0} (old new : Standing S) : Type 0 where
   pub between : IsBetween new.trace.state new.pending
+  pub looked : IsHeldMeta new.pending.held → new.trace.state.own.looked ≡ true
   pub pause : new.pause ≡ old.pause
   pub own_end : new.own_end ≡ old.own_end
 
@@ -47,23 +44,14 @@ pub record IsOn {S : Type 0} (old new : Standing S) : Type 0 where
 pub record TakesOn {S : Type 0} (old new : Standing S) : Type 0 where
   pub on : IsOn old new
   pub own : KeepsTurn old.trace.state.own new.trace.state.own
-  pub held : IsHeldMeta new.pending.held → new.trace.state.own.looked ≡ true
-
-abbrev pub Takes : {S E : Type 0} → Standing S → Standing S → Result Flow E → Type 0
-Takes old new result = Goes (TakesOn old new) old new result
 
 -- one read was made, and what it found was taken
 pub record TakesOneOn {S : Type 0} (old new : Standing S) : Type 0 where
   pub on : IsOn old new
   pub longer : length old.trace.events < length new.trace.events
   pub own : HasReadOnce old.trace.state.own new.trace.state.own
-  pub held : IsHeldMeta new.pending.held → new.trace.state.own.looked ≡ true
 
-abbrev pub TakesOne : {S E : Type 0} → Standing S → Standing S → Result Flow E → Type 0
-TakesOne old new result = Goes (TakesOneOn old new) old new result
-
--- In `serve` a round begins after a turn, or at the start, with no read and no poll since that; no command waits; and there is a cause for a
--- further turn.
+-- In `serve` a round begins with no read and no poll since the last own turn; no command waits; and there is a cause for a further turn.
 pub record IsServeRound {S : Type 0} (s : Standing S) : Type 0 where
   pub none : waiting s.pending.gathered ≡ []
   pub rests : IsAtRest (held_lines s.pending.held)
@@ -83,9 +71,6 @@ pub record RoundsOn {S : Type 0} (old new : Standing S) : Type 0 where
   pub round : IsRound new
   pub longer : length old.trace.events < length new.trace.events
 
-abbrev pub Rounds : {S E : Type 0} → Standing S → Standing S → Result Flow E → Type 0
-Rounds old new result = Goes (RoundsOn old new) old new result
-
 -- The lines that are there were answered, up to one that is held, or the source of its metadata was asked: a turn may come, unless a line asks
 -- for the end of the session.
 pub record AnswersRoundOn {S : Type 0} (old new : Standing S) : Type 0 where
@@ -94,9 +79,6 @@ pub record AnswersRoundOn {S : Type 0} (old new : Standing S) : Type 0 where
   pub none : waiting new.pending.gathered ≡ []
   pub looked : IsAtRest (held_lines new.pending.held) → new.trace.state.own.looked ≡ true
   pub woken : new.trace.state.own.woken ≡ true
-
-abbrev pub AnswersRound : {S E : Type 0} → Standing S → Standing S → Result Flow E → Type 0
-AnswersRound old new result = Goes (AnswersRoundOn old new) old new result
 
 -- a session in hand that begins: nothing was read, and no turn was made
 pub record IsFresh {S : Type 0} (s : Standing S) : Type 0 where

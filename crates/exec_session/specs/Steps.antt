@@ -5,7 +5,7 @@ use Rattle.ocf_types.specs.declared.reply.TurnEnd.TheVariants.{Disk, Done}
 use Rattle.executor.specs.Reports.{report_of}
 use Rattle.executor.specs.ExecutorView.{ExecutorView}
 use Rattle.executor.specs.declared.report.Report.{Report}
-use Rattle.exec_commands.specs.declared.ends.DrainEnd.{DrainEnd}
+use Rattle.exec_replies.specs.declared.ends.DrainEnd.{DrainEnd}
 use Rattle.exec_commands.specs.declared.line.Line.{Line}
 use Rattle.exec_commands.specs.declared.line.Line.TheVariants as line
 use Rattle.session_machine.specs.After.{drain_of}
@@ -18,12 +18,9 @@ use Rattle.session_machine.specs.Session.{Drain, SessionState, Closed, Draining,
 use Rattle.session_machine.specs.Session as session
 use Rattle.session_machine.specs.declared.rules.Mode.TheVariants.{Serve}
 use Rattle.session_machine.specs.declared.terms.Terms.{Terms}
-use Rattle.exec_session.specs.Standing.{Lasts, Stays}
+use Rattle.exec_session.specs.Standing.{Flows, KnowsTurn, Lasts, Standing, Stays}
+use Rattle.exec_session.specs.declared.flow.Flow.TheVariants as flow
 use Rattle.exec_session.specs.declared.pause.Pause.{Pause}
-
--- the pause of a session's state
-abbrev pub PauseView : Type 0
-PauseView = session.Pause
 
 -- the report is that of the opening that gave this executor
 abbrev pub IsReportOf : {S M : Type 0} → ExecutorView S → Report M → Type 0
@@ -57,16 +54,18 @@ pub record IsDraining {S : Type 0} (s : SessionState S) (d : Drain) (now : ℕ) 
   pub is : drain_of s.at (lines_in s) now s.rules.most_turns ≡ Some d
   pub is_open : s.executor.is_open ≡ true
 
--- A session made a turn by itself: it has not read, polled or waited since; the same lines are unanswered.
-pub record MakesOwnTurn {S : Type 0} (old new : Trace S) : Type 0 where
-  pub lasts : Lasts old new
-  pub longer : length old.events + 1 ≤ length new.events
-  pub lines : lines_in new.state ≡ lines_in old.state
-  pub part : new.state.part ≡ old.state.part
-  pub found : new.state.found ≡ None
-  pub reads : new.state.own.reads ≡ 0
-  pub polls : new.state.own.polls ≡ 0
-  pub waits : new.state.own.waits ≡ 0
+-- A session made a turn by itself, and knows it: it has not read, polled or waited since; the same lines are unanswered.
+pub record MakesOwnTurn {S : Type 0} (old new : Standing S) : Type 0 where
+  pub pending : new.pending ≡ old.pending
+  pub goes_on : Flows flow.GoesOn new.trace.state
+  pub knows : KnowsTurn new
+  pub longer : length old.trace.events + 1 ≤ length new.trace.events
+  pub lines : lines_in new.trace.state ≡ lines_in old.trace.state
+  pub part : new.trace.state.part ≡ old.trace.state.part
+  pub found : new.trace.state.found ≡ None
+  pub reads : new.trace.state.own.reads ≡ 0
+  pub polls : new.trace.state.own.polls ≡ 0
+  pub waits : new.trace.state.own.waits ≡ 0
 
 -- Only messages were sent, none of which answers a line.
 pub record OnlySends {S : Type 0} (old new : Trace S) : Type 0 where
@@ -98,21 +97,19 @@ pub record IsDrained {S : Type 0} (s : SessionState S) (end : DrainEnd) : Type 0
 -- it may pause this long between two turns
 abbrev pub MayPauseNow : {S : Type 0} → SessionState S → ℕ → Type 0
 MayPauseNow s micros =
-    (pause : PauseView) × (drain : Option Drain) × (s.at ≡ Resting pause drain) × (pause.made ≡ false) × IsShort pause.since pause.now micros
+    (pause : session.Pause) × (drain : Option Drain) × (s.at ≡ Resting pause drain) × (pause.made ≡ false) × IsShort pause.since pause.now micros
 
 -- it paused between two turns, and somebody reads its output
 pub record HasPaused {S : Type 0} (old new : Trace S) : Type 0 where
   pub stays : Stays old new
   pub lines : lines_in new.state ≡ lines_in old.state
   pub executor : new.state.executor ≡ old.state.executor
-  pub at : (pause : PauseView) (drain : Option Drain) → old.state.at ≡ Resting pause drain → new.state.at ≡ rested drain
+  pub at : (pause : session.Pause) (drain : Option Drain) → old.state.at ≡ Resting pause drain → new.state.at ≡ rested drain
 
 -- The only line that is not answered asks for the end of the session, in `serve`, with an open executor.
 pub record IsLeaving {S : Type 0} (s : SessionState S) : Type 0 where
   pub serves : s.rules.mode ≡ Serve
-  pub is_open : s.executor.is_open ≡ true
-  pub at : s.at ≡ Reading
-  pub goes_on : s.ended ≡ false
+  pub goes_on : Flows flow.GoesOn s
   pub is : lines_in s ≡ Ok line.Leave ∷ []
 
 -- A turn of an orderly end was made: the session pauses after it, or sends the line of the disk fault that closed its executor.

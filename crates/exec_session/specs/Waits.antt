@@ -4,7 +4,7 @@ use Rattle.session_machine.specs.Behaviours.{Trace}
 use Rattle.session_machine.specs.May.{IsAtRest}
 use Rattle.session_machine.specs.Session.{SessionState, Reading, lines_in}
 use Rattle.session_machine.specs.declared.rules.Mode.TheVariants.{Serve}
-use Rattle.exec_session.specs.Standing.{HasAnswered, Lasts}
+use Rattle.exec_session.specs.Standing.{HasAnswered, KnowsTurn, Lasts, Standing}
 
 -- It may wait: it serves, has not waited since its last own turn, and each line is answered, except one that asks for metadata.
 pub record MayWaitNow {S : Type 0} (s : SessionState S) : Type 0 where
@@ -41,6 +41,13 @@ pub record OnlyShows {S : Type 0} (old new : Trace S) : Type 0 where
 pub record HasWaited {S : Type 0} (old new : Trace S) : Type 0 where
   pub asks : Asks old new
   pub polls : new.state.own.polls ≡ old.state.own.polls
+
+-- It waited: it knows its last own turn, and a further one may come.
+pub record WaitsOn {S : Type 0} (old new : Standing S) : Type 0 where
+  pub pending : new.pending ≡ old.pending
+  pub knows : KnowsTurn new
+  pub waited : HasWaited old.trace new.trace
+  pub woken : new.trace.state.own.woken ≡ true
 
 -- The source of metadata was asked for those of a held line: it was answered, or nothing else happened.
 abbrev pub PollsSource : {S : Type 0} → Bool → Trace S → Trace S → Type 0

@@ -6,15 +6,14 @@ ghost use Rattle.session_machine.specs.Replies.{IsStatusReply, refused, IsClosed
 ghost use Rattle.session_machine.specs.Session.{Lines, Reading, lines_in};
 ghost use Rattle.exec_session.specs.Gathered.{replied, waiting};
 ghost use Rattle.exec_session.specs.Held.{MayAnswerAtOnce, held_lines, IsNoMeta, IsHeldMeta};
-ghost use Rattle.exec_session.specs.Standing.{Answers, HasAnswered, Steps, BeginsWith, Moves, Emptied, Flows};
+ghost use Rattle.exec_session.specs.Standing.{Answers, BeginsWith, Continues, Emptied, Flows, HasAnswered, MayAnswerWaiting, ReadsOpen, Steps};
 ghost use Rattle.executor.specs.CommandBatches.{TakesCommands};
 ghost use Rattle.executor.specs.Commands.{Serves};
 ghost use Rattle.exec_session.specs.Waits.{PollsSource};
-ghost use Rattle.session_machine.specs.After.{reading};
 ghost use Rattle.exec_session.specs.declared.flow.Flow.TheVariants.{GoesOn};
 ghost use Rattle.ocf_types.specs.declared.refusal.Refusal.TheVariants as refusal;
 ghost use Rattle.exec_commands.specs.declared.line.Line.TheVariants as line;
-ghost use Rattle.exec_commands.specs.declared.reply.LineReply.TheVariants as answer;
+ghost use Rattle.exec_replies.specs.declared.reply.LineReply.TheVariants as answer;
 
 use crate::flow::Flow;
 use crate::gathered::Gathered;
@@ -23,7 +22,8 @@ use crate::room::{make_room, tidy_timed};
 use crate::session::Session;
 use child_model::Children;
 use exec_client::Message;
-use exec_commands::{Direct, DrainEnd, Line, LineReply};
+use exec_commands::{Direct, Line};
+use exec_replies::{DrainEnd, LineReply};
 use executor::On;
 use ocf_types::{AgentType, Provider, Refusal, Reply, Request, TidyEnd, TurnEnd};
 use resource_status::{RunReason, statuses_of};
@@ -107,8 +107,7 @@ fn serve_gathered<S: Store + Drop, C: Children + Drop>(
 impl<E: Edge + Drop> Session<E> {
     // Reads the clock, tidies if that is due, does what a request asks, and sends the reply.
     fn answer_request(&mut self, request: Request) -> Result<(), Failed>
-        requires open { self.old.trace.state.executor.is_open ≡ true }
-        requires at { self.old.trace.state.at ≡ Reading }
+        requires reads { ReadsOpen self.old.trace.state }
         requires is { lines_in self.old.trace.state ≡ Ok (line.Request request) ∷ [] }
         ensures steps { Steps self.old self.new result }
         ensures answered { OnOk result (HasAnswered self.old.trace self.new.trace []) }
@@ -122,8 +121,7 @@ impl<E: Edge + Drop> Session<E> {
 
     // Tidies the journal, and sends how that ended.
     fn answer_tidy(&mut self) -> Result<(), Failed>
-        requires open { self.old.trace.state.executor.is_open ≡ true }
-        requires at { self.old.trace.state.at ≡ Reading }
+        requires reads { ReadsOpen self.old.trace.state }
         requires is { lines_in self.old.trace.state ≡ Ok line.Tidy ∷ [] }
         ensures steps { Steps self.old self.new result }
         ensures answered { OnOk result (HasAnswered self.old.trace self.new.trace []) }
@@ -153,8 +151,7 @@ impl<E: Edge + Drop> Session<E> {
 
     // Sends the status of each resource.
     fn answer_status(&mut self) -> Result<(), Failed>
-        requires open { self.old.trace.state.executor.is_open ≡ true }
-        requires at { self.old.trace.state.at ≡ Reading }
+        requires reads { ReadsOpen self.old.trace.state }
         requires is { lines_in self.old.trace.state ≡ Ok line.Status ∷ [] }
         ensures steps { Steps self.old self.new result }
         ensures answered { OnOk result (HasAnswered self.old.trace self.new.trace []) }
@@ -177,8 +174,7 @@ impl<E: Edge + Drop> Session<E> {
 
     // Answers a line of an open executor.
     fn answer_open(&mut self, line: Result<Line, Refusal>) -> Result<(), Failed>
-        requires open { self.old.trace.state.executor.is_open ≡ true }
-        requires at { self.old.trace.state.at ≡ Reading }
+        requires reads { ReadsOpen self.old.trace.state }
         requires is { lines_in self.old.trace.state ≡ line ∷ [] }
         requires at_once { MayAnswerAtOnce self.old.trace.state.rules.mode line }
         ensures steps { Steps self.old self.new result }
@@ -245,13 +241,12 @@ impl<E: Edge + Drop> Session<E> {
 
     // Answers the commands that wait, as one group commit: all are recorded before a reply is sent, and the replies are sent together.
     fn answer_gathered(&mut self) -> Result<(), Failed>
-        requires open { self.old.trace.state.executor.is_open ≡ true }
-        requires at { self.old.trace.state.at ≡ Reading }
+        requires reads { ReadsOpen self.old.trace.state }
         requires some { waiting self.old.pending.gathered ≢ [] }
         requires are { (rest : Lines)
             × BeginsWith (lines_in self.old.trace.state) (waiting self.old.pending.gathered) rest }
-        ensures moves { Moves self.old self.new result }
-        ensures pending { Emptied self.old.pending self.new.pending }
+        ensures continues { Continues self.old.trace self.new.trace result }
+        ensures emptied { Emptied self.old self.new }
         ensures answered { (rest : Lines)
             → BeginsWith (lines_in self.old.trace.state) (waiting self.old.pending.gathered) rest
             → OnOk result (HasAnswered self.old.trace self.new.trace rest) }
@@ -266,16 +261,9 @@ impl<E: Edge + Drop> Session<E> {
 
     /// Answers the commands that wait, if any, and gives how the session goes on, given whether the input has ended after them.
     pub fn answer_waiting(&mut self, has_ended: bool) -> Result<Flow, Failed>
-        requires open { waiting self.old.pending.gathered ≢ []
-            → self.old.trace.state.executor.is_open ≡ true }
-        requires at { self.old.trace.state.at ≡ reading self.old.trace.state }
-        requires ended { self.old.trace.state.ended ≡ has_ended }
-        requires are { (rest : Lines)
-            × BeginsWith (lines_in self.old.trace.state) (waiting self.old.pending.gathered) rest }
-        requires all { has_ended ≡ true
-            → BeginsWith (lines_in self.old.trace.state) (waiting self.old.pending.gathered) [] }
-        ensures moves { Moves self.old self.new result }
-        ensures pending { OnOk result (Emptied self.old.pending self.new.pending) }
+        requires may { MayAnswerWaiting self.old has_ended }
+        ensures continues { Continues self.old.trace self.new.trace result }
+        ensures emptied { OnOk result (Emptied self.old self.new) }
         ensures flows { IfOk result (λ flow. Flows flow self.new.trace.state) }
         ensures answers { (rest : Lines)
             → BeginsWith (lines_in self.old.trace.state) (waiting self.old.pending.gathered) rest
@@ -291,8 +279,7 @@ impl<E: Edge + Drop> Session<E> {
     /// the line was answered. For a held `leave` it does nothing and gives `false`.
     pub fn answer_held(&mut self) -> Result<bool, Failed>
         requires serves { self.old.trace.state.rules.mode ≡ Mode.Serve }
-        requires open { self.old.trace.state.executor.is_open ≡ true }
-        requires at { self.old.trace.state.at ≡ Reading }
+        requires reads { ReadsOpen self.old.trace.state }
         requires held { IsHeldMeta self.old.pending.held }
         requires is { lines_in self.old.trace.state ≡ held_lines self.old.pending.held }
         ensures steps { Steps self.old self.new result }

@@ -4,13 +4,13 @@ ghost use Rattle.ocf_types.specs.declared.reply.TurnEnd.TheVariants.{Disk};
 ghost use Rattle.exec_turn.specs.Actives.{any_running};
 ghost use Rattle.session_machine.specs.After.{after_drain_turn};
 ghost use Rattle.session_machine.specs.Drains.{end_after};
-ghost use Rattle.session_machine.specs.Session.{Drain, Reading, at_then, lines_in};
-ghost use Rattle.exec_session.specs.Standing.{HasAnswered, IsOver, StaysLonger, Steps};
+ghost use Rattle.session_machine.specs.Session.{Drain, at_then, lines_in};
+ghost use Rattle.exec_session.specs.Standing.{HasAnswered, IsOver, ReadsOpen, StaysLonger, Steps};
 ghost use Rattle.exec_session.specs.Steps.{HasFinished, HasPaused, IsDrained, IsDraining, IsLeaving, MayPauseNow, drain_at, drain_line};
 
 use crate::pause::Pause;
 use crate::session::Session;
-use exec_commands::{DrainEnd, LineReply};
+use exec_replies::{DrainEnd, LineReply};
 use ocf_types::{NUM_MAX, TurnEnd};
 use session_machine::{Edge, Failed, Terms};
 
@@ -94,8 +94,7 @@ impl<E: Edge + Drop> Session<E> {
 
     /// Drains from now on, for at most this many milliseconds, and sends how that ended. A watch goes on where nothing is queued or running.
     pub fn answer_drain(&mut self, ends_idle: bool, limit: u32) -> Result<(), Failed>
-        requires open { self.old.trace.state.executor.is_open ≡ true }
-        requires at { self.old.trace.state.at ≡ Reading }
+        requires reads { ReadsOpen self.old.trace.state }
         requires is { lines_in self.old.trace.state ≡ Ok (drain_line ends_idle limit) ∷ [] }
         ensures steps { Steps self.old self.new result }
         ensures answered { OnOk result (HasAnswered self.old.trace self.new.trace []) }

@@ -1,5 +1,5 @@
 //! Commands that wait to be answered together.
-ghost use Rattle.std.specs.Prelude.{◌≡◌, ◌≤◌, ◌<◌, ◌==◌, [], ◌∷◌, ◌++◌, length, replicate, vec_len, vec_capacity, IfOk, IsTrue, OnErr};
+ghost use Rattle.std.specs.Prelude.{◌≡◌, ◌≤◌, ◌<◌, ◌==◌, [], ◌∷◌, ◌++◌, length, replicate, vec_len, vec_capacity, IfOk};
 ghost use Rattle.ocf_types.specs.declared.refusal.Refusal.TheVariants.{Disk};
 ghost use Rattle.ocf_types.specs.declared.reply.ReplyOf.TheVariants.{Refused};
 ghost use Rattle.executor.specs.CommandBatches.{TakesCommands};
@@ -7,9 +7,9 @@ ghost use Rattle.session_machine.specs.Limits.{most_together};
 
 use child_model::Children;
 use executor::On;
-use growth::{Grows, with_capacity};
+use growth::with_capacity;
 use ocf_types::{Command, Refusal, Reply};
-use std::alloc::{AllocError, Global};
+use std::alloc::Global;
 use store_model::Store;
 
 // The most commands of a group commit.
@@ -30,9 +30,8 @@ impl Gathered {
     ghost use Rattle.exec_session.specs.Gathered.{replied, waiting};
 
     /// No command waits. Reserves all memory.
-    pub fn new(alloc: Global) -> Result<Gathered, AllocError>
+    pub fn new(alloc: Global) -> Result<Gathered, growth::Refused>
         ensures empty { IfOk result (λ gathered. waiting gathered ≡ []) }
-        ensures memory { OnErr result (IsTrue ⟦<Global as Grows>⟧.refuses) }
     {
         let commands = with_capacity(alloc, MOST)?;
         let replies = with_capacity(alloc, MOST)?;

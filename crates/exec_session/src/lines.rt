@@ -2,7 +2,7 @@
 ghost use Rattle.std.specs.Prelude.{◌≡◌, ◌≤◌, ◌<◌, ◌+◌, false, true, None, Some, IsTrue};
 ghost use Rattle.session_machine.specs.Session.{of_command};
 ghost use Rattle.exec_session.specs.Held.{MayAnswerAtOnce, held_lines};
-ghost use Rattle.exec_session.specs.Rounds.{AnswersRound, IsRound, Takes, TakesOne, HasFound};
+ghost use Rattle.exec_session.specs.Rounds.{AnswersRoundOn, Goes, HasFound, IsRound, TakesOn, TakesOneOn};
 ghost use Rattle.exec_session.specs.Standing.{IsBetween, SameRest};
 ghost use Rattle.exec_session.specs.Waits.{Asks};
 ghost use Rattle.session_machine.specs.Limits.{polls_a_turn, reads_a_turn};
@@ -34,7 +34,7 @@ impl<E: Edge + Drop> Session<E> {
     fn take_command(&mut self, command: Command) -> Result<Flow, Failed>
         requires open { self.old.trace.state.executor.is_open ≡ true }
         requires found { HasFound self.old (of_command command) }
-        ensures takes { Takes self.old self.new result }
+        ensures takes { Goes TakesOn self.old self.new result }
     {
         let has_next = self.edge.has_line();
         self.pending.gathered.push(command);
@@ -48,7 +48,7 @@ impl<E: Edge + Drop> Session<E> {
     fn take_other(&mut self, line: Result<Line, Refusal>) -> Result<Flow, Failed>
         requires at_once { MayAnswerAtOnce self.old.trace.state.rules.mode line }
         requires found { HasFound self.old line }
-        ensures takes { Takes self.old self.new result }
+        ensures takes { Goes TakesOn self.old self.new result }
     {
         if self.answer_waiting(false)? == Flow::Over {
             return Ok(Flow::Over);
@@ -63,7 +63,7 @@ impl<E: Edge + Drop> Session<E> {
         requires found { HasFound self.old line }
         requires looked { is_held self.old.trace.state.rules.mode line ≡ true
             → self.old.trace.state.own.looked ≡ true }
-        ensures takes { Takes self.old self.new result }
+        ensures takes { Goes TakesOn self.old self.new result }
     {
         let line = match held_in(self.edge.rules().mode, line) {
             Ok(held) => {
@@ -85,7 +85,7 @@ impl<E: Edge + Drop> Session<E> {
         requires may { MayRead self.old.trace.state }
         requires between { IsBetween self.old.trace.state self.old.pending }
         requires free { self.old.pending.held ≡ None }
-        ensures takes { TakesOne self.old self.new result }
+        ensures takes { Goes TakesOneOn self.old self.new result }
     {
         match self.read()? {
             Got::Nothing => self.answer_waiting(false),
@@ -101,10 +101,10 @@ impl<E: Edge + Drop> Session<E> {
     fn has_input(&mut self) -> bool
         requires serves { self.old.trace.state.rules.mode ≡ Mode.Serve }
         requires between { IsBetween self.old.trace.state self.old.pending }
-        requires reads { self.old.trace.state.own.reads < reads_a_turn }
-        requires polls { self.old.trace.state.own.polls < polls_a_turn }
-        ensures asks { SameRest self.old self.new × Asks self.old.trace self.new.trace }
-        ensures polls { self.new.trace.state.own.polls ≤ self.old.trace.state.own.polls + 1 }
+        requires few { (self.old.trace.state.own.reads < reads_a_turn)
+            × (self.old.trace.state.own.polls < polls_a_turn) }
+        ensures asks { SameRest self.old self.new × Asks self.old.trace self.new.trace
+            × (self.new.trace.state.own.polls ≤ self.old.trace.state.own.polls + 1) }
         ensures there { result ≡ true
             → MayRead self.new.trace.state × (self.new.pending.held ≡ None) }
         ensures none { result ≡ false → self.new.pending.held ≡ None
@@ -122,7 +122,7 @@ impl<E: Edge + Drop> Session<E> {
         requires serves { self.old.trace.state.rules.mode ≡ Mode.Serve }
         requires round { IsRound self.old }
         requires free { self.old.pending.held ≡ None }
-        ensures answers { AnswersRound self.old self.new result }
+        ensures answers { Goes AnswersRoundOn self.old self.new result }
     {
         for _reads in 0..READS_A_TURN {
             if !self.has_input() {
@@ -140,7 +140,7 @@ impl<E: Edge + Drop> Session<E> {
     pub fn answer_round(&mut self) -> Result<Flow, Failed>
         requires serves { self.old.trace.state.rules.mode ≡ Mode.Serve }
         requires round { IsRound self.old }
-        ensures answers { AnswersRound self.old self.new result }
+        ensures answers { Goes AnswersRoundOn self.old self.new result }
     {
         if self.pending.held.is_none() {
             return self.take_lines();

@@ -1,12 +1,12 @@
 //! The input that a session has read and not answered yet.
-ghost use Rattle.std.specs.Prelude.{IfOk, IsTrue, OnErr};
+ghost use Rattle.std.specs.Prelude.{IfOk};
 ghost use Rattle.exec_session.specs.Pending.{IsClear};
 
 use crate::gathered::Gathered;
 use crate::held::Held;
 use exec_lines::LineBuffer;
-use growth::Grows;
-use std::alloc::{AllocError, Global};
+use growth::Refused;
+use std::alloc::Global;
 use std::marker::Model;
 
 /// The input that a session has read and not answered yet.
@@ -22,9 +22,8 @@ pub struct Pending {
 
 impl Pending {
     // Empty. Reserves all memory that is needed later.
-    fn new(alloc: Global) -> Result<Pending, AllocError>
+    fn new(alloc: Global) -> Result<Pending, Refused>
         ensures clear { IfOk result IsClear }
-        ensures memory { OnErr result (IsTrue ⟦<Global as Grows>⟧.refuses) }
     {
         let buffer = LineBuffer::new(alloc)?;
         let gathered = Gathered::new(alloc)?;
@@ -55,9 +54,7 @@ impl Model for LineRoom {
 
 impl LineRoom {
     /// Reserves all memory that the lines of a session need.
-    pub fn new(alloc: Global) -> Result<LineRoom, AllocError>
-        ensures memory { OnErr result (IsTrue ⟦<Global as Grows>⟧.refuses) }
-    {
+    pub fn new(alloc: Global) -> Result<LineRoom, Refused> {
         let pending = Pending::new(alloc)?;
         Ok(LineRoom { pending })
     }

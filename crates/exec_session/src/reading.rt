@@ -1,19 +1,19 @@
 //! Reads of a session, and what a line is read as.
-ghost use Rattle.std.specs.Prelude.{◌≡◌, ℕ, List, [], Err, IfErr, IfOk, IsTrue, OnErr, OnOk, take};
+ghost use Rattle.std.specs.Prelude.{◌≡◌, ℕ, List, [], Err, IfOk, OnErr, OnOk, take};
 ghost use Rattle.exec_lines.specs.Buffer.{line_bytes};
 ghost use Rattle.exec_lines.specs.Lines.{line_answer, line_room};
 ghost use Rattle.session_machine.specs.May.{MayRead};
-ghost use Rattle.session_machine.specs.Replies.{HasTagOf, IsReadAs};
+ghost use Rattle.session_machine.specs.Replies.{HasMemoryCause, HasTagOf, IsReadAs};
 ghost use Rattle.exec_session.specs.Reading.{IsGot, IsNoted, ReadsOn, got_of};
-ghost use Rattle.exec_session.specs.Standing.{Moves};
+ghost use Rattle.exec_session.specs.Standing.{Continues, SameButBuffer};
 
 use crate::session::Session;
 use exec_commands::{Line, Tag, read_command, read_strictly};
 use exec_lines::{LineBuffer, Next};
-use growth::Grows;
+use growth::Refused;
 use ocf_types::Refusal;
 use session_machine::{Edge, Failed, Mode};
-use std::alloc::{AllocError, Global};
+use std::alloc::Global;
 
 /// What a read gave.
 #[derive(Clone, Copy)]
@@ -31,7 +31,7 @@ pub enum Got {
 fn read_line(mode: Mode, alloc: Global, bytes: &[u8]) -> (Result<Line, Refusal>, Option<Tag>)
     ensures reads { IsReadAs mode bytes.now result.0 }
     ensures tag { HasTagOf mode bytes.now result.0 result.1 }
-    ensures memory { IfErr result.0 (λ e. e ≡ Refusal.Memory → IsTrue ⟦<Global as Grows>⟧.refuses) }
+    ensures memory { HasMemoryCause result.0 }
 {
     match mode {
         Mode::Run => (read_command(alloc, bytes), None),
@@ -53,6 +53,7 @@ fn line_in(
         → next ≡ line_answer bytes → IsReadAs mode bytes result.0 }
     ensures tag { (bytes : List ℕ) → line_bytes buffer.now ≡ take line_room bytes
         → next ≡ line_answer bytes → HasTagOf mode bytes result.0 result.1 }
+    ensures memory { HasMemoryCause result.0 }
 {
     match next {
         Next::Line => read_line(mode, alloc, buffer.line()),
@@ -73,7 +74,7 @@ fn got_in(next: Option<Next>, buffer: &LineBuffer) -> Got
 }
 
 // The line as it was noted: where no memory was there for its tag, it is refused for that.
-fn as_noted(line: Result<Line, Refusal>, noted: Result<(), AllocError>) -> Result<Line, Refusal>
+fn as_noted(line: Result<Line, Refusal>, noted: Result<(), Refused>) -> Result<Line, Refusal>
     ensures same { OnOk noted (result ≡ line) }
     ensures refused { OnErr noted (result ≡ Err Refusal.Memory) }
 {
@@ -89,9 +90,8 @@ impl<E: Edge + Drop> Session<E> {
         requires may { MayRead self.old.trace.state }
         requires kept { line_bytes self.old.pending.buffer
             ≡ take line_room self.old.trace.state.part }
-        ensures gathered { self.new.pending.gathered ≡ self.old.pending.gathered }
-        ensures held { self.new.pending.held ≡ self.old.pending.held }
-        ensures moves { Moves self.old self.new result }
+        ensures same { SameButBuffer self.old self.new }
+        ensures continues { Continues self.old.trace self.new.trace result }
         ensures reads { OnOk result (ReadsOn self.old.trace self.new.trace) }
         ensures got { IfOk result
             (λ got. IsGot self.new.trace.state (line_bytes self.new.pending.buffer) got) }
@@ -104,10 +104,7 @@ impl<E: Edge + Drop> Session<E> {
     pub fn note(&mut self, next: Next) -> Result<Line, Refusal>
         requires got { IsGot self.old.trace.state
             (line_bytes self.old.pending.buffer) (Got.Line next) }
-        ensures gathered { self.new.pending.gathered ≡ self.old.pending.gathered }
-        ensures held { self.new.pending.held ≡ self.old.pending.held }
-        ensures pause { self.new.pause ≡ self.old.pause }
-        ensures own_end { self.new.own_end ≡ self.old.own_end }
+        ensures same { SameButBuffer self.old self.new }
         ensures empty { line_bytes self.new.pending.buffer ≡ [] }
         ensures noted { IsNoted self.old.trace self.new.trace result }
     {

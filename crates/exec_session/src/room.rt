@@ -57,8 +57,8 @@ fn is_at_leisure<S: Store + Drop, C: Children + Drop>(
     executor.idle() && !is_monitor_due(executor, now, lasts)
 }
 
-// Whether the tail is past the first mark and a tidy is worthwhile, and either nothing would wait for it or the tail is past the second
-// mark.
+// Whether the tail is past the first mark, or past the second one if that is lower, and a tidy is worthwhile, and either nothing would
+// wait for it or the tail is past the second mark.
 fn is_tidy_due<S: Store + Drop, C: Children + Drop>(
     rules: Rules,
     executor: &On<S, C>,
@@ -69,7 +69,7 @@ fn is_tidy_due<S: Store + Drop, C: Children + Drop>(
     ensures { result ≡ is_tidy_due S.view rules.entry executor.now now pace }
 {
     let tail = executor.tail();
-    if rules.tidy_at == 0 || tail <= rules.tidy_at {
+    if rules.tidy_at == 0 || tail <= rules.tidy_at.min(SECOND_MARK) {
         return false;
     }
     if tail.saturating_sub(executor.tidied_tail()) < WORTHWHILE {

@@ -11,7 +11,7 @@ ghost use Rattle.exec_session.specs.Steps.{HasBegun, IsOpening, IsReportOf};
 use crate::flow::Flow;
 use crate::session::Session;
 use exec_client::Message;
-use exec_commands::{Counts, LineReply};
+use exec_replies::{Counts, LineReply};
 use executor::Report;
 use ocf_types::{StateView, TurnEnd};
 use session_machine::{Edge, Failed, Mode};

@@ -1,11 +1,9 @@
 //! A session over its input: it answers lines one by one, and in `serve` makes turns by itself.
-ghost use Rattle.std.specs.Prelude.{◌≡◌, [], false, IfErr, OnErr, OnOk};
+ghost use Rattle.std.specs.Prelude.{◌≡◌, [], IfErr, OnOk};
 ghost use Rattle.exec_faults.specs.Faults.{HasCause};
-ghost use Rattle.session_machine.specs.Behaviours.{HasBroken};
 ghost use Rattle.exec_session.specs.Ends.{ClosesByCalls, Ended, IsEnd};
-ghost use Rattle.exec_session.specs.Pending.{IsClear};
-ghost use Rattle.exec_session.specs.Rounds.{IsRound, Rounds, IsFresh};
-ghost use Rattle.exec_session.specs.Standing.{IsOver, Lasts};
+ghost use Rattle.exec_session.specs.Rounds.{Goes, IsFresh, IsRound, RoundsOn};
+ghost use Rattle.exec_session.specs.Standing.{Continues, IsOver, Lasts};
 ghost use Rattle.exec_session.specs.Steps.{IsOpening, IsReportOf, IsOpeningOf};
 
 use crate::flow::Flow;
@@ -14,6 +12,7 @@ use crate::pause::Pause;
 use crate::pending::{LineRoom, Pending};
 use exec_faults::Fault;
 use executor::{On, Report};
+use growth::Grows;
 use ocf_types::{NUM_MAX, TurnEnd};
 use session_machine::{Edge, Failed, Mode};
 use std::alloc::Global;
@@ -26,7 +25,7 @@ pub struct Run<E: Edge + Drop> {
     /// The edge, which knows all that has happened.
     pub edge: E,
     pub store: E::Store,
-    /// No agent process is left.
+    /// The end of each agent was seen, or was asked for; its process may live on.
     pub children: E::Children,
 }
 
@@ -73,10 +72,7 @@ impl<E: Edge + Drop> Session<E> {
     ) -> Session<E>
         requires of { executor ≡ (E.trace edge).state.executor }
         ensures trace { result.trace ≡ E.trace edge }
-        ensures clear { IsClear result.pending }
-        ensures own_end { result.own_end ≡ TurnEnd.Done }
-        ensures moment { result.pause.moment ≡ 0 }
-        ensures stirred { result.pause.is_stirred ≡ false }
+        ensures fresh { IsFresh result }
     {
         Session {
             alloc,
@@ -93,7 +89,7 @@ impl<E: Edge + Drop> Session<E> {
     fn serve_round(&mut self) -> Result<Flow, Failed>
         requires serves { self.old.trace.state.rules.mode ≡ Mode.Serve }
         requires round { IsRound self.old }
-        ensures rounds { Rounds self.old self.new result }
+        ensures rounds { Goes RoundsOn self.old self.new result }
     {
         if self.answer_round()? == Flow::Over {
             return Ok(Flow::Over);
@@ -112,7 +108,7 @@ impl<E: Edge + Drop> Session<E> {
     // One round. In `run` it is one read, and the answer to the line that is complete then.
     fn round(&mut self) -> Result<Flow, Failed>
         requires round { IsRound self.old }
-        ensures rounds { Rounds self.old self.new result }
+        ensures rounds { Goes RoundsOn self.old self.new result }
     {
         match self.edge.rules().mode {
             Mode::Run => self.take_read(),
@@ -124,9 +120,8 @@ impl<E: Edge + Drop> Session<E> {
     // with the line of that fault; and once a line asks for it the session makes an orderly end.
     fn answer_all(&mut self) -> Result<(), Failed>
         requires round { IsRound self.old }
-        ensures lasts { Lasts self.old.trace self.new.trace }
+        ensures continues { Continues self.old.trace self.new.trace result }
         ensures over { OnOk result (IsOver self.new.trace.state.at) }
-        ensures broke { OnErr result (HasBroken self.new.trace) }
     {
         for _rounds in 0..NUM_MAX {
             if self.round()? == Flow::Over {
@@ -141,9 +136,8 @@ impl<E: Edge + Drop> Session<E> {
         requires begun { IsOpening self.old.trace }
         requires opening_report { IsReportOf self.old.trace.state.executor report.now }
         requires fresh { IsFresh self.old }
-        ensures lasts { Lasts self.old.trace self.new.trace }
+        ensures continues { Continues self.old.trace self.new.trace result }
         ensures over { OnOk result (IsOver self.new.trace.state.at) }
-        ensures broke { OnErr result (HasBroken self.new.trace) }
     {
         self.send_report(report)?;
         self.answer_all()
@@ -156,7 +150,7 @@ impl<E: Edge + Drop> Session<E> {
         requires fresh { IsFresh self.old }
         ensures lasts { Lasts self.old.trace self.new.trace }
         ensures ends { IsEnd self.new.trace result }
-        ensures memory { IfErr result (HasCause E.refuses) }
+        ensures memory { IfErr result (HasCause ⟦<Global as Grows>⟧.refuses) }
     {
         match self.report_and_answer(report) {
             Ok(()) if self.executor.is_open() => Ok(()),
@@ -173,7 +167,7 @@ impl<E: Edge + Drop> Session<E> {
 /// answered, and a turn's notices before the next turn. After a disk fault a session in `run` goes on to the end of its input,
 /// and in `serve` it ends at once, with the line `{"end":"disk"}`; both then end with `Fault::Disk`. If input or output fails,
 /// it ends with `Fault::InputOrOutput`, and with `Fault::ReplyMemory` if there is no memory for a reply or a notice. However it
-/// ends, all agent processes are then given up and ended, and the executor is closed. The buffers for lines are passed in, so that no
+/// ends, all agents are then given up and their end is asked for, and the executor is closed. The buffers for lines are passed in, so that no
 /// memory is refused between the opening and its report.
 #[inline(never)]
 pub fn run_lines<E: Edge + Drop>(
@@ -188,9 +182,9 @@ pub fn run_lines<E: Edge + Drop>(
         result.ended result.store result.children }
     ensures reported { ClosesByCalls E.Store.view opened.0 (E.trace result.edge).state.client
         result.store (E.Children.view result.children) }
-    ensures none_lives { (E.Children.view result.children).live ≡ [] }
-    ensures none_given_up { (E.Children.view result.children).given_up ≡ [] }
-    ensures memory { IfErr result.ended (HasCause E.refuses) }
+    ensures none_left { ((E.Children.view result.children).live ≡ [])
+        × ((E.Children.view result.children).given_up ≡ []) }
+    ensures memory { IfErr result.ended (HasCause ⟦<Global as Grows>⟧.refuses) }
 {
     let (executor, report) = opened;
     let mut session = Session::new(alloc, edge, executor, room);

@@ -1,11 +1,11 @@
 //! Turns of a session.
-ghost use Rattle.std.specs.Prelude.{◌≡◌, ◌≢◌, [], ◌∷◌, if◌then◌else◌, false, IfOk, MatchOption, OnErr, OnOk, Some, true};
+ghost use Rattle.std.specs.Prelude.{◌≡◌, ◌≢◌, [], ◌∷◌, if◌then◌else◌, false, MatchOption, OnOk, Some, true};
 ghost use Rattle.ocf_types.specs.declared.reply.TurnEnd.TheVariants.{Disk};
 ghost use Rattle.session_machine.specs.After.{news_of, notices_of, reading};
-ghost use Rattle.session_machine.specs.Behaviours.{HasBroken};
 ghost use Rattle.session_machine.specs.May.{IsDue, IsOwnTurn, IsTurnDue};
-ghost use Rattle.session_machine.specs.Session.{Reading, ReadsOn, Sending, ended_by};
-ghost use Rattle.exec_session.specs.Standing.{Flows, KnowsTurn, Lasts, SameRest, Sends, Steps};
+ghost use Rattle.session_machine.specs.Session.{ReadsOn, Sending, ended_by};
+ghost use Rattle.exec_session.specs.Rounds.{Goes};
+ghost use Rattle.exec_session.specs.Standing.{Flows, KnowsTurn, SameRest, Sends, Steps};
 ghost use Rattle.exec_session.specs.declared.flow.Flow.TheVariants.{GoesOn};
 ghost use Rattle.exec_session.specs.Steps.{HasTurned, MakesOwnTurn, OnlySends};
 
@@ -74,18 +74,10 @@ impl<E: Edge + Drop> Session<E> {
 
     /// Makes a turn by itself, and sends its notices, and how it ended if that is news.
     pub fn own_turn(&mut self) -> Result<Flow, Failed>
-        requires open { self.old.trace.state.executor.is_open ≡ true }
-        requires at { self.old.trace.state.at ≡ Reading }
-        requires goes_on { self.old.trace.state.ended ≡ false }
+        requires goes_on { Flows GoesOn self.old.trace.state }
         requires own { IsOwnTurn self.old.trace.state }
         requires knows { KnowsTurn self.old }
-        ensures pending { self.new.pending ≡ self.old.pending }
-        ensures flows { IfOk result (λ flow. Flows flow self.new.trace.state) }
-        ensures made { IfOk result
-            (λ flow. flow ≡ GoesOn
-            → MakesOwnTurn self.old.trace self.new.trace × KnowsTurn self.new) }
-        ensures lasts { Lasts self.old.trace self.new.trace }
-        ensures broke { OnErr result (HasBroken self.new.trace) }
+        ensures makes { Goes MakesOwnTurn self.old self.new result }
     {
         let before = self.own_end;
         let now = self.edge.now();

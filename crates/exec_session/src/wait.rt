@@ -1,11 +1,10 @@
 //! The wait after a turn of a session in `serve`.
-ghost use Rattle.std.specs.Prelude.{◌≡◌, ◌≤◌, ◌<◌, ◌*◌, [], false, OnErr, OnOk, true};
-ghost use Rattle.session_machine.specs.Behaviours.{HasBroken};
+ghost use Rattle.std.specs.Prelude.{◌≡◌, ◌≤◌, ◌<◌, ◌*◌, [], false, OnOk, true};
 ghost use Rattle.session_machine.specs.May.{MayWait};
 ghost use Rattle.session_machine.specs.Session.{lines_in};
 ghost use Rattle.exec_session.specs.Held.{held_lines};
-ghost use Rattle.exec_session.specs.Standing.{KnowsTurn, Lasts, SameRest};
-ghost use Rattle.exec_session.specs.Waits.{HasWaited, MayWaitNow, OnlyShows};
+ghost use Rattle.exec_session.specs.Standing.{Continues, KnowsTurn, SameRest};
+ghost use Rattle.exec_session.specs.Waits.{HasWaited, MayWaitNow, OnlyShows, WaitsOn};
 
 use crate::session::Session;
 use session_machine::{Edge, Failed};
@@ -79,12 +78,8 @@ impl<E: Edge + Drop> Session<E> {
         requires may { MayWaitNow self.old.trace.state }
         requires knows { KnowsTurn self.old }
         requires in_hand { lines_in self.old.trace.state ≡ held_lines self.old.pending.held }
-        ensures pending { self.new.pending ≡ self.old.pending }
-        ensures knows { KnowsTurn self.new }
-        ensures lasts { Lasts self.old.trace self.new.trace }
-        ensures waited { OnOk result (HasWaited self.old.trace self.new.trace) }
-        ensures woken { OnOk result (self.new.trace.state.own.woken ≡ true) }
-        ensures broke { OnErr result (HasBroken self.new.trace) }
+        ensures continues { Continues self.old.trace self.new.trace result }
+        ensures waits { OnOk result (WaitsOn self.old self.new) }
     {
         let holds = self.pending.held.is_some();
         self.pause.holds(holds);

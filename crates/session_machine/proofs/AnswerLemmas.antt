@@ -16,7 +16,7 @@ use Rattle.exec_ledger.specs.Together.{Answered, batch_replies, disk_each, faile
 use Rattle.executor.specs.CommandBatches.{TakesCommands}
 use Rattle.executor.specs.ExecutorView.{ExecutorView}
 use Rattle.exec_commands.specs.declared.line.Line.{Line}
-use Rattle.exec_commands.specs.declared.reply.LineReply.TheVariants as answer
+use Rattle.exec_replies.specs.declared.reply.LineReply.TheVariants as answer
 use Rattle.exec_lines.specs.declared.line.Piece.{Piece}
 use Rattle.exec_lines.specs.declared.line.Piece.TheVariants.{Last, Nothing, Part}
 use Rattle.exec_client.specs.MessageView as message

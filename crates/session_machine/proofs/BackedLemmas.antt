@@ -7,7 +7,7 @@ use Rattle.ocf_types.specs.declared.reply.TurnEnd.{TurnEnd}
 use Rattle.ocf_types.specs.declared.reply.TurnEnd.TheVariants as turn_end
 use Rattle.store_model.specs.StoreView.{StoreView}
 use Rattle.executor.specs.ExecutorView.{ExecutorView}
-use Rattle.exec_commands.specs.declared.reply.LineReply.TheVariants as answer
+use Rattle.exec_replies.specs.declared.reply.LineReply.TheVariants as answer
 use Rattle.exec_lines.specs.declared.line.Piece.{Piece}
 use Rattle.exec_lines.specs.declared.line.Piece.TheVariants as piece
 use Rattle.exec_client.specs.BackedBy.{BackedBy, nothing}

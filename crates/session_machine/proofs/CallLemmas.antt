@@ -15,8 +15,8 @@ use Rattle.executor.specs.ExecutorView.{ExecutorView}
 use Rattle.executor.specs.TurnCalls.{FinishesTurn, with_empty_book}
 use Rattle.exec_commands.specs.declared.line.Line.{Line}
 use Rattle.exec_commands.specs.declared.line.Line.TheVariants as line
-use Rattle.exec_commands.specs.declared.reply.LineReply.{LineReply}
-use Rattle.exec_commands.specs.declared.reply.LineReply.TheVariants as answer
+use Rattle.exec_replies.specs.declared.reply.LineReply.{LineReply}
+use Rattle.exec_replies.specs.declared.reply.LineReply.TheVariants as answer
 use Rattle.exec_client.specs.BackedBy.{BackedBy, claims, nothing, states_else}
 use Rattle.exec_client.specs.MaySend.{MayAnswer, MayReply, IsBacked}
 use Rattle.exec_client.specs.SentItem.{Answered, SentItem, answered}

@@ -9,7 +9,7 @@ use Rattle.store_model.specs.StoreView.{StoreView}
 use Rattle.executor.specs.ExecutorView.{ExecutorView}
 use Rattle.exec_commands.specs.declared.line.Line.{Line}
 use Rattle.exec_commands.specs.declared.line.Line.TheVariants as line
-use Rattle.exec_commands.specs.declared.reply.LineReply.TheVariants as answer
+use Rattle.exec_replies.specs.declared.reply.LineReply.TheVariants as answer
 use Rattle.exec_lines.specs.declared.line.Piece.{Piece}
 use Rattle.exec_lines.specs.declared.line.Piece.TheVariants.{Last, Nothing, Part}
 use Rattle.exec_client.specs.MessageView as message
@@ -212,7 +212,7 @@ module _ {S : Type 0} where
   ends_on view s (event.Peeked has_line) may ends = ends
   ends_on view s (event.Took bytes piece) (listens, may) ends = took_ends s (after_read s) bytes piece listens refl refl refl
   ends_on view s event.ReadFailed (listens, may) ends = λ ended. absurd (not_ended s listens s.ended refl ended)
-  ends_on view s (event.Noted found tag) (bytes, is, reads, tagged) ends = λ ended. let none = sym (ends ended).noted ∙ is in absurd cc
+  ends_on view s (event.Noted found tag) (bytes, is, reads, tagged, cause) ends = λ ended. let none = sym (ends ended).noted ∙ is in absurd cc
   ends_on view s (event.GaveMetadata provider agent limit None) may ends = ends
   ends_on view s (event.GaveMetadata provider agent limit (Some given)) may ends =
       λ ended. let has = ends ended in record { noted = has.noted; commands = has.commands; last = tt }
@@ -268,7 +268,7 @@ module _ {S : Type 0} where
   only_answers_after view s (event.Peeked has_line) ended has may = refl
   only_answers_after view s (event.Took bytes piece) ended has (listens, may) = absurd (not_ended s listens s.ended refl ended)
   only_answers_after view s event.ReadFailed ended has (listens, may) = absurd (not_ended s listens s.ended refl ended)
-  only_answers_after view s (event.Noted found tag) ended has (bytes, is, reads, tagged) = let none = sym has.noted ∙ is in absurd cc
+  only_answers_after view s (event.Noted found tag) ended has (bytes, is, reads, tagged, cause) = let none = sym has.noted ∙ is in absurd cc
   only_answers_after view s (event.GaveMetadata provider agent limit given) ended has may =
       absurd (other_line (line.Meta provider agent limit) [] (lines_in s) may.is has.commands (no_meta provider agent limit))
   only_answers_after view s (event.Shown now) ended has may = refl

@@ -5,8 +5,8 @@ use Rattle.ocf_types.specs.declared.reply.TurnEnd.{TurnEnd}
 use Rattle.store_model.specs.StoreView.{StoreView}
 use Rattle.executor.specs.ExecutorView.{ExecutorView}
 use Rattle.exec_commands.specs.declared.line.Line.TheVariants as line
-use Rattle.exec_commands.specs.declared.notice.NoticeForm.{NoticeForm}
-use Rattle.exec_commands.specs.declared.reply.LineReply.TheVariants.{Ready}
+use Rattle.exec_replies.specs.declared.notice.NoticeForm.{NoticeForm}
+use Rattle.exec_replies.specs.declared.reply.LineReply.TheVariants.{Ready}
 use Rattle.exec_lines.specs.declared.line.Piece.{Piece}
 use Rattle.exec_client.specs.ClientView.{ClientView, Receives}
 use Rattle.exec_client.specs.MessageView.{News, Report}

@@ -10,8 +10,8 @@ use Rattle.exec_turn.specs.Actives.{any_running}
 use Rattle.executor.specs.ExecutorView.{ExecutorView}
 use Rattle.exec_commands.specs.declared.line.Line.{Line}
 use Rattle.exec_commands.specs.declared.line.Line.TheVariants as line
-use Rattle.exec_commands.specs.declared.reply.LineReply.{LineReply}
-use Rattle.exec_commands.specs.declared.reply.LineReply.TheVariants as answer
+use Rattle.exec_replies.specs.declared.reply.LineReply.{LineReply}
+use Rattle.exec_replies.specs.declared.reply.LineReply.TheVariants as answer
 use Rattle.exec_lines.specs.declared.line.Piece.{Piece}
 use Rattle.exec_lines.specs.declared.line.Piece.TheVariants.{Last, Nothing, Part}
 use Rattle.exec_client.specs.MessageView as message
@@ -233,7 +233,7 @@ module _ {S : Type 0} where
       absurd (other_line line.Leave [] (lines_in s) is (listens.commands, listens.waits) no_leave)
   leaving view s event.ReadFailed serves now found at is (listens, may) =
       absurd (other_line line.Leave [] (lines_in s) is (listens.commands, listens.waits) no_leave)
-  leaving view s (event.Noted line_read tag) serves now found at is (bytes, there, reads, tagged) =
+  leaving view s (event.Noted line_read tag) serves now found at is (bytes, there, reads, tagged, cause) =
       absurd (other_line line.Leave [] (lines_in s) is (found bytes there) no_leave)
   leaving view s (event.GaveMetadata provider agent limit given) serves now found at is may =
       let same = same_line (lines_in s) (Ok line.Leave) (Ok (line.Meta provider agent limit)) [] is may.is in absurd cc

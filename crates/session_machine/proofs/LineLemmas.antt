@@ -11,8 +11,8 @@ use Rattle.ocf_types.specs.declared.reply.ReplyOf.TheVariants as reply
 use Rattle.ocf_types.specs.declared.reply.TurnEnd.{TurnEnd}
 use Rattle.store_model.specs.StoreView.{StoreView}
 use Rattle.executor.specs.ExecutorView.{ExecutorView}
-use Rattle.exec_commands.specs.declared.reply.LineReply.{LineReply}
-use Rattle.exec_commands.specs.declared.reply.LineReply.TheVariants as answer
+use Rattle.exec_replies.specs.declared.reply.LineReply.{LineReply}
+use Rattle.exec_replies.specs.declared.reply.LineReply.TheVariants as answer
 use Rattle.exec_lines.specs.declared.line.Piece.{Piece}
 use Rattle.exec_lines.specs.declared.line.Piece.TheVariants.{Last, Nothing, Part}
 use Rattle.exec_client.specs.ClientView.{ClientView}
@@ -218,7 +218,7 @@ begun_agrees {S} first is = subst (λ (s : SessionState S). Agrees s.client s.li
 read_on : {S : Type 0} (view : S → StoreView) (s : SessionState S) (e : Event S) → May view s e → AreRead s.rules.mode s.lines
     → AreRead s.rules.mode (after s e).lines
 read_on view s (event.Took bytes piece) may all = subst (λ (ls : List ReadLine). AreRead s.rules.mode ls) (sym (took_keeps (after_read s) bytes piece).lines) all
-read_on view s (event.Noted found tag) (bytes, is, reads, tagged) all =
+read_on view s (event.Noted found tag) (bytes, is, reads, tagged, cause) all =
     append_all (IsLineRead s.rules.mode) s.lines (record { line = found; tag = tag } ∷ []) all ((bytes, reads, tagged), tt)
 read_on view s (event.Sent what true client) may all = unanswered_all (IsLineRead s.rules.mode) what s.lines all
 read_on view s (event.Turned end x) may all =

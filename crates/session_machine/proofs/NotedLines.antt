@@ -1,5 +1,7 @@
 -- The event of a line that was noted.
-use Rattle.std.proofs.Common.{◌≡◌, ℕ, Bool, true, false, List, [], None, Result, Err, refl, if◌then◌else◌}
+use Rattle.std.proofs.Common.{◌≡◌, ℕ, Bool, true, false, List, [], None, Result, Ok, Err, IsTrue, refl, if◌then◌else◌}
+use Rattle.std.specs.Prelude.{is_ok}
+use Rattle.growth.specs.Refused.{refuses_here}
 use Rattle.ocf_types.specs.declared.refusal.Refusal.{Refusal}
 use Rattle.ocf_types.specs.declared.refusal.Refusal.TheVariants.{Memory}
 use Rattle.store_model.specs.StoreView.{StoreView}
@@ -31,10 +33,11 @@ tag_short : (mode : Mode) (bytes : List ℕ) → HasTagOf mode bytes (Err Memory
 tag_short Run bytes = refl
 tag_short Serve bytes = refl
 
-pub noted_may : {S : Type 0} (view : S → StoreView) (s : SessionState S) (noted : Bool) (found : Result Line Refusal) (tag : LineTag) → MayNote s found tag
-    → May view s (noted_as noted found tag)
-noted_may view s true found tag may = may
-noted_may view s false found tag (bytes, was, read, tagged) = (bytes, was, read_short s.rules.mode bytes, tag_short s.rules.mode bytes)
+pub noted_may : {S T E : Type 0} (view : S → StoreView) (s : SessionState S) (given : Result T E) (found : Result Line Refusal) (tag : LineTag)
+    → MayNote s found tag → (E → IsTrue refuses_here) → May view s (noted_as (is_ok given) found tag)
+noted_may view s (Ok done) found tag may refuses = may
+noted_may view s (Err why) found tag (bytes, was, read, tagged, cause) refuses =
+    (bytes, was, read_short s.rules.mode bytes, tag_short s.rules.mode bytes, λ short. refuses why)
 
 pub noted_asks : (S : Type 0) (input : InputView) (noted : Bool) (found : Result Line Refusal) (tag : LineTag)
     → AsksInput {S = S} input input (noted_as noted found tag)

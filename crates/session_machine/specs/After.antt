@@ -6,7 +6,7 @@ use Rattle.ocf_types.specs.declared.reply.TurnEnd.TheVariants.{BookFull, Closed 
 use Rattle.executor.specs.ExecutorView.{ExecutorView}
 use Rattle.exec_commands.specs.declared.line.Line.{Line}
 use Rattle.exec_commands.specs.declared.line.Line.TheVariants as line
-use Rattle.exec_commands.specs.declared.reply.LineReply.TheVariants as answer
+use Rattle.exec_replies.specs.declared.reply.LineReply.TheVariants as answer
 use Rattle.exec_client.specs.ClientView.{ClientView, noting, noting_tag}
 use Rattle.exec_client.specs.declared.client_event.ClientEvent.TheVariants as asked
 use Rattle.exec_client.specs.MessageView.{MessageView, Replies, Reply as ReplyTo, Turn}

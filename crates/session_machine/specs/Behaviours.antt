@@ -4,7 +4,7 @@ use Rattle.ocf_types.specs.Limits.{num_max}
 use Rattle.ocf_types.specs.Numbers.{IsMoment}
 use Rattle.store_model.specs.StoreView.{StoreView}
 use Rattle.executor.specs.ExecutorView.{ExecutorView}
-use Rattle.exec_commands.specs.declared.notice.NoticeForm.{NoticeForm}
+use Rattle.exec_replies.specs.declared.notice.NoticeForm.{NoticeForm}
 use Rattle.exec_client.specs.ClientView.{ClientView, Receives, ReceivesPart}
 use Rattle.exec_client.specs.MessageView.{MessageView}
 use Rattle.session_machine.specs.After.{after}

@@ -2,8 +2,8 @@
 use Rattle.std.specs.Prelude.{ℕ, Bool, ◌&&◌, nat_le, Option, Some, None, if◌then◌else◌}
 use Rattle.ocf_types.specs.declared.reply.TurnEnd.{TurnEnd}
 use Rattle.ocf_types.specs.declared.reply.TurnEnd.TheVariants.{Done}
-use Rattle.exec_commands.specs.declared.ends.DrainEnd.{DrainEnd}
-use Rattle.exec_commands.specs.declared.ends.DrainEnd.TheVariants.{Idle, Limit, Turns, Turn}
+use Rattle.exec_replies.specs.declared.ends.DrainEnd.{DrainEnd}
+use Rattle.exec_replies.specs.declared.ends.DrainEnd.TheVariants.{Idle, Limit, Turns, Turn}
 use Rattle.session_machine.specs.declared.terms.Terms.{Terms}
 
 -- How a drain ends after this number of turns, the last of which ended like this, with the executor idle or not, at this time; `None`

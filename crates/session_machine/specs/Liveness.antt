@@ -2,7 +2,7 @@
 use Rattle.std.specs.Prelude.{◌≡◌, ◌+◌, ◌*◌, ◌==◌, ◌&&◌, ◌||◌, ⊤, ℕ, Bool, true, false, not, nat_lt, is_none, List, if◌then◌else◌}
 use Rattle.store_model.specs.StoreView.{StoreView}
 use Rattle.exec_turn.specs.Actives.{any_running}
-use Rattle.exec_commands.specs.declared.reply.LineReply.TheVariants.{Left}
+use Rattle.exec_replies.specs.declared.reply.LineReply.TheVariants.{Left}
 use Rattle.exec_client.specs.MessageView.{MessageView, Replies, Reply}
 use Rattle.session_machine.specs.After.{drain_now, is_held}
 use Rattle.session_machine.specs.Behaviours.{Behaves, begins, goes_on}

@@ -1,5 +1,5 @@
 -- When a session may do what. Each of its calls of the edge requires one of these.
-use Rattle.std.specs.Prelude.{◌≡◌, ◌⊎◌, ⊤, ℕ, ◌*◌, ◌<◌, true, false, not, List, [], ◌∷◌, ◌++◌, map, Option, Some, None, Result, Ok}
+use Rattle.std.specs.Prelude.{◌≡◌, ◌⊎◌, ⊤, ℕ, ◌*◌, ◌<◌, ◌≤◌, true, false, not, List, [], ◌∷◌, ◌++◌, map, length, Option, Some, None, Result, Ok}
 use Rattle.ocf_types.specs.Boot.{any_busy}
 use Rattle.ocf_types.specs.Kinds.{Command, Reply, Request}
 use Rattle.ocf_types.specs.declared.refusal.Refusal.{Refusal}
@@ -10,17 +10,17 @@ use Rattle.exec_turn.specs.Actives.{any_running}
 use Rattle.executor.specs.ExecutorView.{ExecutorView}
 use Rattle.executor.specs.TidyCalls.{Tidies}
 use Rattle.executor.specs.TurnCalls.{FinishesTurn, with_empty_book}
-use Rattle.exec_commands.specs.declared.ends.DrainEnd.{DrainEnd}
+use Rattle.exec_replies.specs.declared.ends.DrainEnd.{DrainEnd}
 use Rattle.exec_commands.specs.declared.line.Line.{Line}
 use Rattle.exec_commands.specs.declared.line.Line.TheVariants as line
-use Rattle.exec_commands.specs.declared.reply.LineReply.{LineReply}
-use Rattle.exec_commands.specs.declared.reply.LineReply.TheVariants as answer
+use Rattle.exec_replies.specs.declared.reply.LineReply.{LineReply}
+use Rattle.exec_replies.specs.declared.reply.LineReply.TheVariants as answer
 use Rattle.exec_client.specs.MessageView.{MessageView, Reply as ReplyTo}
 use Rattle.exec_client.specs.Tags.{LineTag}
 use Rattle.session_machine.specs.Drains.{end_after}
-use Rattle.session_machine.specs.Limits.{polls_a_turn, reads_a_turn}
+use Rattle.session_machine.specs.Limits.{most_together, polls_a_turn, reads_a_turn}
 use Rattle.session_machine.specs.Pausing.{IsShort, IsUntilDue}
-use Rattle.session_machine.specs.Replies.{HasTagOf, IsPlainReply, IsReadAs}
+use Rattle.session_machine.specs.Replies.{HasMemoryCause, HasTagOf, IsPlainReply, IsReadAs}
 use Rattle.session_machine.specs.Room.{FailsNow, ServesNow, ServesTogether, TurnsNow}
 use Rattle.session_machine.specs.Session.{At, Drain, Lines, SessionState, Draining, Reading, Resting, Sending, lines_in, of_command}
 use Rattle.session_machine.specs.declared.rules.Mode.{Mode}
@@ -68,10 +68,10 @@ MayReadIn Serve s = (s.there ≡ true) × (s.own.reads < reads_a_turn)
 abbrev pub MayRead : {S : Type 0} → SessionState S → Type 0
 MayRead s = Listens s × MayReadIn s.rules.mode s
 
--- it may note the line that it has read, as this or refused, with this tag
+-- it may note the line that it has read, as this or refused, with this tag; for lack of memory only where the allocator refuses growths
 abbrev pub MayNote : {S : Type 0} → SessionState S → Result Line Refusal → LineTag → Type 0
 MayNote s found tag =
-    (bytes : List ℕ) × (s.found ≡ Some bytes) × IsReadAs s.rules.mode bytes found × HasTagOf s.rules.mode bytes found tag
+    (bytes : List ℕ) × (s.found ≡ Some bytes) × IsReadAs s.rules.mode bytes found × HasTagOf s.rules.mode bytes found tag × HasMemoryCause found
 
 -- It may ask the source for the metadata of this agent: the next line that it answers asks for them. In `run` it waits for the answer.
 pub record MayAskSource {S : Type 0} (s : SessionState S) (provider agent : List ℕ) (limit : Option ℕ) : Type 0 where
@@ -133,6 +133,7 @@ pub record MayServeTogether {S : Type 0} (view : S → StoreView) (s : SessionSt
   pub others : List Command
   pub rest : Lines
   pub are : lines_in s ≡ map of_command (first ∷ others) ++ rest
+  pub few : length (first ∷ others) ≤ most_together
   pub serves : ServesTogether view s.rules now (first ∷ others) s.executor x replies
 
 -- its open executor tidied, as the next line asks

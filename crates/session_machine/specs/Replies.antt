@@ -1,5 +1,6 @@
 -- What a line is read as, and the replies that need no call of the executor.
-use Rattle.std.specs.Prelude.{◌≡◌, ◌≢◌, ◌⊎◌, ℕ, Bool, List, true, false, IsTrue, None, Result, Ok, Err}
+use Rattle.std.specs.Prelude.{◌≡◌, ◌≢◌, ◌⊎◌, ℕ, Bool, List, true, false, IfErr, IsTrue, None, Result, Ok, Err}
+use Rattle.growth.specs.Refused.{refuses_here}
 use Rattle.ocf_types.specs.declared.refusal.Refusal.{Refusal}
 use Rattle.ocf_types.specs.declared.refusal.Refusal.TheVariants as refusal
 use Rattle.ocf_types.specs.declared.reply.ReplyOf.TheVariants.{Refused}
@@ -8,15 +9,15 @@ use Rattle.ocf_types.specs.declared.reply.TurnEnd.TheVariants as turn_end
 use Rattle.exec_turn.specs.Actives.{any_running}
 use Rattle.executor.specs.ExecutorView.{ExecutorView}
 use Rattle.exec_commands.specs.Lines.{line_read}
-use Rattle.exec_commands.specs.Replies.{statuses_in}
+use Rattle.exec_replies.specs.Replies.{statuses_in}
 use Rattle.exec_commands.specs.Served.{IsServedAs}
 use Rattle.exec_commands.specs.Tags.{IsTaggedAs}
-use Rattle.exec_commands.specs.declared.ends.DrainEnd.TheVariants.{Turn}
+use Rattle.exec_replies.specs.declared.ends.DrainEnd.TheVariants.{Turn}
 use Rattle.exec_commands.specs.declared.line.Line.{Line}
 use Rattle.exec_commands.specs.declared.line.Line.TheVariants as line
-use Rattle.exec_commands.specs.declared.reply.LineReply.{LineReply}
-use Rattle.exec_commands.specs.declared.reply.LineReply.TheVariants as answer
-use Rattle.exec_commands.specs.declared.statuses.Statuses.{Statuses}
+use Rattle.exec_replies.specs.declared.reply.LineReply.{LineReply}
+use Rattle.exec_replies.specs.declared.reply.LineReply.TheVariants as answer
+use Rattle.exec_replies.specs.declared.statuses.Statuses.{Statuses}
 use Rattle.exec_client.specs.Tags.{LineTag}
 use Rattle.resource_status.specs.Statuses.{statuses_of}
 use Rattle.resource_status.specs.declared.reasons.RunReason.{RunReason}
@@ -29,6 +30,10 @@ abbrev pub IsReadAs : Mode → List ℕ → Result Line Refusal → Type 0
 IsReadAs Run bytes (Ok found) = line_read bytes ≡ Ok found
 IsReadAs Run bytes (Err why) = why ≢ refusal.Memory → line_read bytes ≡ Err why
 IsReadAs Serve bytes found = IsServedAs bytes found
+
+-- lack of memory is given as the reason only where the allocator refuses growths
+abbrev pub HasMemoryCause : Result Line Refusal → Type 0
+HasMemoryCause found = IfErr found (λ why. why ≡ refusal.Memory → IsTrue refuses_here)
 
 -- in `serve` a line that was read has the tag that these bytes give it; nothing else has a tag
 abbrev pub HasTagOf : Mode → List ℕ → Result Line Refusal → LineTag → Type 0

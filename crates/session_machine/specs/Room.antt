@@ -1,5 +1,5 @@
 -- Tidies that a session makes by itself, and the calls of its executor before which it makes them.
-use Rattle.std.specs.Prelude.{◌≡◌, ◌↔◌, ◌≤◌, ℕ, ◌+◌, ◌-◌, ◌*◌, ◌/◌, Bool, true, false, ◌&&◌, ◌||◌, not, nat_le, nat_lt, List, length, replicate}
+use Rattle.std.specs.Prelude.{◌≡◌, ◌↔◌, ◌≤◌, ℕ, ◌+◌, ◌-◌, ◌*◌, ◌/◌, Bool, true, false, ◌&&◌, ◌||◌, not, min, nat_le, nat_lt, List, length, replicate}
 use Rattle.std.specs.List.{list_any}
 use Rattle.ocf_types.specs.Boot.{any_busy}
 use Rattle.ocf_types.specs.Kinds.{Command, Reply, Request}
@@ -44,11 +44,11 @@ is_monitor_due x now lasts = list_any (λ p. nat_le (p.0 - now) lasts) (all_pair
 abbrev pub is_at_leisure : {S : Type 0} → ExecutorView S → ℕ → ℕ → Bool
 is_at_leisure x now lasts = not (any_busy x.state) && not (is_monitor_due x now lasts)
 
--- A tidy is due at this time, where each piece takes this many milliseconds: the tail is past the first mark, and the tidy would gain
--- enough; and either nothing would have to wait for it, or the tail is past the second mark.
+-- A tidy is due at this time, where each piece takes this many milliseconds: the tail is past the first mark, or past the second one if
+-- that is lower, and the tidy would gain enough; and either nothing would have to wait for it, or the tail is past the second mark.
 abbrev pub is_tidy_due : {S : Type 0} → (S → StoreView) → Rules → ExecutorView S → ℕ → ℕ → Bool
 is_tidy_due view rules x now pace =
-    nat_lt 0 rules.tidy_at && nat_lt rules.tidy_at (view x.store).tail && is_worthwhile view x
+    nat_lt 0 rules.tidy_at && nat_lt (min rules.tidy_at second_mark) (view x.store).tail && is_worthwhile view x
     && (nat_lt second_mark (view x.store).tail || is_at_leisure x now (tidy_time x pace))
 
 -- If a tidy is due at this time, one is made, and else nothing is done. The time of a piece, at least a millisecond, was measured in the

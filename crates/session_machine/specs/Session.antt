@@ -8,8 +8,8 @@ use Rattle.ocf_types.specs.declared.reply.TurnEnd.TheVariants.{Done}
 use Rattle.executor.specs.ExecutorView.{ExecutorView}
 use Rattle.exec_commands.specs.declared.line.Line.{Line}
 use Rattle.exec_commands.specs.declared.line.Line.TheVariants as line
-use Rattle.exec_commands.specs.declared.reply.LineReply.TheVariants.{Ready, Trouble}
-use Rattle.exec_commands.specs.declared.service.Counts.{Counts}
+use Rattle.exec_replies.specs.declared.reply.LineReply.TheVariants.{Ready, Trouble}
+use Rattle.exec_replies.specs.declared.service.Counts.{Counts}
 use Rattle.exec_client.specs.ClientView.{ClientView}
 use Rattle.exec_client.specs.MessageView.{MessageView, News, Report}
 use Rattle.exec_client.specs.Tags.{LineTag}

@@ -1,5 +1,5 @@
 //! The edge of a session: all that it asks of its surroundings.
-ghost use Rattle.std.specs.Prelude.{◌≡◌, [], ◌∷◌, Bool, Err, IfErr, IsTrue, None, OnErr, OnOk, Some, is_ok, take};
+ghost use Rattle.std.specs.Prelude.{◌≡◌, [], ◌∷◌, Err, IsTrue, None, OnErr, OnOk, Some, is_ok, take};
 ghost use Rattle.ocf_types.specs.Numbers.{IsMoment};
 ghost use Rattle.ocf_types.specs.declared.refusal.Refusal.TheVariants.{Memory};
 ghost use Rattle.exec_lines.specs.Buffer.{line_bytes};
@@ -20,9 +20,10 @@ use exec_client::Message;
 use exec_commands::{Line, Tag};
 use exec_lines::{LineBuffer, Next};
 use executor::On;
+use growth::{Grows, Refused};
 use ocf_types::{AgentType, MetaFault, Provider, Refusal, Reply, TidyEnd, TurnEnd};
 use resource_status::RunReason;
-use std::alloc::AllocError;
+use std::alloc::Global;
 use store_model::Store;
 
 /// All that a session asks of its surroundings: its input, its client, its clock and the source of metadata.
@@ -38,9 +39,6 @@ pub trait Edge {
     type Children: Children + Drop;
 
     ghost trace: { Self → Trace Self.Store };
-
-    /// Whether the allocator refuses memory that a message needs.
-    ghost refuses: { Bool };
 
     /// The rules of the session.
     fn rules(&self) -> Rules<'_>
@@ -65,16 +63,11 @@ pub trait Edge {
 
     /// Notes that the line that was read is this, or why it is refused, and has this tag. Where no memory is there for the tag, the line
     /// is refused for that.
-    fn note_line(
-        &mut self,
-        line: &Result<Line, Refusal>,
-        tag: Option<Tag>,
-    ) -> Result<(), AllocError>
+    fn note_line(&mut self, line: &Result<Line, Refusal>, tag: Option<Tag>) -> Result<(), Refused>
         requires may { MayNote (trace self.old).state line.now tag }
         ensures noted { OnOk result (trace self.new ≡ then (trace self.old) (Noted line.now tag)) }
         ensures refused { OnErr result (trace self.new
-            ≡ then (trace self.old) (Noted (Err Memory) None)) }
-        ensures memory { OnErr result (IsTrue Self.refuses) };
+            ≡ then (trace self.old) (Noted (Err Memory) None)) };
 
     /// Waits for the metadata of an agent that may take this many milliseconds, or as long as it needs; or for why it has none.
     fn metadata(
@@ -138,7 +131,7 @@ pub trait Edge {
 
     /// Whether the client's last failure was lack of memory.
     fn lacks_memory(&self) -> bool
-        ensures memory { IsTrue result → IsTrue Self.refuses };
+        ensures memory { IsTrue result → IsTrue ⟦<Global as Grows>⟧.refuses };
 
     /// Notes that the executor served the request that is the next line, with this reply. This asks nobody, as for all that follow.
     fn note_reply(&mut self, executor: &On<Self::Store, Self::Children>, reply: &Reply)

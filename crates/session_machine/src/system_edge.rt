@@ -15,13 +15,13 @@ use crate::rules::Rules;
 use child_model::Children;
 use exec_client::{Client, Message};
 use exec_commands::{Line, Tag};
-use exec_lines::{Input, LineBuffer, Next, Piece, Ticker};
-use exec_messages::IoFault;
+use exec_lines::{Input, IoFault, LineBuffer, Next, Piece, Ticker};
 use executor::On;
+use growth::{Grows, Refused};
 use ocf_types::{AgentType, MetaFault, Provider, Refusal, Reply, TidyEnd, TurnEnd};
 use past::Seen;
 use resource_status::RunReason;
-use std::alloc::{AllocError, Global};
+use std::alloc::Global;
 use std::marker::{Model, PhantomData};
 use store_model::Store;
 
@@ -71,7 +71,7 @@ impl<
     ghost use Rattle.std.specs.Prelude.{◌≡◌, IsTrue};
     ghost use Rattle.std.specs.Coded.{codes};
     ghost use Rattle.serde_json.specs.contracts.value.Value as json_value;
-    ghost use Rattle.exec_messages.specs.declared.send.IoFault.TheVariants.{Memory};
+    ghost use Rattle.exec_lines.specs.declared.io_fault.IoFault.TheVariants.{Memory};
     ghost use Rattle.session_machine.specs.EdgeView.{EdgeView, IsKept};
 
     ghost Value = { EdgeView S };
@@ -88,7 +88,7 @@ impl<
     ghost invariant = { λ e. IsKept S.view M.gives e.rules (M.of e.source.now)
         (T.client_view e.client)
         (record { trace = e.note.trace; input = I.view e.input; ticks = K.asked e.ticker })
-        × (e.fault ≡ Memory → IsTrue T.refuses) };
+        × (e.fault ≡ Memory → IsTrue ⟦<Global as Grows>⟧.refuses) };
 }
 
 // The next line of the input, once its last piece was read.
@@ -154,13 +154,19 @@ impl<
         let _note = &self.note;
     }
 
-    /// The input and the client.
-    pub fn into_parts(self) -> (I, T)
+    /// The input, the client and the clock.
+    pub fn into_parts(self) -> (I, T, K)
         ensures input { I.view result.0 ≡ self.entry.input }
         ensures client { T.client_view result.1 ≡ self.entry.trace.state.client }
+        ensures ticks { K.asked result.2 ≡ self.entry.ticks }
     {
-        let SystemEdge { input, client, .. } = self;
-        (input, client)
+        let SystemEdge {
+            input,
+            client,
+            ticker,
+            ..
+        } = self;
+        (input, client, ticker)
     }
 }
 
@@ -171,8 +177,6 @@ impl<I: Input, S: Store + Drop, C: Children + Drop, T: Client<S, C>, K: Ticker, 
     type Children = C;
 
     ghost trace = { λ e. e.trace };
-
-    ghost refuses = { T.refuses };
 
     fn rules(&self) -> Rules<'_> {
         self.rules
@@ -202,11 +206,7 @@ impl<I: Input, S: Store + Drop, C: Children + Drop, T: Client<S, C>, K: Ticker, 
         }
     }
 
-    fn note_line(
-        &mut self,
-        line: &Result<Line, Refusal>,
-        tag: Option<Tag>,
-    ) -> Result<(), AllocError> {
+    fn note_line(&mut self, line: &Result<Line, Refusal>, tag: Option<Tag>) -> Result<(), Refused> {
         let seen = Seen::of(&tag);
         let noted = self.client.note_tag(tag);
         self.note.follow(&(line, &seen, &noted));

@@ -1,7 +1,7 @@
 use Rattle.std.proofs.Common.{◌≡◌, None, ap, ◌∙◌}
 use Rattle.std.specs.List.{flat_map}
-use Rattle.exec_commands.specs.Replies.{formed_line}
-use Rattle.exec_commands.specs.declared.notice.Origin.TheVariants.{Opening}
+use Rattle.exec_replies.specs.Replies.{notice_line}
+use Rattle.exec_replies.specs.declared.notice.Origin.TheVariants.{Opening}
 use Rattle.exec_client.specs.SentItem.{lines_of, sent_in}
 use Rattle.exec_client.specs.MessageTags.{sent_tags}
 use Rattle.exec_client.specs.MessageView.{message_view}
@@ -15,7 +15,7 @@ returns-in-Report-clause-sent g c =
     let reasons = c.args.making.now.reasons.now in
     let ns = c.in-Report.notices.now in
     let lines : lines_of form reasons (sent_tags c.args.tags.now (message_view c.args.what.now)) (sent_in (message_view c.args.what.now))
-    ≡ flat_map (formed_line form None None Opening) ns =
+    ≡ flat_map (notice_line form None None Opening) ns =
     ap (λ (w : Message). lines_of form reasons (sent_tags c.args.tags.now (message_view w)) (sent_in (message_view w))) c.in-Report.is
     ∙ report_lines form reasons ns
     in
@@ -27,7 +27,7 @@ returns-in-Report-clause-prefix g c =
     let reasons = c.args.making.now.reasons.now in
     let ns = c.in-Report.notices.now in
     let lines : lines_of form reasons (sent_tags c.args.tags.now (message_view c.args.what.now)) (sent_in (message_view c.args.what.now))
-    ≡ flat_map (formed_line form None None Opening) ns =
+    ≡ flat_map (notice_line form None None Opening) ns =
     ap (λ (w : Message). lines_of form reasons (sent_tags c.args.tags.now (message_view w)) (sent_in (message_view w))) c.in-Report.is
     ∙ report_lines form reasons ns
     in

@@ -1,5 +1,5 @@
 use Rattle.std.proofs.Common.{refl, ap, ◌∙◌}
-use Rattle.exec_messages.proofs.PrefixLemmas.{on_err}
+use Rattle.exec_replies.proofs.PrefixLemmas.{on_err}
 use Rattle.ocf_types.specs.declared.reply.Notice.{Notice}
 use Rattle.exec_client.specs.Tags.{after_notice}
 use Rattle.exec_client.proofs.Along.{along_none}

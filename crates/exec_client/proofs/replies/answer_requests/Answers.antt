@@ -1,5 +1,5 @@
 use Rattle.std.proofs.Common.{refl}
-use Rattle.exec_messages.proofs.PrefixLemmas.{on_err}
+use Rattle.exec_replies.proofs.PrefixLemmas.{on_err}
 use Rattle.exec_client.proofs.Along.{along_none}
 use Rattle.exec_client.proofs.Lines.{answers_all, answers_more, answers_part}
 use Rattle.exec_client.proofs.replies.answer_requests.Goals as goal

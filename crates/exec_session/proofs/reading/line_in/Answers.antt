@@ -19,4 +19,5 @@ pub returns-in-TooLong : goal.returns-in-TooLong
 returns-in-TooLong c = record {
   reads = λ bytes keeps is. long_or_end c.args.mode bytes c.args.next c.in-TooLong.is is;
   tag = λ bytes keeps is. no_tag c.args.mode bytes Syntax;
+  memory = λ short. absurd cc;
 }

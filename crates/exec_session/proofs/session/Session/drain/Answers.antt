@@ -1,7 +1,6 @@
-use Rattle.std.proofs.Common.{◌≡◌, ◌≤◌, ◌+◌, ◌∙◌, ap, arith}
+use Rattle.std.proofs.Common.{◌≡◌, ◌≤◌, ◌∙◌, ap, arith}
 use Rattle.ocf_types.specs.declared.reply.TurnEnd.TheVariants.{Done}
-use Rattle.session_machine.specs.After.{after_drain_turn}
-use Rattle.session_machine.specs.Session.{Drain, at_then}
+use Rattle.session_machine.specs.Session.{Drain}
 use Rattle.exec_session.specs.Standing.{Standing}
 use Rattle.exec_session.proofs.DrainLemmas.{drained, goes_on, goes_on_longer, may_show, pauses_between, stays_both}
 use Rattle.exec_session.proofs.session.Session.drain.Goals as goal

@@ -1,7 +1,8 @@
 use Rattle.std.proofs.Common.{◌≡◌, ◌∙◌, true, ap, sym, arith}
 use Rattle.executor.specs.ExecutorView.{ExecutorView}
 use Rattle.exec_session.specs.Standing.{Standing}
-use Rattle.exec_session.proofs.DrainLemmas.{lasts_both, leaves_on}
+use Rattle.exec_session.proofs.DrainLemmas.{leaves_on}
+use Rattle.exec_session.proofs.RoundLemmas.{lasts_both}
 use Rattle.exec_session.proofs.session.Session.leave.Goals as goal
 
 pub loop-turns-preserved : goal.loop-turns-preserved
@@ -22,7 +23,7 @@ loop-turns-preserved g c =
             pause = paused.rest.pause ∙ finished.rest.pause ∙ inv.rest.pause;
             own_end = paused.rest.own_end ∙ finished.rest.own_end ∙ inv.rest.own_end;
           };
-      lasts = lasts_both c.args.self.now.trace m r inv.lasts (lasts_both m q r finished.lasts paused.lasts);
-      many = omega (arith, inv.many, c.in_ok-finish_turn.ensures.longer, paused.lasts.grows);
+      lasts = lasts_both c.args.self.now.trace m r inv.lasts (lasts_both m q r finished.continues.lasts paused.continues.lasts);
+      many = omega (arith, inv.many, c.in_ok-finish_turn.ensures.longer, paused.continues.lasts.grows);
       leaves = leaves_on q r c.finish_turn.new.pause is_open c.in_ok-finish_turn.ensures.finished c.in_ok-pause.ensures.paused;
     }

@@ -1,4 +1,4 @@
-use Rattle.std.proofs.Common.{◌≡◌, ◌≤◌, ◌+◌, length}
+use Rattle.std.proofs.Common.{◌≤◌, ◌+◌, length}
 use Rattle.exec_session.specs.Standing.{Lasts, SameRest}
 use Rattle.exec_session.specs.Steps.{IsLeaving}
 use Rattle.exec_session.proofs.session.Session.leave.Given as goal

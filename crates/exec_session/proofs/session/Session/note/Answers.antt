@@ -11,5 +11,5 @@ returns-clause-noted g c =
     let new = g.E.Edge.trace c.note_line-noted.new.self in
     let is = ap (λ (s : Standing g.row.E-Store.Denot). s.trace) c.self.view_is in
     subst (λ (t : Trace g.row.E-Store.Denot). IsNoted t new c.as_noted.result) is
-    (noted_as old new c.line_in-line.result.0 c.as_noted.result c.line_in-line.result.1 c.note_line-noted.result c.note_line-noted.ensures.noted
-    c.note_line-noted.ensures.refused c.as_noted.ensures.same c.as_noted.ensures.refused)
+    (noted_as old new _ c.as_noted.result _ c.note_line-noted.result c.note_line-noted.ensures.noted c.note_line-noted.ensures.refused
+    c.as_noted.ensures.same c.as_noted.ensures.refused)

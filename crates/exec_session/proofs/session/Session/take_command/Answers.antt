@@ -27,7 +27,7 @@ returns g c =
     record {
       takes =
           command_answered old mid c.args.command c.requires.found next same push held buffer pause own_end c.requires.«open»
-          c.answer_waiting.new.self c.answer_waiting.result c.answer_waiting.ensures.moves c.answer_waiting.ensures.pending
+          c.answer_waiting.new.self c.answer_waiting.result c.answer_waiting.ensures.continues c.answer_waiting.ensures.emptied
           c.answer_waiting.ensures.flows
           (c.answer_waiting.ensures.answers []
           (queued_begins old mid c.args.command c.requires.found next same push held buffer pause own_end c.requires.«open»));

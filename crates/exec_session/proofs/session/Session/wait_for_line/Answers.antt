@@ -1,6 +1,4 @@
-use Rattle.std.proofs.Common.{◌≡◌, ◌<◌, arith, sym, ap}
-use Rattle.session_machine.specs.Behaviours.{Trace}
-use Rattle.exec_session.specs.Standing.{Standing}
+use Rattle.std.proofs.Common.{◌≡◌, ◌<◌}
 use Rattle.exec_session.proofs.WaitLemmas.{may_poll, polled_waits, polled_woken}
 use Rattle.exec_session.proofs.session.Session.wait_for_line.Goals as goal
 

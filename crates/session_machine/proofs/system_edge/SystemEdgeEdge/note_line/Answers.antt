@@ -16,7 +16,7 @@ invariant_of-self g c =
     let line = c.args.line.now in (
       followed (noted_as noted line c.args.tag) c.self.invariant.0 c.self.view_is
           (c.follow.ensures ∙ ap (λ tag. then c.self.inside.note.trace (noted_as noted line tag)) c.of-seen.ensures)
-          (noted_may _ _ noted line c.args.tag c.requires.may)
+          (noted_may _ _ c.note_tag-noted.result line c.args.tag c.requires.may (λ why. why.refused))
           (noted_asks S _ noted line c.args.tag) (ticks_none (noted_ticks S noted line c.args.tag)) (noted_given S _ noted line c.args.tag)
           (c.note_tag-noted.ensures.noted ∙ noted_client _ noted line c.args.tag),
       c.self.invariant.1,

@@ -1,0 +1,9 @@
+pub mod SmallStates
+pub mod NamedLines
+pub mod CallStates
+pub mod Executors
+pub mod Sessions
+pub mod Lengths
+pub mod Tails
+pub mod Journals
+pub mod Examples

@@ -1,0 +1,3 @@
+pub mod Named
+pub mod Small
+pub mod Numbers

@@ -1,0 +1,4 @@
+//! Laws of sessions, by numbers.
+#![tactic(auto)]
+
+pub mod laws;
