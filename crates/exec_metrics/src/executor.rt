@@ -1,5 +1,5 @@
 //! The metrics of what is known of the executor that has a journal.
-ghost use Rattle.std.specs.Prelude.{◌≡◌, ◌++◌, ◌∷◌, [], IfErr, IfOk, IsTrue, OnErr};
+ghost use Rattle.std.specs.Prelude.{◌≡◌, ◌++◌, ◌∷◌, [], IfErr, IfOk};
 ghost use Rattle.std.specs.List.{flat_map};
 ghost use Rattle.exec_faults.specs.Faults.{HasCause, IsRunEnd};
 ghost use Rattle.exec_metrics.specs.Held.{held_sample, known, seen_families, seen_family, seen_lines};
@@ -9,10 +9,10 @@ use crate::family::{Family, add_header};
 use crate::sample::{add_bare, add_plain, bit};
 use exec_faults::Fault;
 use exec_lines::write_flushed;
-use growth::Grows;
+use growth::{Grows, Refused};
 use line_text::LineText;
 use ocf_types::RscId;
-use std::alloc::{AllocError, Global};
+use std::alloc::Global;
 use std::io::Write;
 
 /// What is known of the executor that has a journal.
@@ -78,9 +78,8 @@ fn add_families(text: &mut LineText, seen: &Seen)
 }
 
 // The metrics of what is known of the executor.
-fn seen_text(alloc: Global, seen: &Seen) -> Result<Vec<u8>, AllocError>
+fn seen_text(alloc: Global, seen: &Seen) -> Result<Vec<u8>, Refused>
     ensures text { IfOk result (λ text. GoesOn (seen_families seen.now) [] text.items) }
-    ensures memory { OnErr result (IsTrue ⟦<Global as Grows>⟧.refuses) }
 {
     let mut text = LineText::new(alloc);
     add_families(&mut text, seen);

@@ -1,5 +1,5 @@
 //! The families of a journal, one after the other.
-ghost use Rattle.std.specs.Prelude.{◌≡◌, ◌<◌, ◌++◌, ◌∷◌, [], length, IfOk, IsTrue, OnErr};
+ghost use Rattle.std.specs.Prelude.{◌≡◌, ◌<◌, ◌++◌, ◌∷◌, [], length, IfOk};
 ghost use Rattle.std.specs.List.{flat_map};
 ghost use Rattle.ocf_types.specs.Indexes.{entry_at};
 ghost use Rattle.exec_metrics.specs.Metrics.{family_of, journal_families, lines_in, measure_of, of_actions, of_journal, of_results, samples, GoesOn};
@@ -10,13 +10,13 @@ use crate::results::{add_age, add_code, age, last_result};
 use crate::sample::{add_bare, add_plain, bit};
 use crate::states::add_states;
 use exec_state::State;
-use growth::Grows;
+use growth::Refused;
 use journal_measure::Measured;
 use line_text::LineText;
 use ocf_types::{Moment, StateView};
 use resource_condition::{condition_by, recorded_of};
 use run_counts::count_of;
-use std::alloc::{AllocError, Global};
+use std::alloc::Global;
 
 /// The moment at which metrics are taken, and the measure of the journal.
 #[derive(Drop)]
@@ -149,10 +149,9 @@ fn add_families(text: &mut LineText, taken: &Taken, state: &State)
 }
 
 /// The metrics of a journal.
-pub fn metrics_text(alloc: Global, taken: &Taken, state: &State) -> Result<Vec<u8>, AllocError>
+pub fn metrics_text(alloc: Global, taken: &Taken, state: &State) -> Result<Vec<u8>, Refused>
     ensures text { IfOk result
         (λ text. GoesOn (journal_families (measure_of taken.now) state.now.state) [] text.items) }
-    ensures memory { OnErr result (IsTrue ⟦<Global as Grows>⟧.refuses) }
 {
     let mut text = LineText::new(alloc);
     add_families(&mut text, taken, state);

@@ -1,11 +1,11 @@
 //! An action that is to be run once, and the call of its agent.
-ghost use Rattle.std.specs.Prelude.{IfOk, OnErr, IsTrue};
+ghost use Rattle.std.specs.Prelude.{IfOk};
 ghost use Rattle.exec_once.specs.Calls.{IsCallFor};
 
-use growth::Grows;
+use growth::Refused;
 use ocf_env::{Instance, Invocation, Site, launch, launch_meta};
 use ocf_types::{AgentType, Params, Provider, RscId, Running};
-use std::alloc::{AllocError, Allocator, Global};
+use std::alloc::{Allocator, Global};
 
 /// What the agent is called for.
 #[derive(Clone, Copy)]
@@ -31,9 +31,8 @@ pub fn invocation_of<S: Allocator>(
     alloc: Global,
     site: &Site<S>,
     call: &OnceCall,
-) -> Result<Invocation, AllocError>
+) -> Result<Invocation, Refused>
     ensures call { IfOk result (IsCallFor site.now call.now) }
-    ensures memory { OnErr result (IsTrue ⟦<Global as Grows>⟧.refuses) }
 {
     match call.what {
         What::MetaData => launch_meta(alloc, site, &call.provider, &call.agent),

@@ -1,7 +1,5 @@
--- The names of the subcommands, and the words of `--color`.
+-- The names of the subcommands.
 use Rattle.std.specs.Prelude.{ℕ, Bool, true, false, List, codes}
-use Rattle.exec_options.specs.declared.options.Color.{Color}
-use Rattle.exec_options.specs.declared.options.Color.TheVariants.{Auto, Always, Never}
 use Rattle.exec_options.specs.declared.options.Subcommand.{Subcommand}
 use Rattle.exec_options.specs.declared.options.Subcommand.TheVariants.{Run, Serve, Show, Status, Log, Metrics}
 
@@ -25,8 +23,3 @@ is_query Show = true
 is_query Status = true
 is_query Log = true
 is_query Metrics = true
-
-abbrev pub color_word : Color → List ℕ
-color_word Auto = codes "auto"
-color_word Always = codes "always"
-color_word Never = codes "never"

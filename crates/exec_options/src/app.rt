@@ -1,5 +1,5 @@
 //! Builds the command line from the table; it fails only if memory was refused.
-ghost use Rattle.std.specs.Prelude.{◌≡◌, false, IfOk, IsTrue, OnErr, map};
+ghost use Rattle.std.specs.Prelude.{◌≡◌, false, IfOk, map};
 ghost use Rattle.clap.specs.Words.{app_of, new_app, rule_of};
 ghost use Rattle.clap.specs.declared.builder.command.Command.TheViews.{out-Command};
 ghost use Rattle.exec_options.specs.App.{log_app, ocfexec_app, once_app, query_app, rule_for, run_app, session_app, status_app, top_app, with_rules};
@@ -7,7 +7,7 @@ ghost use Rattle.exec_options.specs.App.{log_app, ocfexec_app, once_app, query_a
 use crate::table::{self, Argument, Form, SubcommandTexts};
 use crate::texts;
 use clap::{Arg, ArgAction, Command};
-use growth::Grows;
+use growth::{Refused, granted};
 use std::alloc::{AllocError, Global};
 
 fn arg_of<'a>(alloc: Global, argument: &Argument<'a>) -> Arg<'a>
@@ -177,10 +177,10 @@ fn ocfexec<'a>(alloc: Global) -> Result<Command<'a>, AllocError>
 }
 
 /// The whole command line, as `clap` gets it.
-pub fn command_line<'a>(alloc: Global) -> Result<Command<'a>, AllocError>
+#[tactic(auto, using(growth::specs::Refused::refuses))]
+pub fn command_line<'a>(alloc: Global) -> Result<Command<'a>, Refused>
     ensures app { IfOk result (λ c. app_of c ≡ ocfexec_app) }
-    ensures memory { OnErr result (IsTrue ⟦<Global as Grows>⟧.refuses) }
 {
     // TRUSTED: `clap` grows its own memory.
-    Global::library_growth(ocfexec(alloc))
+    granted(ocfexec(alloc))
 }

@@ -1,5 +1,5 @@
 //! Reads the options from the arguments.
-ghost use Rattle.std.specs.Prelude.{◌≡◌, [], map, string_bytes, codes, option_map, IfOk, IfErr, IsTrue, OnErr, OnOk};
+ghost use Rattle.std.specs.Prelude.{◌≡◌, [], map, string_bytes, codes, option_map, IfOk, IfErr, IsTrue, OnOk};
 ghost use Rattle.clap.specs.Words.{rows_of, found_of, fault_of};
 ghost use Rattle.exec_options.specs.App.{ocfexec_app};
 ghost use Rattle.exec_options.specs.Arguments.{default_directory, directory_of, is_clear, is_once, location_in, once_action, texts_in};
@@ -14,8 +14,8 @@ use crate::rows::{is_set, text_of, texts_of};
 use crate::table::{ID, JOURNAL, PATH};
 use crate::values;
 use clap::ArgMatches;
-use growth::{Grows, vec_of};
-use std::alloc::{AllocError, Global};
+use growth::{Grows, Refused, vec_of};
+use std::alloc::Global;
 
 /// The options that the arguments of the command line give.
 #[derive(Drop)]
@@ -59,10 +59,9 @@ fn journal_location<'a>(
 }
 
 // The parameters of an action.
-fn parameters<'a>(alloc: Global, matches: &ArgMatches<'a>) -> Result<Vec<&'a str>, AllocError>
+fn parameters<'a>(alloc: Global, matches: &ArgMatches<'a>) -> Result<Vec<&'a str>, Refused>
     ensures texts { IfOk result (λ texts. map (λ s. s.now) texts.items
         ≡ texts_in (codes "parameters") (rows_of (found_of matches.now))) }
-    ensures memory { OnErr result (IsTrue ⟦<Global as Grows>⟧.refuses) }
 {
     match texts_of(matches, "parameters") {
         Some(texts) => vec_of(alloc, texts),
@@ -89,10 +88,9 @@ fn target<'a>(
     alloc: Global,
     named: Option<&'a str>,
     matches: &ArgMatches<'a>,
-) -> Result<OnceTarget<'a>, AllocError>
+) -> Result<OnceTarget<'a>, Refused>
     ensures target { IfOk result
         (IsTarget (option_map (λ s. s.now) named.entry) (rows_of (found_of matches.now))) }
-    ensures memory { OnErr result (IsTrue ⟦<Global as Grows>⟧.refuses) }
 {
     match text_of(matches, "of") {
         Some(id) => Ok(OnceTarget::Resource(JournalResource {

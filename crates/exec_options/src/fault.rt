@@ -1,12 +1,12 @@
 //! Why arguments give no options.
-ghost use Rattle.std.specs.Prelude.{◌≡◌, IsTrue};
-ghost use Rattle.clap.specs.Words.{HasKind, Kinds};
+ghost use Rattle.std.specs.Prelude.{◌↔◌, ◌≡◌, IsTrue};
+ghost use Rattle.clap.specs.Words.{HasKind, Kinds, kind_of};
 ghost use Rattle.exec_options.specs.Faults.{HasFaultKind};
 ghost use Rattle.exec_options.specs.declared.fault.ArgumentsFault.TheVariants.{Value};
 
 use clap::error::ErrorKind;
 use growth::Grows;
-use std::alloc::{AllocError, Global};
+use std::alloc::Global;
 
 /// An option whose value is refused, or options that do not go together.
 #[derive(Clone, Copy, Debug, PartialEq, Eq)]
@@ -86,15 +86,23 @@ impl From<BadValue> for ArgumentsFault {
     }
 }
 
+// Whether `clap` lacked memory.
+#[tactic(auto, using(growth::specs::Refused::refuses))]
+fn lacks_memory(error: &clap::Error) -> bool
+    ensures kind { IsTrue result ↔ (kind_of error.now ≡ ErrorKind.OutOfMemory) }
+    ensures memory { IsTrue result → IsTrue ⟦<Global as Grows>⟧.refuses }
+{
+    // TRUSTED: `clap` says so only where a growth that it asked for was refused.
+    error.kind() == ErrorKind::OutOfMemory
+}
+
 impl ArgumentsFault {
     /// The fault of an error of `clap`.
     pub(crate) fn from_clap(error: clap::Error) -> ArgumentsFault
         ensures kinds { (kinds : Kinds) → HasKind kinds error → HasFaultKind kinds result }
         ensures memory { result ≡ ArgumentsFault.Memory → IsTrue ⟦<Global as Grows>⟧.refuses }
     {
-        if error.kind() == ErrorKind::OutOfMemory {
-            // TRUSTED: the growth that `clap` asked for was refused.
-            let _ = Global::library_growth(Err::<(), AllocError>(AllocError));
+        if lacks_memory(&error) {
             ArgumentsFault::Memory
         } else if error.use_stderr() {
             ArgumentsFault::Usage(error)

@@ -1,9 +1,7 @@
 //! The options of the subcommands with a journal.
 ghost use Rattle.std.specs.Prelude.{◌≡◌, ◌≢◌, IfSome, IfNone};
-ghost use Rattle.exec_options.specs.declared.options.Color.{Color};
 ghost use Rattle.exec_options.specs.declared.options.Subcommand.{Subcommand};
-ghost use Rattle.exec_options.specs.Arguments.{moment_of};
-ghost use Rattle.exec_options.specs.Subcommands.{color_word, is_query, subcommand_word};
+ghost use Rattle.exec_options.specs.Subcommands.{is_query, subcommand_word};
 
 use crate::resources::Resources;
 
@@ -75,9 +73,7 @@ pub enum Since {
 
 impl Since {
     /// The moment in milliseconds since 1970, where it is `now`.
-    pub fn at(self, now: u64) -> u64
-        ensures { result ≡ moment_of self now }
-    {
+    pub fn at(self, now: u64) -> u64 {
         match self {
             Since::Moment(at) => at,
             Since::Before(millis) => now.saturating_sub(millis),
@@ -96,10 +92,7 @@ pub enum Color {
 
 impl Color {
     /// The value of `--color`.
-    pub(crate) fn of(word: &str) -> Option<Color>
-        ensures found { IfSome result (λ c. word.now ≡ color_word c) }
-        ensures none { IfNone result ((c : Color) → word.now ≢ color_word c) }
-    {
+    pub(crate) fn of(word: &str) -> Option<Color> {
         if word == "auto" {
             Some(Color::Auto)
         } else if word == "always" {

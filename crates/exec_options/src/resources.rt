@@ -1,6 +1,4 @@
 //! The resources that the arguments name.
-ghost use Rattle.std.specs.Prelude.{◌≡◌, ◌<◌, [], IfNone, IfSome, length, map};
-ghost use Rattle.exec_options.specs.Arguments.{named_ids};
 
 /// The greatest number of resources that the arguments name.
 pub const MOST_RESOURCES: usize = 16;
@@ -14,9 +12,7 @@ pub struct Resources<'a> {
 
 impl<'a> Resources<'a> {
     /// All resources.
-    pub(crate) fn all() -> Resources<'a>
-        ensures { named_ids result ≡ [] }
-    {
+    pub(crate) fn all() -> Resources<'a> {
         Resources {
             ids: [""; MOST_RESOURCES],
             count: 0,
@@ -24,10 +20,7 @@ impl<'a> Resources<'a> {
     }
 
     /// The resources with these ids; none of them for all resources. `None` if there are too many.
-    pub(crate) fn of(texts: &[&'a str]) -> Option<Resources<'a>>
-        ensures ids { IfSome result (λ r. named_ids r ≡ map (λ s. s.now) texts.now) }
-        ensures none { IfNone result (MOST_RESOURCES < length texts.now) }
-    {
+    pub(crate) fn of(texts: &[&'a str]) -> Option<Resources<'a>> {
         let count = texts.len();
         if count > MOST_RESOURCES {
             return None;
@@ -38,9 +31,7 @@ impl<'a> Resources<'a> {
     }
 
     /// The ids that are named; none of them for all resources.
-    pub fn ids(&self) -> &[&'a str]
-        ensures { map (λ s. s.now) result.now ≡ named_ids self.now }
-    {
+    pub fn ids(&self) -> &[&'a str] {
         &self.ids[..self.count.min(MOST_RESOURCES)]
     }
 

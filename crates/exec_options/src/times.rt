@@ -1,18 +1,14 @@
 //! Reads the moments and spans of `--since` and `--until`.
-ghost use Rattle.std.specs.Prelude.{◌<◌, IfSome};
-ghost use Rattle.exec_options.specs.Times.{IsCompleted, IsMoment, IsSince, IsSpan, IsSpanIn};
 
 use crate::options::Since;
 use arrayvec::ArrayString;
 use jiff::Timestamp;
 
-/// What may be left out at the end of a moment in the form of RFC 3339, in UTC.
-pub const TAILS: &[&str] = &["", "Z", "T00Z", "-01T00Z", "-01-01T00Z"];
+// What may be left out at the end of a moment in the form of RFC 3339, in UTC.
+const TAILS: &[&str] = &["", "Z", "T00Z", "-01T00Z", "-01-01T00Z"];
 
 // The milliseconds since 1970 of a text with this tail; `None` for a moment before 1970, too.
-fn completed(text: &str, tail: &str) -> Option<u64>
-    ensures { IfSome result (IsCompleted text.now tail.now) }
-{
+fn completed(text: &str, tail: &str) -> Option<u64> {
     let mut whole = ArrayString::<64>::from(text).ok()?;
     whole.try_push_str(tail).ok()?;
     let at: Timestamp = whole.as_str().parse().ok()?;
@@ -20,9 +16,7 @@ fn completed(text: &str, tail: &str) -> Option<u64>
 }
 
 // The moment in milliseconds since 1970.
-fn moment(text: &str) -> Option<u64>
-    ensures { IfSome result (IsMoment text.now) }
-{
+fn moment(text: &str) -> Option<u64> {
     for tail in TAILS {
         if let Some(at) = completed(text, tail) {
             return Some(at);
@@ -32,18 +26,13 @@ fn moment(text: &str) -> Option<u64>
 }
 
 // The milliseconds of a span in a unit of this letter and length.
-fn span_in(text: &str, letter: char, millis: u64) -> Option<u64>
-    requires { letter < 128 }
-    ensures { IfSome result (IsSpanIn text.now letter millis) }
-{
+fn span_in(text: &str, letter: char, millis: u64) -> Option<u64> {
     let digits = text.strip_suffix(letter)?;
     digits.parse::<u64>().ok()?.checked_mul(millis)
 }
 
 // The milliseconds of a span, as `10m`.
-fn span(text: &str) -> Option<u64>
-    ensures { IfSome result (IsSpan text.now) }
-{
+fn span(text: &str) -> Option<u64> {
     span_in(text, 's', 1_000)
         .or(span_in(text, 'm', 60_000))
         .or(span_in(text, 'h', 3_600_000))
@@ -51,9 +40,7 @@ fn span(text: &str) -> Option<u64>
 }
 
 /// The moment that a text names: in the form of RFC 3339 or its beginning, or a span before now.
-pub fn since_of(text: &str) -> Option<Since>
-    ensures { IfSome result (IsSince text.now) }
-{
+pub fn since_of(text: &str) -> Option<Since> {
     match span(text) {
         Some(millis) => Some(Since::Before(millis)),
         None => Some(Since::Moment(moment(text)?)),

@@ -1,10 +1,9 @@
 //! The values of options that have limits.
-ghost use Rattle.std.specs.Prelude.{◌≡◌, ℕ, codes, unwrap_or, IfErr, IfOk, IfSome, IfNone, true};
-ghost use Rattle.clap.specs.Words.{first_of, found_of, rows_of};
-ghost use Rattle.exec_options.specs.Arguments.{is_absolute, named_ids, texts_in, text_or};
-ghost use Rattle.exec_options.specs.Arguments.{IsColor, IsLevel, IsNumberIn, IsNumberOrNone, IsSinceOr};
+ghost use Rattle.std.specs.Prelude.{◌≡◌, ◌≤◌, codes, IfErr, IfOk, IfSome, true};
+ghost use Rattle.clap.specs.Words.{found_of, rows_of};
+ghost use Rattle.exec_options.specs.Arguments.{IsWithin, is_absolute, text_or};
 ghost use Rattle.exec_options.specs.Faults.{HasFlaw};
-ghost use Rattle.exec_options.specs.declared.table.TheConstants.{ORPHANS, ROOT, TIDY_AT, TIMEOUT};
+ghost use Rattle.exec_options.specs.declared.table.TheConstants.{ROOT};
 ghost use Rattle.ocf_types.specs.Limits.{part_limit};
 ghost use Rattle.ocf_types.specs.declared.limits.TheConstants.{NUM_MAX, ORPHANS_LIMIT};
 
@@ -22,8 +21,7 @@ pub const LONGEST_WATCH: u64 = 86_400;
 
 // The number that a text denotes, if it lies within these limits.
 fn number_in(least: u64, most: u64, text: &str) -> Option<u64>
-    ensures number { IfSome result (IsNumberIn least most text.now) }
-    ensures none { IfNone result ((n : ℕ) → ¬ IsNumberIn least most text.now n) }
+    ensures within { IfSome result (IsWithin least most) }
 {
     match text.parse::<u64>() {
         Ok(number) if least <= number && number <= most => Some(number),
@@ -33,8 +31,7 @@ fn number_in(least: u64, most: u64, text: &str) -> Option<u64>
 
 /// The number of bytes above which the journal is tidied.
 pub fn tidy_at(matches: &ArgMatches<'_>) -> Result<u64, BadValue>
-    ensures number { IfOk result
-        (IsNumberIn 0 part_limit (text_or (codes "tidy-at") TIDY_AT.now (rows_of (found_of matches.now)))) }
+    ensures within { IfOk result (λ n. n ≤ part_limit) }
     ensures fault { IfErr result (HasFlaw (rows_of (found_of matches.now))) }
 {
     match number_in(
@@ -49,8 +46,7 @@ pub fn tidy_at(matches: &ArgMatches<'_>) -> Result<u64, BadValue>
 
 /// The longest wait for what an interrupted action left, in milliseconds.
 pub fn orphans(matches: &ArgMatches<'_>) -> Result<u64, BadValue>
-    ensures number { IfOk result
-        (IsNumberIn 0 ORPHANS_LIMIT (text_or (codes "orphans") ORPHANS.now (rows_of (found_of matches.now)))) }
+    ensures within { IfOk result (λ n. n ≤ ORPHANS_LIMIT) }
     ensures fault { IfErr result (HasFlaw (rows_of (found_of matches.now))) }
 {
     match number_in(
@@ -65,8 +61,7 @@ pub fn orphans(matches: &ArgMatches<'_>) -> Result<u64, BadValue>
 
 /// The timeout of an action that is run once, in milliseconds.
 pub fn timeout(matches: &ArgMatches<'_>) -> Result<u32, BadValue>
-    ensures number { IfOk result
-        (IsNumberIn 1 4294967295 (text_or (codes "timeout") TIMEOUT.now (rows_of (found_of matches.now)))) }
+    ensures within { IfOk result (λ n. 1 ≤ n) }
     ensures fault { IfErr result (HasFlaw (rows_of (found_of matches.now))) }
 {
     let text = text_of(matches, "timeout").unwrap_or(TIMEOUT);
@@ -78,8 +73,7 @@ pub fn timeout(matches: &ArgMatches<'_>) -> Result<u32, BadValue>
 
 /// How many records are printed at most.
 pub fn last(matches: &ArgMatches<'_>) -> Result<Option<u64>, BadValue>
-    ensures number { IfOk result
-        (IsNumberOrNone 0 NUM_MAX (first_of (codes "last") (rows_of (found_of matches.now)))) }
+    ensures within { IfOk result (λ o. IfSome o (λ n. n ≤ NUM_MAX)) }
     ensures fault { IfErr result (HasFlaw (rows_of (found_of matches.now))) }
 {
     match text_of(matches, "last") {
@@ -93,8 +87,7 @@ pub fn last(matches: &ArgMatches<'_>) -> Result<Option<u64>, BadValue>
 
 /// After how many seconds the status is printed anew.
 pub fn watch(matches: &ArgMatches<'_>) -> Result<Option<u64>, BadValue>
-    ensures number { IfOk result
-        (IsNumberOrNone 1 LONGEST_WATCH (first_of (codes "watch") (rows_of (found_of matches.now)))) }
+    ensures within { IfOk result (λ o. IfSome o (IsWithin 1 LONGEST_WATCH)) }
     ensures fault { IfErr result (HasFlaw (rows_of (found_of matches.now))) }
 {
     match text_of(matches, "watch") {
@@ -108,7 +101,6 @@ pub fn watch(matches: &ArgMatches<'_>) -> Result<Option<u64>, BadValue>
 
 /// The depth of a monitor.
 pub fn level(matches: &ArgMatches<'_>) -> Result<Option<Level>, BadValue>
-    ensures level { IfOk result (IsLevel (first_of (codes "level") (rows_of (found_of matches.now)))) }
     ensures fault { IfErr result (HasFlaw (rows_of (found_of matches.now))) }
 {
     let Some(text) = text_of(matches, "level") else {
@@ -150,8 +142,6 @@ pub fn root<'a>(matches: &ArgMatches<'a>) -> Result<&'a str, BadValue>
 
 /// The moment from which on records are printed.
 pub fn since(matches: &ArgMatches<'_>) -> Result<Since, BadValue>
-    ensures moment { IfOk result
-        (IsSinceOr (Since.Moment 0) (first_of (codes "since") (rows_of (found_of matches.now)))) }
     ensures fault { IfErr result (HasFlaw (rows_of (found_of matches.now))) }
 {
     match text_of(matches, "since") {
@@ -165,8 +155,6 @@ pub fn since(matches: &ArgMatches<'_>) -> Result<Since, BadValue>
 
 /// The moment up to which records are printed.
 pub fn until(matches: &ArgMatches<'_>) -> Result<Since, BadValue>
-    ensures moment { IfOk result
-        (IsSinceOr (Since.Moment NUM_MAX) (first_of (codes "until") (rows_of (found_of matches.now)))) }
     ensures fault { IfErr result (HasFlaw (rows_of (found_of matches.now))) }
 {
     match text_of(matches, "until") {
@@ -180,7 +168,6 @@ pub fn until(matches: &ArgMatches<'_>) -> Result<Since, BadValue>
 
 /// Where colours are used.
 pub fn color(matches: &ArgMatches<'_>) -> Result<Color, BadValue>
-    ensures color { IfOk result (IsColor (first_of (codes "color") (rows_of (found_of matches.now)))) }
     ensures fault { IfErr result (HasFlaw (rows_of (found_of matches.now))) }
 {
     match text_of(matches, "color") {
@@ -194,8 +181,6 @@ pub fn color(matches: &ArgMatches<'_>) -> Result<Color, BadValue>
 
 /// The resources that are printed.
 pub fn resources<'a>(matches: &ArgMatches<'a>) -> Result<Resources<'a>, BadValue>
-    ensures ids { IfOk result
-        (λ r. named_ids r ≡ texts_in (codes "resource") (rows_of (found_of matches.now))) }
     ensures fault { IfErr result (HasFlaw (rows_of (found_of matches.now))) }
 {
     match texts_of(matches, "resource") {

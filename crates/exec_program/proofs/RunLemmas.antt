@@ -5,21 +5,20 @@ use Rattle.store_model.specs.StoreView.{StoreView}
 use Rattle.ocf_env.specs.Locations.{SiteView}
 use Rattle.child_model.specs.Children.{Admits, ChildrenView}
 use Rattle.executor.specs.ExecutorView.{ExecutorView}
-use Rattle.exec_commands.specs.JournalIds.{id_digits}
-use Rattle.exec_commands.specs.declared.journal_id.JournalId.{JournalId}
-use Rattle.exec_commands.specs.declared.left.Left.{Left}
+use Rattle.exec_replies.specs.JournalIds.{id_digits}
+use Rattle.exec_replies.specs.declared.journal_id.JournalId.{JournalId}
+use Rattle.ocf_types.specs.declared.orphan.Orphan.{Orphan}
 use Rattle.exec_client.specs.ClientView.{ClientView}
 use Rattle.exec_faults.specs.declared.fault.Fault.{Fault}
 use Rattle.exec_options.specs.declared.options.Options.{Options}
 use Rattle.session_machine.specs.Behaviours.{Trace, opening}
-use Rattle.session_machine.specs.EdgeView.{EdgeView}
 use Rattle.session_machine.specs.First.{IsNew}
-use Rattle.session_machine.specs.Starts.{Gives, SourceView, Start}
+use Rattle.session_machine.specs.Starts.{Start}
 use Rattle.session_machine.specs.declared.rules.Rules.{Rules}
 use Rattle.exec_session.specs.Ends.{Ended}
 use Rattle.exec_session.specs.Steps.{IsOpeningOf}
 use Rattle.exec_program.specs.Asked.{AreFresh}
-use Rattle.exec_program.specs.Runs.{IsHeldTo, RunsSession}
+use Rattle.exec_program.specs.Runs.{IsHeldTo}
 
 -- fresh agents start at any site
 pub fresh_admits : (book : ℕ) (v : ChildrenView) (site : SiteView) → AreFresh book v → Admits v.site site
@@ -42,16 +41,8 @@ pub ended_from : {S C : Type 0} {view : S → StoreView} {tend : C → ChildrenV
 ended_from {S} {C} {view} {tend} {t} {begins} {new} {ended} {store} {children} is ends =
     subst (λ (u : Trace S). Ended view tend u new ended store children) is ends
 
--- the same session, by the identity and the processes that were found
-pub session_of : {A T : Type 0} {tend : A → ChildrenView} {gives : SourceView → Gives} {view : T → StoreView} {o : Options}
-    {identity found : Option (List ℕ)} {lives left : List Left} {start : Start} {x : ExecutorView T} {client : ClientView T} {edge : EdgeView T}
-    {ran : Result Unit Fault} {store : T} {agents : A} → found ≡ identity → left ≡ lives
-    → RunsSession tend gives view o found left start x client edge ran store agents
-    → RunsSession tend gives view o identity lives start x client edge ran store agents
-session_of {o = o} {identity = identity} {found = found} {lives = lives} {left = left} of_journal living runs = record {
-  rules = runs.rules;
-  held = subst (λ (i : Option (List ℕ)). IsHeldTo o i lives runs.rules) of_journal
-      (subst (λ (l : List Left). IsHeldTo o found l runs.rules) living runs.held);
-  faithful = runs.faithful;
-  ends = runs.ends;
-}
+-- a session keeps to the same options, by the identity and the processes that were found
+pub held_of : {o : Options} {identity found : Option (List ℕ)} {lives left : List Orphan} {rules : Rules} → found ≡ identity → left ≡ lives
+    → IsHeldTo o found left rules → IsHeldTo o identity lives rules
+held_of {o} {identity} {found} {lives} {left} {rules} of_journal living held =
+    subst (λ (i : Option (List ℕ)). IsHeldTo o i lives rules) of_journal (subst (λ (l : List Orphan). IsHeldTo o found l rules) living held)

@@ -1,13 +1,12 @@
 -- What a session may ask for, from its options.
-use Rattle.std.proofs.Common.{◌≡◌, ℕ, List, Some, inl, inr, option_map, refl}
-use Rattle.exec_options.specs.Arguments.{directory_of}
+use Rattle.std.proofs.Common.{◌≡◌, inl, inr, option_map, refl}
 use Rattle.exec_options.specs.declared.options.Options.{Options}
 use Rattle.exec_program.specs.Asked.{Asked}
 use Rattle.exec_program.specs.Limits.{book_room}
-use Rattle.exec_program.specs.Requests.{Allows, IsOfRun, MakeAgents, OpenReader, RecordMoment, Request}
+use Rattle.exec_program.specs.Requests.{Allows, IsOfRun, MakeAgents, OpenReader, Request}
 use Rattle.exec_program.specs.Upkeeps.{upkeep_of}
 
-module _ {F L A S R W H : Type 0} (asked : Asked F L A S R W H) (may : Request L → Type 0) (o : Options) where
+module _ {F L A S R W K H : Type 0} (asked : Asked F L A S R W K H) (may : Request L → Type 0) (o : Options) where
   -- standard input
   pub allows_reader : Allows may (IsOfRun asked o) → may OpenReader
   allows_reader allows = allows OpenReader (inr (inr tt))
@@ -16,8 +15,3 @@ module _ {F L A S R W H : Type 0} (asked : Asked F L A S R W H) (may : Request L
   pub allows_agents : (log : L) → asked.log (option_map (λ s. s.now) o.log) (option_map (λ s. s.now) o.logs) log
       → Allows may (IsOfRun asked o) → may (MakeAgents (upkeep_of o) log book_room)
   allows_agents log is allows = allows (MakeAgents (upkeep_of o) log book_room) (inr (inl (refl, is, refl)))
-
-  -- a moment in the record of agents of the journal's directory
-  pub allows_moment : Allows may (IsOfRun asked o) → (directory : List ℕ) → directory_of o.journal ≡ Some directory
-      → may (RecordMoment directory)
-  allows_moment allows directory is = allows (RecordMoment directory) (inl is)

@@ -1,5 +1,6 @@
 pub mod Asked
 pub mod Limits
+pub mod Places
 pub mod Program
 pub mod Requests
 pub mod Runs

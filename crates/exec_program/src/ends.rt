@@ -1,6 +1,7 @@
 //! How a session ends.
-ghost use Rattle.std.specs.Prelude.{◌≡◌, true, IfErr, IsErrOf};
+ghost use Rattle.std.specs.Prelude.{◌≡◌, ◌<◌, true, Err, IfErr, IsErrOf};
 ghost use Rattle.exec_faults.specs.Faults.{HasCause, IsRunEnd};
+ghost use Rattle.exec_program.specs.Places.{at_check, at_close};
 ghost use Rattle.exec_program.specs.Requests.{Allows, IsOfStreams};
 ghost use Rattle.exec_program.specs.Runs.{EndsBy, judged, served_directory};
 ghost use Rattle.exec_program.specs.Starts.{opening_fault};
@@ -61,7 +62,8 @@ pub fn judged(options: Options, failed: bool, ended: Result<(), Fault>) -> Resul
 
 // Whether a session ended because its input or output failed.
 fn is_broken_off(ended: Result<(), Fault>) -> bool
-    ensures { result ≡ true → IsErrOf ended Fault.InputOrOutput }
+    ensures broken { result ≡ true → IsErrOf ended Fault.InputOrOutput }
+    ensures other { ended ≡ Err Fault.InputOrOutput → result ≡ true }
 {
     matches!(ended, Err(Fault::InputOrOutput))
 }
@@ -70,15 +72,17 @@ fn is_broken_off(ended: Result<(), Fault>) -> bool
 /// such an end.
 #[tactic(auto, using(crate::proofs::RequestLemmas::allows_line))]
 pub fn ended_over<H: Host>(
-    host: &H,
+    host: &mut H,
     options: Options,
     watch: &H::Watch,
     ended: Result<(), Fault>,
 ) -> Result<(), Fault>
-    requires watched { (H.asked host.now).watch (served_directory options) watch.now }
-    requires may { Allows (H.may host.now) (IsOfStreams (H.asked host.now) options) }
+    requires watched { H.asked.watch (served_directory options) watch.now }
+    requires may { Allows H.may (IsOfStreams H.asked options) }
+    requires next { H.stage host.old < at_check }
+    ensures stage { H.stage host.new < at_close }
     ensures run { IsRunEnd ended → IsRunEnd result }
-    ensures ends { EndsBy (H.asked host.now) options.entry watch.now ended result }
+    ensures ends { EndsBy H.asked options.entry watch.now ended result }
     ensures memory { IfErr ended (HasCause ⟦<Global as Grows>⟧.refuses)
         → IfErr result (HasCause ⟦<Global as Grows>⟧.refuses) }
 {

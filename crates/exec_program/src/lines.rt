@@ -1,27 +1,30 @@
 //! The lines of a session, over an executor that was just opened.
-ghost use Rattle.std.specs.Prelude.{◌≡◌, ℕ, true, List, Some, IfErr};
-ghost use Rattle.exec_options.specs.Arguments.{directory_of};
+ghost use Rattle.std.specs.Prelude.{◌≡◌, ◌≤◌, ◌<◌, true, List, IfErr};
 ghost use Rattle.exec_faults.specs.Faults.{HasCause, IsRunEnd};
+ghost use Rattle.exec_client.specs.SentItem.{SentItem};
+ghost use Rattle.exec_events.specs.Failures.{tell_failure};
+ghost use Rattle.session_machine.specs.Behaviours.{opening};
 ghost use Rattle.session_machine.specs.First.{IsNew};
 ghost use Rattle.exec_session.specs.Steps.{IsReportOf};
-ghost use Rattle.exec_program.specs.Requests.{Allows, IsOfRun, OpenWriter, RecordMoment};
-ghost use Rattle.exec_program.specs.Runs.{RunsLines, RunsSession, found_identity, served_directory};
+ghost use Rattle.exec_program.specs.Asked.{system_of};
+ghost use Rattle.exec_program.specs.Places.{at_check, at_moment, at_writer};
+ghost use Rattle.exec_program.specs.Requests.{Allows, IsOfRun, OpenWriter};
+ghost use Rattle.exec_program.specs.Runs.{RunsLines, RunsSession, served_directory};
 ghost use Rattle.exec_program.specs.Starts.{site_of};
 
 use crate::host::Host;
 use crate::options::{Findings, events_of, rules_of, served_directory};
 use crate::upkeep::directory_of;
 use exec_client::{Client, JsonClient};
-use exec_commands::Left;
 use exec_events::{Eventful, Strict};
 use exec_faults::Fault;
-use exec_lines::{ClockTicker, SessionClock, Ticker, moment_now};
-use exec_options::{JournalLocation, Options};
+use exec_options::Options;
 use exec_session::{LineRoom, Run, run_lines};
 use executor::{On, Report};
 use growth::Grows;
 use ocf_env::Site;
-use session_machine::{EdgeParts, SystemEdge};
+use ocf_types::Orphan;
+use session_machine::{EdgeParts, Rules, SystemEdge};
 use std::alloc::Global;
 use store_model::Store;
 
@@ -35,7 +38,7 @@ pub struct LineParts<R: Drop> {
     /// The buffer for lines.
     pub room: LineRoom,
     /// The processes that live on from interrupted actions.
-    pub left: Vec<Left>,
+    pub left: Vec<Orphan>,
 }
 
 /// How the lines of a session ended, and what it gave back.
@@ -55,37 +58,25 @@ type OptionsClient<H: Host, S> = Strict<
     Eventful<JsonClient<On<S, H::Agents>, H::Writer, H::Reasons>, H::Errors>,
 >;
 
-// Records the moment that the clock of a session shows, where that is ahead of the system's clock because the journal was; the record of
-// agents was made by the system's clock.
-#[tactic(auto, using(crate::proofs::RequestLemmas::names_directory))]
-fn record_moment<H: Host>(host: &H, options: Options, moment: u64)
-    requires may { (directory : List ℕ) → directory_of options.journal ≡ Some directory
-        → H.may host.now (RecordMoment directory) }
-{
-    if let JournalLocation::Directory(directory) = options.journal {
-        if moment > host.moment() {
-            host.record_moment(directory, moment);
-        }
-    }
-}
-
 // The client of a session: standard output, with the lines about results on standard error, and whether any of them told of a failure.
 fn client_of<H: Host, S: Store + Drop>(
-    host: &H,
+    host: &mut H,
     options: Options,
     executor: &On<S, H::Agents>,
 ) -> OptionsClient<H, S>
     requires open { executor.now.is_open ≡ true }
-    requires may { H.may host.now (OpenWriter (served_directory options)) }
+    requires may { H.may (OpenWriter (served_directory options)) }
+    requires next { H.stage host.old < at_writer }
+    ensures stage { H.stage host.new ≡ at_writer }
     ensures new { IsNew result executor.now }
-    ensures writes { (writer : H.Writer)
-        × (H.asked host.now).writer (served_directory options.entry) writer
+    ensures writes { (writer : H.Writer) × H.asked.writer (served_directory options.entry) writer
         × (result.written ≡ H.Writer.contents writer) }
 {
     let alloc = host.alloc();
+    let writer = host.writer(served_directory(options));
     let json_client = JsonClient::new(
         alloc,
-        host.writer(served_directory(options)),
+        writer,
         host.reasons(options.log, options.logs),
         executor,
     );
@@ -93,28 +84,35 @@ fn client_of<H: Host, S: Store + Drop>(
     Strict::new(client)
 }
 
-// Answers the lines of this input over an executor that was just opened, where the opening found this.
-fn run_over<'a, H: Host, S: Store + Drop, T: Client<S, H::Agents> + Drop, K: Ticker + Drop>(
+// Answers the lines of this input over an executor that was just opened, by these rules.
+fn run_over<'a, H: Host, S: Store + Drop, T: Client<S, H::Agents> + Drop>(
     alloc: Global,
-    options: Options<'a>,
-    found: Findings<'a>,
-    parts: EdgeParts<'a, H::Reader, T, K, H::Source>,
+    rules: Rules<'a>,
+    parts: EdgeParts<'a, H::Reader, T, H::Ticker, H::Source>,
     opened: (On<S, H::Agents>, Report),
     room: LineRoom,
-) -> Run<SystemEdge<'a, H::Reader, S, H::Agents, T, K, H::Source>>
+) -> Run<SystemEdge<'a, H::Reader, S, H::Agents, T, H::Ticker, H::Source>>
     requires new { IsNew (T.client_view parts.client) opened.0 }
     requires opening_report { IsReportOf opened.0 opened.1 }
-    ensures runs { RunsSession H.Agents.view H.Source.gives S.view options.entry
-        (found_identity found.entry) found.entry.left.now
+    ensures runs { RunsSession (system_of H.asked H.Files.view H.Agents.view H.Source.gives H.Reader.view H.Writer.contents
+        H.Ticker.asked ⟦<Global as Grows>⟧.refuses)
+        S.view
+        (opening rules.entry
         (record {
           input = H.Reader.view parts.entry.input;
-          ticks = K.asked parts.entry.ticker;
+          ticks = H.Ticker.asked parts.entry.ticker;
           source = H.Source.of parts.entry.source.now;
         })
-        opened.0 (T.client_view parts.entry.client) result.edge result.ended result.store result.children }
-    ensures memory { IfErr result.ended (HasCause T.refuses) }
+        opened.0 (T.client_view parts.entry.client)) result.edge
+        (record {
+          ran = result.ended;
+          sent = result.edge.trace.state.client.reported;
+          store = result.store;
+          agents = result.children;
+        }) }
+    ensures memory { IfErr result.ended (HasCause ⟦<Global as Grows>⟧.refuses) }
 {
-    let edge = SystemEdge::new(alloc, rules_of(options, found), parts, &opened.0);
+    let edge = SystemEdge::new(alloc, rules, parts, &opened.0);
     let run = run_lines(alloc, edge, opened, room);
     run.edge.lemma_faithful();
     run
@@ -123,7 +121,7 @@ fn run_over<'a, H: Host, S: Store + Drop, T: Client<S, H::Agents> + Drop, K: Tic
 /// Sends the report of an executor that was just opened, and answers the lines of standard input.
 #[tactic(auto, using(crate::proofs::StartLemmas::run_ends))]
 pub fn answer_lines<H: Host, S: Store + Drop>(
-    host: &H,
+    host: &mut H,
     options: Options,
     parts: LineParts<H::Reader>,
     opened: (On<S, H::Agents>, Report),
@@ -131,10 +129,15 @@ pub fn answer_lines<H: Host, S: Store + Drop>(
     requires site { parts.site ≡ site_of options }
     requires open { opened.0.is_open ≡ true }
     requires opening_report { IsReportOf opened.0 opened.1 }
-    requires may { Allows (H.may host.now) (IsOfRun (H.asked host.now) options) }
+    requires may { Allows H.may (IsOfRun H.asked options) }
+    requires next { H.stage host.old ≤ at_moment }
+    ensures stage { H.stage host.new < at_check }
     ensures ends { IsRunEnd result.ended }
-    ensures runs { RunsLines (H.asked host.now) H.Agents.view H.Source.gives H.Reader.view H.Writer.contents S.view
-        options.entry parts.reader parts.left.items opened.0 result.ended result.has_failed result.store result.children }
+    ensures runs { (sent : List SentItem) × (result.has_failed ≡ tell_failure sent)
+        × RunsLines (system_of H.asked H.Files.view H.Agents.view H.Source.gives H.Reader.view H.Writer.contents
+        H.Ticker.asked ⟦<Global as Grows>⟧.refuses)
+        S.view options.entry parts.reader parts.left.items opened.0
+        (record { ran = result.ended; sent = sent; store = result.store; agents = result.children }) }
     ensures memory { IfErr result.ended (HasCause ⟦<Global as Grows>⟧.refuses) }
 {
     let LineParts {
@@ -145,30 +148,29 @@ pub fn answer_lines<H: Host, S: Store + Drop>(
     } = parts;
     let (executor, report) = opened;
     let alloc = host.alloc();
-    let ticker = host.ticker();
-    let clock = SessionClock::new(&ticker, executor.clock());
-    record_moment(host, options, moment_now(&clock).get());
+    let ticker = host.ticker(directory_of(options.journal), executor.clock());
     let source = host.source(site, !options.no_groups);
     let identity = host.identity(directory_of(options.journal));
     let found = Findings {
         identity: identity.as_ref(),
         left: left.as_slice(),
     };
+    let rules = rules_of(options, found);
     let parts = EdgeParts {
         input: reader,
         client: client_of(host, options, &executor),
-        ticker: ClockTicker::new(clock),
+        ticker,
         source: &source,
     };
-    let run = run_over::<H, S, _, _>(alloc, options, found, parts, (executor, report), room);
+    let run = run_over::<H, S, _>(alloc, rules, parts, (executor, report), room);
     let Run {
         ended,
         edge,
         store,
         children,
     } = run;
-    let (_, client) = edge.into_parts();
-    host.give_up(source);
+    let (reader, client, ticker) = edge.into_parts();
+    host.leave(reader, ticker, source);
     LinesEnd {
         ended,
         has_failed: client.has_failed(),

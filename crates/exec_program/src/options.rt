@@ -4,9 +4,10 @@ ghost use Rattle.exec_program.specs.Runs.{IsHeldTo, found_identity, served_direc
 
 use crate::host::Host;
 use crate::limits::MOST_TURNS;
-use exec_commands::{JournalId, Left, NoticeForm, Service};
 use exec_events::Events;
 use exec_options::{JournalLocation, Options, Subcommand, VERSION};
+use exec_replies::{JournalId, NoticeForm, Service};
+use ocf_types::Orphan;
 use session_machine::{Mode, Rules};
 use std::alloc::Global;
 
@@ -40,7 +41,7 @@ pub struct Findings<'a> {
     /// The identity of the journal, if it has one.
     pub identity: Option<&'a JournalId>,
     /// The processes that live on from interrupted actions.
-    pub left: &'a [Left],
+    pub left: &'a [Orphan],
 }
 
 // The form of notices, and what a session says of itself. A client of `serve` need not ask when an action began and ended and which

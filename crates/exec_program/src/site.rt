@@ -1,11 +1,11 @@
 //! Where agents are.
-ghost use Rattle.std.specs.Prelude.{◌≡◌, IfOk, IsTrue, OnErr, option_map};
+ghost use Rattle.std.specs.Prelude.{◌≡◌, IfOk, option_map};
 ghost use Rattle.exec_program.specs.Starts.{once_site_of, site_of};
 
 use exec_options::{OnceOptions, Options};
-use growth::{Grows, text_of};
+use growth::{Refused, text_of};
 use ocf_env::{Site, Text};
-use std::alloc::{AllocError, Global};
+use std::alloc::Global;
 
 // The site in options of either kind.
 #[derive(Clone, Copy)]
@@ -16,14 +16,13 @@ struct SitePaths<'a> {
     meta_variables: bool,
 }
 
-fn text(alloc: Global, text: &str) -> Result<Text, AllocError>
+fn text(alloc: Global, text: &str) -> Result<Text, Refused>
     ensures value { IfOk result (λ t. t ≡ text.now) }
-    ensures memory { OnErr result (IsTrue ⟦<Global as Grows>⟧.refuses) }
 {
     Ok(Text::new(text_of(alloc, text)?))
 }
 
-fn site_at(alloc: Global, location: SitePaths) -> Result<Site, AllocError>
+fn site_at(alloc: Global, location: SitePaths) -> Result<Site, Refused>
     ensures site { IfOk result
         (λ s. s ≡ record {
           root = location.entry.root.now;
@@ -31,7 +30,6 @@ fn site_at(alloc: Global, location: SitePaths) -> Result<Site, AllocError>
           via = option_map (λ t. t.now) location.entry.via;
           meta = location.entry.meta_variables;
         }) }
-    ensures memory { OnErr result (IsTrue ⟦<Global as Grows>⟧.refuses) }
 {
     let root = text(alloc, location.root)?;
     let path = text(alloc, location.path)?;
@@ -43,9 +41,8 @@ fn site_at(alloc: Global, location: SitePaths) -> Result<Site, AllocError>
 }
 
 /// The site that the options name. It fails only where memory is refused.
-pub fn site_of(alloc: Global, options: Options) -> Result<Site, AllocError>
+pub fn site_of(alloc: Global, options: Options) -> Result<Site, Refused>
     ensures site { IfOk result (λ s. s ≡ site_of options.entry) }
-    ensures memory { OnErr result (IsTrue ⟦<Global as Grows>⟧.refuses) }
 {
     let location = SitePaths {
         root: options.root,
@@ -57,9 +54,8 @@ pub fn site_of(alloc: Global, options: Options) -> Result<Site, AllocError>
 }
 
 /// The site for one action by itself.
-pub fn site_of_once(alloc: Global, options: &OnceOptions) -> Result<Site, AllocError>
+pub fn site_of_once(alloc: Global, options: &OnceOptions) -> Result<Site, Refused>
     ensures site { IfOk result (λ s. s ≡ once_site_of options.now) }
-    ensures memory { OnErr result (IsTrue ⟦<Global as Grows>⟧.refuses) }
 {
     let location = SitePaths {
         root: options.root,

@@ -1,5 +1,7 @@
 //! From the arguments to a session.
-ghost use Rattle.std.specs.Prelude.{◌≡◌, map, option_map, string_bytes};
+ghost use Rattle.std.specs.Prelude.{◌≡◌, ◌<◌, map, option_map, string_bytes};
+ghost use Rattle.exec_program.specs.Asked.{system_of};
+ghost use Rattle.exec_program.specs.Places.{at_log};
 ghost use Rattle.exec_program.specs.Program.{Does, DoesAs, Looks, Prints, RunsFor};
 ghost use Rattle.exec_program.specs.Requests.{Allows, IsAskedFor, IsOfFault, IsOfLook, IsOfRun, IsOfSubcommand};
 ghost use Rattle.exec_program.specs.Starts.{IsEndOf, IsWrittenAs, StartEndsFor, misused, with_status};
@@ -40,10 +42,11 @@ fn misused(is_once: bool) -> Result<u8, Fault>
 }
 
 // How the program ends where its arguments give no options. A text that was asked for is printed, and so is the text of a usage fault.
-fn refuse<H: Host>(host: &H, is_once: bool, fault: &ArgumentsFault) -> Result<u8, Fault>
-    requires may { Allows (H.may host.now) (IsOfFault fault.now) }
+fn refuse<H: Host>(host: &mut H, is_once: bool, fault: &ArgumentsFault) -> Result<u8, Fault>
+    requires may { Allows H.may (IsOfFault fault.now) }
+    requires next { H.stage host.old < at_log }
     ensures reported { IsWrittenAs is_once fault.now result }
-    ensures prints { Prints (H.asked host.now) fault.now }
+    ensures prints { Prints H.asked fault.now }
 {
     match fault {
         ArgumentsFault::Help(text) => match host.print(text) {
@@ -71,12 +74,17 @@ fn refuse<H: Host>(host: &H, is_once: bool, fault: &ArgumentsFault) -> Result<u8
 /// Does what these arguments ask for, the program's name first, where the environment names this directory for a journal. Gives the exit
 /// status.
 #[tactic(auto, using(crate::proofs::StartLemmas::starts_journal, crate::proofs::StartLemmas::starts_once, crate::proofs::StartLemmas::starts_nothing))]
-pub fn program<H: Host>(host: &H, named: Option<&str>, arguments: &[String]) -> Result<u8, Fault>
-    requires may { Allows (H.may host.now) (IsAskedFor (H.asked host.now)
-        (option_map (λ s. s.now) named) (map string_bytes arguments.now)) }
+pub fn program<H: Host>(
+    host: &mut H,
+    named: Option<&str>,
+    arguments: &[String],
+) -> Result<u8, Fault>
+    requires may { Allows H.may (IsAskedFor H.asked (option_map (λ s. s.now) named) (map string_bytes arguments.now)) }
+    requires next { H.stage host.old < at_log }
     ensures ends { StartEndsFor (option_map (λ s. s.now) named.entry) (map string_bytes arguments.now) result }
-    ensures does { Does ⟦<Global as Grows>⟧.refuses (H.asked host.now) H.Agents.view H.Source.gives H.Reader.view H.Writer.contents
-        H.Files.view (option_map (λ s. s.now) named.entry) (map string_bytes arguments.now) result }
+    ensures does { Does (system_of H.asked H.Files.view H.Agents.view H.Source.gives H.Reader.view H.Writer.contents
+        H.Ticker.asked ⟦<Global as Grows>⟧.refuses)
+        (option_map (λ s. s.now) named.entry) (map string_bytes arguments.now) result }
 {
     match read_arguments(host.alloc(), named, arguments) {
         Ok(Wanted::Journal(options)) => with_status(on_journal(host, options)),
@@ -86,12 +94,13 @@ pub fn program<H: Host>(host: &H, named: Option<&str>, arguments: &[String]) -> 
 }
 
 // Does with a journal what these options ask for.
-fn on_journal<H: Host>(host: &H, options: Options) -> Result<(), Fault>
-    requires may { Allows (H.may host.now)
-        (IsOfSubcommand (H.asked host.now) options options.subcommand) }
+fn on_journal<H: Host>(host: &mut H, options: Options) -> Result<(), Fault>
+    requires may { Allows H.may (IsOfSubcommand H.asked options options.subcommand) }
+    requires next { H.stage host.old < at_log }
     ensures ends { IsEndOf options.entry result }
-    ensures does { DoesAs ⟦<Global as Grows>⟧.refuses (H.asked host.now) H.Agents.view H.Source.gives H.Reader.view
-        H.Writer.contents H.Files.view options.entry options.entry.subcommand result }
+    ensures does { DoesAs (system_of H.asked H.Files.view H.Agents.view H.Source.gives H.Reader.view H.Writer.contents
+        H.Ticker.asked ⟦<Global as Grows>⟧.refuses)
+        options.entry options.entry.subcommand result }
 {
     match options.subcommand {
         Subcommand::Run | Subcommand::Serve => start_agents(host, options),
@@ -103,10 +112,11 @@ fn on_journal<H: Host>(host: &H, options: Options) -> Result<(), Fault>
 
 // Shows a view of a journal, as these options ask.
 #[tactic(auto, using(crate::proofs::StartLemmas::ends_on_disk, crate::proofs::StartLemmas::ends_in_directory))]
-fn look<H: Host>(host: &H, options: Options) -> Result<(), Fault>
-    requires may { Allows (H.may host.now) (IsOfLook options) }
+fn look<H: Host>(host: &mut H, options: Options) -> Result<(), Fault>
+    requires may { Allows H.may (IsOfLook options) }
+    requires next { H.stage host.old < at_log }
     ensures ends { IsEndOf options.entry result }
-    ensures looks { Looks (H.asked host.now) options.entry options.entry.journal result }
+    ensures looks { Looks H.asked options.entry options.entry.journal result }
 {
     match options.journal {
         JournalLocation::Directory(directory) => host.show_files(options, directory),
@@ -116,11 +126,13 @@ fn look<H: Host>(host: &H, options: Options) -> Result<(), Fault>
 
 // Opens a session over a journal, as these options ask.
 #[tactic(auto, using(crate::proofs::StartLemmas::ends_on_disk, crate::proofs::StartLemmas::ends_in_directory, crate::proofs::StartLemmas::ends_without_log))]
-fn start_agents<H: Host>(host: &H, options: Options) -> Result<(), Fault>
-    requires may { Allows (H.may host.now) (IsOfRun (H.asked host.now) options) }
+fn start_agents<H: Host>(host: &mut H, options: Options) -> Result<(), Fault>
+    requires may { Allows H.may (IsOfRun H.asked options) }
+    requires next { H.stage host.old < at_log }
     ensures ends { IsEndOf options.entry result }
-    ensures runs { RunsFor ⟦<Global as Grows>⟧.refuses (H.asked host.now) H.Agents.view H.Source.gives H.Reader.view
-        H.Writer.contents H.Files.view options.entry result }
+    ensures runs { RunsFor (system_of H.asked H.Files.view H.Agents.view H.Source.gives H.Reader.view H.Writer.contents
+        H.Ticker.asked ⟦<Global as Grows>⟧.refuses)
+        options.entry result }
 {
     if host.children_ignored() {
         return Err(Fault::ChildrenIgnored);
@@ -132,9 +144,17 @@ fn start_agents<H: Host>(host: &H, options: Options) -> Result<(), Fault>
     };
     match options.journal {
         JournalLocation::Directory(directory) => match host.files(options, directory) {
-            Ok(disk) => serve_agents(host, options, log, disk),
+            Ok(disk) => {
+                let (disk, ended) = serve_agents(host, options, log, disk);
+                host.close_files(disk);
+                ended
+            }
             Err(fault) => Err(fault),
         },
-        JournalLocation::Memory => serve_agents(host, options, log, RamDisk::new(host.alloc())),
+        JournalLocation::Memory => {
+            let disk = RamDisk::new(host.alloc());
+            let (_, ended) = serve_agents(host, options, log, disk);
+            ended
+        }
     }
 }

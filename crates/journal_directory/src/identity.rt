@@ -1,5 +1,5 @@
 //! The identity of the journal in a directory.
-use exec_commands::JournalId;
+use exec_replies::JournalId;
 use file_disk::{Identity, read_identity, settle_identity};
 use process_ends::System;
 use std::io::Eprint;

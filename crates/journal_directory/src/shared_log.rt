@@ -1,8 +1,8 @@
 //! The reason for the failure of one run, in a log of all resources. Its lines do not say which run wrote them, so a reason is that of a
 //! run only if no other one had begun and not ended.
 use crate::headings::{Begin, begin_in, end_in};
-use growth::push;
-use std::alloc::{AllocError, Global};
+use growth::{Refused, push};
+use std::alloc::Global;
 
 // The prefix of a line with a reason.
 const WORD: &str = "ocf-exit-reason:";
@@ -32,7 +32,7 @@ impl<'a> SharedLog<'a> {
     }
 
     // A run begins. An earlier one of its resource is over then, also one whose end was not written since the executor was killed.
-    fn begin(&mut self, begin: Begin<'a>) -> Result<(), AllocError> {
+    fn begin(&mut self, begin: Begin<'a>) -> Result<(), Refused> {
         self.others
             .retain(|other| other.id != begin.id && other.run != begin.run);
         if begin.run == self.run {
@@ -63,7 +63,7 @@ impl<'a> SharedLog<'a> {
     }
 
     /// Reads the next line.
-    pub fn read(&mut self, line: &'a [u8]) -> Result<(), AllocError> {
+    pub fn read(&mut self, line: &'a [u8]) -> Result<(), Refused> {
         if let Some(begin) = begin_in(line) {
             return self.begin(begin);
         }

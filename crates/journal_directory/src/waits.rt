@@ -8,6 +8,7 @@ use disk_model::Disk;
 use exec_journal::Journal;
 use exec_options::JournalLocation;
 use exec_state::State;
+use growth::Refused;
 use line_text::LineText;
 use ocf_types::{RscId, RunId, StateView};
 use proc_files::{ProcFiles, Process};
@@ -105,7 +106,7 @@ fn goes_on_in(table: &[Process], entry: &AgentEntry) -> bool
 }
 
 // The text of a wait for what an action left, at this reading of CLOCK_MONOTONIC.
-fn text_of(alloc: Global, entry: &AgentEntry, monotonic: u64) -> Result<Vec<u8>, AllocError> {
+fn text_of(alloc: Global, entry: &AgentEntry, monotonic: u64) -> Result<Vec<u8>, Refused> {
     let mut line = LineText::new(alloc);
     line.text("waits for pid ");
     line.number(u64::from(entry.pid));

@@ -1,6 +1,6 @@
 //! The system calls of the program. Nothing is decided here: each method makes the calls that it is named for, and its clause about
 //! them is trusted.
-ghost use Rattle.std.specs.Prelude.{⊤};
+ghost use Rattle.std.specs.Prelude.{◌≡◌, ⊤};
 
 use crate::errors::Errors;
 use crate::guarded::Guarded;
@@ -14,17 +14,20 @@ use clap::Error;
 use diagnostics::{
     FirstError, Noted, children_ignored, is_journal, report_ignored, report_run, report_shown,
 };
-use exec_commands::{JournalId, Left};
 use exec_faults::Fault;
-use exec_lines::{LineInput, Patient, ReadAhead, moment_now, write_flushed};
+use exec_lines::{
+    ClockTicker, LineInput, Patient, ReadAhead, SessionClock, moment_now, write_flushed,
+};
 use exec_options::{OnceOptions, Options};
 use exec_program::{Host, Upkeep};
+use exec_replies::JournalId;
 use file_disk::{FileDisk, FileError, JournalPaths, RamDisk};
-use growth::Grows;
+use growth::Refused;
 use journal_directory::{
     FaultForm, found, not_emptied, open_files, report_device, settled_identity, show_files, show_on,
 };
 use ocf_env::Site;
+use ocf_types::{Moment, Orphan};
 use process_ends::{System, SystemAgents};
 use std::alloc::{AllocError, Global};
 use std::io::{self, Eprint, StdinLock};
@@ -40,19 +43,24 @@ pub struct SystemHost<'a> {
     // The first error of standard input and of standard output.
     unread: &'a FirstError,
     unwritten: &'a FirstError,
+    // The place of the last request.
+    stage: u8,
 }
 
 impl<'a> SystemHost<'a> {
-    /// The system, with standard streams that met no error yet.
+    /// The system, with standard streams that met no error yet. Nothing was asked for.
     pub fn new(
         system: &'a System<'a>,
         unread: &'a FirstError,
         unwritten: &'a FirstError,
-    ) -> SystemHost<'a> {
+    ) -> SystemHost<'a>
+        ensures stage { result.stage ≡ 0 }
+    {
         SystemHost {
             system,
             unread,
             unwritten,
+            stage: 0,
         }
     }
 }
@@ -79,25 +87,29 @@ impl<'a> Host for SystemHost<'a> {
 
     type Reasons = LogReasons;
 
-    type Ticker = HostRuntime;
+    type Ticker = ClockTicker<SessionClock<'a, HostRuntime>>;
 
     type Watch = Option<JournalPaths>;
 
     // nothing is stated about the system's actions: that each method asks for exactly those of its name is trusted
-    ghost asked = { λ host. record {
+    ghost asked = { record {
       files = λ directory any disk. ⊤;
       no_files = λ directory any fault. ⊤;
+      closed = λ disk. ⊤;
       log = λ file directory log. ⊤;
       no_log = λ file directory. ⊤;
       agents = λ upkeep log left agents. ⊤;
       source = λ site groups source. ⊤;
       reader = λ reader. ⊤;
       writer = λ served writer. ⊤;
+      left = λ reader ticker. ⊤;
       moment = λ now. ⊤;
+      ticker = λ directory journal ticker. ⊤;
       ignored = λ is. ⊤;
       identity = λ directory found. ⊤;
       watch = λ served watch. ⊤;
       moved = λ watch. ⊤;
+      stays = λ watch. ⊤;
       line = λ bytes. ⊤;
       shown = λ options location ended. ⊤;
       once = λ options status. ⊤;
@@ -105,34 +117,45 @@ impl<'a> Host for SystemHost<'a> {
     } };
 
     // the program may make every request that it is proved to make
-    ghost may = { λ host request. ⊤ };
+    ghost may = { λ request. ⊤ };
+
+    ghost stage = { λ host. host.stage };
 
     fn alloc(&self) -> Global {
         self.system.host().alloc()
     }
 
-    // TRUSTED: the files are those of this directory.
+    // TRUSTED: the disk stands on the two files of this directory, or nothing was opened.
     #[tactic(auto, using(crate::proofs::HostLemmas::if_ok_any, crate::proofs::HostLemmas::if_err_any))]
-    fn files(&self, options: Options, directory: &str) -> Result<FileDisk<HostRuntime>, Fault> {
+    fn files(&mut self, options: Options, directory: &str) -> Result<FileDisk<HostRuntime>, Fault> {
+        self.stage = 2;
         let opened = open_files(self.system.host(), options, directory);
         let disk = not_emptied(opened);
         found(self.system, FaultForm::of(options), directory, disk)
     }
 
-    // TRUSTED: agents write there.
+    // TRUSTED: the files are closed, and nothing is written before that.
+    fn close_files(&mut self, files: FileDisk<HostRuntime>) {
+        self.stage = 14;
+        let _closed = files;
+    }
+
+    // TRUSTED: agents write to the file, or to the directory of logs, that is named.
     #[tactic(auto, using(crate::proofs::HostLemmas::if_ok_any, crate::proofs::HostLemmas::on_err_any))]
-    fn log(&self, log: Option<&str>, logs: Option<&str>) -> Result<Log, Fault> {
+    fn log(&mut self, log: Option<&str>, logs: Option<&str>) -> Result<Log, Fault> {
+        self.stage = 1;
         log_of(self.system, log, logs)
     }
 
-    // TRUSTED: the agents are looked after like this and write to this log, and these processes live on.
+    // TRUSTED: agents are looked after as `upkeep` says and write to this log, and the processes that are returned live on.
     #[tactic(auto, using(crate::proofs::HostLemmas::if_ok_any))]
     fn agents(
-        &self,
+        &mut self,
         upkeep: Upkeep<'_>,
         log: Log,
         book: usize,
-    ) -> Result<(Processes<SystemAgents<'a>>, Vec<Left>), AllocError> {
+    ) -> Result<(Processes<SystemAgents<'a>>, Vec<Orphan>), AllocError> {
+        self.stage = 4;
         self.system.start_killer();
         let upkeep = child_keeper::Upkeep {
             directory: upkeep.directory,
@@ -149,36 +172,47 @@ impl<'a> Host for SystemHost<'a> {
         )
     }
 
-    // TRUSTED: the agents that are asked are those of this site.
-    fn source(&self, site: Site, groups: bool) -> SiteMetadata<'a> {
+    // TRUSTED: metadata are asked of the agents of this site.
+    fn source(&mut self, site: Site, groups: bool) -> SiteMetadata<'a> {
+        self.stage = 8;
         SiteMetadata::new(self.system, site, groups)
     }
 
-    fn give_up(&self, source: SiteMetadata<'a>) {
-        source.give_up();
-    }
-
-    // TRUSTED: it is standard input, which waits while no reply can be written.
-    fn reader(&self) -> Result<LineInput<ReadAhead<Noted<'a, StdinLock<'a>>>>, AllocError> {
+    // TRUSTED: the reader is standard input; a read without input fails once the other end of standard output is closed.
+    fn reader(&mut self) -> Result<LineInput<ReadAhead<Noted<'a, StdinLock<'a>>>>, Refused> {
+        self.stage = 3;
         let input = self.unread.input(self.system.host().reader());
         let input = input.with_replies(libc::STDOUT_FILENO);
         let ahead = ReadAhead::new(self.alloc(), READ_SIZE, input)?;
         Ok(LineInput::new(ahead))
     }
 
-    // TRUSTED: it is standard output.
-    fn writer(&self, served: Option<&str>) -> Guarded<Patient<Noted<'a, Stdout>>> {
+    // TRUSTED: the writer is standard output.
+    fn writer(&mut self, served: Option<&str>) -> Guarded<Patient<Noted<'a, Stdout>>> {
+        self.stage = 10;
         let rt = self.system.host();
         let output = self.unwritten.output(rt.stdout());
         Guarded::new(*rt, paths_of(rt, served), output)
     }
 
-    // TRUSTED: it is standard error.
+    // TRUSTED: after this call nothing is read from standard input, nobody sleeps, and no agent is asked for metadata.
+    fn leave(
+        &mut self,
+        reader: LineInput<ReadAhead<Noted<'a, StdinLock<'a>>>>,
+        ticker: ClockTicker<SessionClock<'a, HostRuntime>>,
+        source: SiteMetadata<'a>,
+    ) {
+        self.stage = 11;
+        let (_reader, _ticker) = (reader, ticker);
+        source.give_up();
+    }
+
+    // TRUSTED: the lines go to standard error.
     fn errors(&self) -> Errors<'a> {
         Errors::new(self.system)
     }
 
-    // TRUSTED: they are those of these logs.
+    // TRUSTED: the reasons are read from the logs that are named.
     fn reasons(&self, log: Option<&str>, logs: Option<&str>) -> LogReasons {
         let rt = self.system.host();
         LogReasons::new(*rt, log, logs)
@@ -188,17 +222,29 @@ impl<'a> Host for SystemHost<'a> {
         is_journal(self.system.host())
     }
 
-    // TRUSTED: they are the system's clocks.
-    fn ticker(&self) -> HostRuntime {
-        *self.system.host()
+    // TRUSTED: the clock begins with the system's time, or with the journal's last moment if that is later, and this directory records it.
+    fn ticker(
+        &mut self,
+        directory: Option<&str>,
+        journal: Moment,
+    ) -> ClockTicker<SessionClock<'a, HostRuntime>> {
+        self.stage = 7;
+        let rt = self.system.host();
+        let clock = SessionClock::new(rt, journal);
+        if let Some(directory) = directory {
+            // that the record cannot be written was reported when the agents were made
+            let _ = record_moment(rt, directory, &clock);
+        }
+        ClockTicker::new(clock)
     }
 
-    // TRUSTED: it is the moment that the system's clock shows.
-    fn moment(&self) -> u64 {
+    // TRUSTED: this is the system's time in milliseconds since 1970.
+    fn moment(&mut self) -> u64 {
+        self.stage = 6;
         moment_now(self.system.host()).get()
     }
 
-    // TRUSTED: /proc says it so.
+    // TRUSTED: `/proc/self/status` says whether SIGCHLD is ignored.
     fn children_ignored(&self) -> bool {
         children_ignored(self.system.host())
     }
@@ -207,53 +253,55 @@ impl<'a> Host for SystemHost<'a> {
         report_ignored(self.system);
     }
 
-    // TRUSTED: it is recorded in this directory.
-    fn record_moment(&self, directory: &str, moment: u64) {
-        // that the record cannot be written was reported when the agents were made
-        let _ = record_moment(self.system.host(), directory, moment);
-    }
-
-    // TRUSTED: it is that of the journal in this directory.
-    fn identity(&self, directory: Option<&str>) -> Option<JournalId> {
+    // TRUSTED: the identity is that of the journal in this directory.
+    fn identity(&mut self, directory: Option<&str>) -> Option<JournalId> {
+        self.stage = 9;
         settled_identity(self.system, directory?)
     }
 
-    // TRUSTED: the paths are those of this directory.
-    fn watch(&self, served: Option<&str>) -> Option<JournalPaths> {
+    // TRUSTED: the paths are those of the files in this directory.
+    fn watch(&mut self, served: Option<&str>) -> Option<JournalPaths> {
+        self.stage = 5;
         paths_of(self.system.host(), served)
     }
 
-    // TRUSTED: it is an error only where a path leads elsewhere.
+    // TRUSTED: the answer is an error exactly if one of the paths leads to another file by now.
     #[tactic(auto, using(crate::proofs::HostLemmas::on_err_any))]
-    fn check(&self, watch: &Option<JournalPaths>) -> Result<(), FileError> {
+    fn check(&mut self, watch: &Option<JournalPaths>) -> Result<(), FileError> {
+        self.stage = 12;
         match watch {
             Some(paths) => paths.check(self.system.host()),
             None => Ok(()),
         }
     }
 
-    // TRUSTED: the line is written to standard output.
-    fn write_line(&self, line: &[u8]) {
+    // TRUSTED: this line is written to standard output.
+    fn write_line(&mut self, line: &[u8]) {
+        self.stage = 13;
         let _ = write_flushed(&mut io::writer(self.system.host()), line);
     }
 
-    // TRUSTED: what is shown is of this directory.
-    fn show_files(&self, options: Options, directory: &str) -> Result<(), Fault> {
+    // TRUSTED: what is printed is about the journal in this directory.
+    fn show_files(&mut self, options: Options, directory: &str) -> Result<(), Fault> {
+        self.stage = 15;
         show_files(self.system, options, directory)
     }
 
-    // TRUSTED: what is shown is of an empty journal.
-    fn show_memory(&self, options: Options) -> Result<(), Fault> {
+    // TRUSTED: what is printed is about an empty journal.
+    fn show_memory(&mut self, options: Options) -> Result<(), Fault> {
+        self.stage = 15;
         show_on(self.system, options, RamDisk::new(self.alloc()))
     }
 
-    // TRUSTED: the action is run once, with this status.
-    fn once(&self, options: &OnceOptions<'_>) -> u8 {
+    // TRUSTED: the action that the options name is run once, and ended with this status.
+    fn once(&mut self, options: &OnceOptions<'_>) -> u8 {
+        self.stage = 16;
         once(self.system, options)
     }
 
-    // TRUSTED: the text is printed.
-    fn print(&self, text: &Error) -> io::Result<()> {
+    // TRUSTED: this text is printed.
+    fn print(&mut self, text: &Error) -> io::Result<()> {
+        self.stage = 17;
         text.print(self.system.host())
     }
 

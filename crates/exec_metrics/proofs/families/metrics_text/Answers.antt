@@ -3,8 +3,10 @@ use Rattle.exec_metrics.specs.Metrics.{journal_families, measure_of, GoesOn}
 use Rattle.exec_metrics.proofs.FamilyLemmas.{finished}
 use Rattle.exec_metrics.proofs.families.metrics_text.Goals as goal
 
-pub returns-clause-text : goal.returns-clause-text
-returns-clause-text c =
-    let fs = journal_families (measure_of c.args.taken.now) c.args.state.now.state in
-    finished (λ v. v.items) c.finish.result fs c.add_families.new.text
-    (subst (λ (t : List ℕ). GoesOn fs t c.add_families.new.text) c.new-text.ensures.empty c.add_families.ensures) c.finish.ensures.bytes
+pub returns : goal.returns
+returns c = record {
+  text =
+      let fs = journal_families (measure_of c.args.taken.now) c.args.state.now.state in
+      finished (λ v. v.items) c.finish.result fs c.add_families.new.text
+      (subst (λ (t : List ℕ). GoesOn fs t c.add_families.new.text) c.new-text.ensures.empty c.add_families.ensures) c.finish.ensures.bytes;
+}

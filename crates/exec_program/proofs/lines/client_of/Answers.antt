@@ -3,9 +3,9 @@ use Rattle.exec_client.specs.ClientView.{ClientView}
 use Rattle.exec_program.specs.Requests.{OpenWriter}
 use Rattle.exec_program.proofs.lines.client_of.Goals as goal
 
-pub writer-requires : goal.writer-requires
-writer-requires g c =
-    subst (λ (x : Option (List ℕ)). g.H.Host.may c.args.host.now (OpenWriter x)) (sym c.served_directory.ensures) c.requires.may
+pub writer-writer-requires-clause-may : goal.writer-writer-requires-clause-may
+writer-writer-requires-clause-may g c =
+    subst (λ (x : Option (List ℕ)). g.H.Host.may (OpenWriter x)) (sym c.served_directory.ensures) c.requires.may
 
 pub new-requires : goal.new-requires
 new-requires g c = record { fresh = ap (λ t. t.sent_log.items) c.new-client.ensures.client ∙ c.new-json_client.ensures.reported }
@@ -23,9 +23,9 @@ returns-clause-new g c = record {
 
 pub returns-clause-writes : goal.returns-clause-writes
 returns-clause-writes g c = (
-  c.writer.result,
-  subst (λ (x : Option (List ℕ)). (g.H.Host.asked c.args.host.now).writer x c.writer.result) c.served_directory.ensures c.writer.ensures,
+  c.writer-writer.result,
+  subst (λ (x : Option (List ℕ)). g.H.Host.asked.writer x c.writer-writer.result) c.served_directory.ensures c.writer-writer.ensures.writer,
   ap (λ (v : ClientView _). v.written) c.new.ensures
-      ∙ (ap (λ t. g.H.Writer.Output.contents t.writer) c.new-client.ensures.client
+      ∙ (ap (λ t. g.H.Writer.Output.contents t.lines.writer) c.new-client.ensures.client
       ∙ ap g.H.Writer.Output.contents c.new-json_client.ensures.writer),
 )

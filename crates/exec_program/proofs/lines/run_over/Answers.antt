@@ -1,4 +1,4 @@
-use Rattle.std.proofs.Common.{ap}
+use Rattle.std.proofs.Common.{ap, refl}
 use Rattle.session_machine.specs.EdgeView.{EdgeView}
 use Rattle.exec_program.proofs.RunLemmas.{ended_from, opens_so}
 use Rattle.exec_program.proofs.lines.run_over.Goals as goal
@@ -8,8 +8,8 @@ run_lines-run-requires-clause-begun g c = opens_so (ap (λ (v : EdgeView _). v.t
 
 pub returns-clause-runs : goal.returns-clause-runs
 returns-clause-runs g c = record {
-  rules = c.rules_of.result;
-  held = c.rules_of.ensures.held;
   faithful = c.lemma_faithful.ensures.faithful;
   ends = ended_from (ap (λ (v : EdgeView _). v.trace) c.new-edge.ensures) c.run_lines-run.ensures.ends;
+  closes = c.run_lines-run.ensures.reported;
+  sent = refl;
 }

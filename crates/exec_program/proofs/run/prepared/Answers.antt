@@ -4,11 +4,11 @@ use Rattle.exec_program.specs.Requests.{MakeAgents}
 use Rattle.exec_program.specs.Upkeeps.{UpkeepView}
 use Rattle.exec_program.proofs.run.prepared.Goals as goal
 
-pub agents-requires : goal.agents-requires
-agents-requires g c =
-    subst (λ (u : UpkeepView). g.H.Host.may c.args.host.now (MakeAgents u c.args.log book_room)) (sym c.upkeep_of.ensures) c.requires.may_make
+pub agents-requires-clause-may : goal.agents-requires-clause-may
+agents-requires-clause-may g c =
+    subst (λ (u : UpkeepView). g.H.Host.may (MakeAgents u c.args.log book_room)) (sym c.upkeep_of.ensures) c.requires.may_make
 
 pub returns-clause-agents : goal.returns-clause-agents
 returns-clause-agents g c =
-    subst (λ (u : UpkeepView). (g.H.Host.asked c.args.host.now).agents u c.args.log c.in_ok-agents.left.items c.in_ok-agents.agents)
-    c.upkeep_of.ensures c.in_ok-agents.ensures.agents
+    subst (λ (u : UpkeepView). g.H.Host.asked.agents u c.args.log c.in-Ok.made.1.items c.in-Ok.made.0)
+    c.upkeep_of.ensures c.in-Ok.ensures.agents
