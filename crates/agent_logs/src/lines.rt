@@ -1,12 +1,11 @@
 //! The lines around an agent's own output.
-ghost use Rattle.std.specs.Prelude.{IsTrue, OnErr};
 
-use growth::Grows;
+use growth::Refused;
 use line_text::LineText;
 use log_lines::add_moment;
 use ocf_codes::{name, read_code};
 use ocf_types::{CallId, Millis, Moment, RscId, RunId, StartFault};
-use std::alloc::{AllocError, Global};
+use std::alloc::Global;
 
 /// The beginning of a line: when it was written and, in a log of all resources, the id.
 #[derive(Clone, Copy)]
@@ -88,13 +87,7 @@ fn add_task(line: &mut LineText, begun: &Begun<'_>) {
 }
 
 /// The line that is written before an agent's own output.
-pub fn begun_line(
-    alloc: Global,
-    stamp: &Stamp<'_>,
-    begun: &Begun<'_>,
-) -> Result<Vec<u8>, AllocError>
-    ensures memory { OnErr result (IsTrue ⟦<Global as Grows>⟧.refuses) }
-{
+pub fn begun_line(alloc: Global, stamp: &Stamp<'_>, begun: &Begun<'_>) -> Result<Vec<u8>, Refused> {
     let mut line = LineText::new(alloc);
     add_stamp(&mut line, stamp);
     add_call(&mut line, begun.call);
@@ -142,9 +135,7 @@ fn add_end(line: &mut LineText, end: LoggedEnd, millis: u64) {
 }
 
 /// The line that is written after an agent's own output.
-pub fn ended_line(alloc: Global, stamp: &Stamp<'_>, ended: Ended) -> Result<Vec<u8>, AllocError>
-    ensures memory { OnErr result (IsTrue ⟦<Global as Grows>⟧.refuses) }
-{
+pub fn ended_line(alloc: Global, stamp: &Stamp<'_>, ended: Ended) -> Result<Vec<u8>, Refused> {
     let mut line = LineText::new(alloc);
     add_stamp(&mut line, stamp);
     add_run(&mut line, ended.run);

@@ -15,11 +15,11 @@ use crate::asking::{ask_agent, end_one};
 use crate::meta_output::{MetaOutput, Progress};
 use agent_system::{AgentSystem, How, Leading, Waited, Whose, end_of, name_text, refused};
 use child_model::Poll;
-use growth::Grows;
+use growth::{Grows, Refused};
 use ocf_env::{Invocation, Site, launch_meta};
 use ocf_types::{AgentType, MetaFault, Provider, RscId, RunId, StartFault};
 use process_ends::{Deadline, Pauses};
-use std::alloc::{AllocError, Allocator};
+use std::alloc::Allocator;
 use std::io::{self, Eprint, Read};
 use std::process::{ExitStatus, Stdio};
 use std::rt::Clock;
@@ -56,10 +56,9 @@ pub struct MetaCall<'a, S: Allocator> {
 fn invocation_of<A: Grows, S: Allocator>(
     alloc: A,
     call: &MetaCall<'_, S>,
-) -> Result<Invocation<A>, AllocError>
+) -> Result<Invocation<A>, Refused<A>>
     ensures call { IfOk result
         (IsMetaCall call.now.site.now call.now.provider.now call.now.agent.now) }
-    ensures memory { OnErr result (IsTrue A.refuses) }
 {
     launch_meta(alloc, call.site, call.provider, call.agent)
 }

@@ -1,12 +1,12 @@
 //! The output of an agent that is asked for its metadata.
-ghost use Rattle.std.specs.Prelude.{◌≡◌, ◌≤◌, ◌++◌, [], true, IfOk, IsTrue, OnErr, vec_len};
+ghost use Rattle.std.specs.Prelude.{◌≡◌, ◌≤◌, ◌++◌, [], true, IfOk, vec_len};
 ghost use Rattle.std.specs.Io.KnownBytes.{IsAtEnd};
 ghost use Rattle.ocf_types.specs.Limits.{metadata_limit};
 
 use agent_system::Waited;
-use growth::{Grows, with_capacity};
+use growth::{Grows, Refused, with_capacity};
 use ocf_types::METADATA_LIMIT;
-use std::alloc::{AllocError, Allocator};
+use std::alloc::Allocator;
 use std::io::{ErrorKind, Read};
 
 // How many bytes are read at once.
@@ -37,10 +37,9 @@ pub struct MetaOutput<A: Allocator> {
 
 impl<A: Grows> MetaOutput<A> {
     /// No bytes yet, with the capacity for [`METADATA_LIMIT`]. It fails only where memory is refused.
-    pub fn new(alloc: A) -> Result<MetaOutput<A>, AllocError>
+    pub fn new(alloc: A) -> Result<MetaOutput<A>, Refused<A>>
         ensures none { IfOk result (λ output. output.bytes.items ≡ []) }
         ensures whole { IfOk result (λ output. output.is_whole ≡ true) }
-        ensures memory { OnErr result (IsTrue A.refuses) }
     {
         Ok(MetaOutput {
             bytes: with_capacity(alloc, METADATA_LIMIT)?,

@@ -1,41 +1,37 @@
 //! The command that is spawned for an invocation.
-ghost use Rattle.std.specs.Prelude.{◌≡◌, ◌++◌, ◌∷◌, [], ℕ, List, IfOk, IsTrue, OnErr, OnOk, None, Some, bytes_eq, codes, if◌then◌else◌, true};
+ghost use Rattle.std.specs.Prelude.{◌≡◌, ◌++◌, ◌∷◌, [], ℕ, List, IfOk, OnOk, None, Some, bytes_eq, codes, if◌then◌else◌, true};
 ghost use Rattle.std.specs.Process.{SameDir, SameEnv, SameProgramAndArgs, clears_env, command_args, command_dir, command_program};
 ghost use Rattle.std.specs.Process.{command_var, var_after};
 ghost use Rattle.agent_system.specs.Commands.{Asks, AsksBy, leader_of};
 
 use crate::leading::Leading;
-use growth::Grows;
+use growth::{Refused, granted};
 use ocf_env::{Invocation, Text};
-use std::alloc::{AllocError, Allocator};
+use std::alloc::{Allocator, Global};
 use std::process::{Command, Stdio};
 
 // Each agent runs in this directory, so that it keeps no other from being unmounted.
 const DIRECTORY: &str = "/";
 
-fn push_argument<A: Grows>(command: &mut Command<A>, argument: &str) -> Result<(), AllocError>
+#[tactic(auto, using(growth::specs::Refused::refuses))]
+fn push_argument(command: &mut Command, argument: &str) -> Result<(), Refused>
     ensures program { OnOk result (command_program command.new ≡ command_program command.old) }
     ensures arguments { OnOk result (command_args command.new
         ≡ command_args command.old ++ argument.now ∷ []) }
     ensures environment { OnOk result (SameEnv command.old command.new) }
     ensures directory { OnOk result (SameDir command.old command.new) }
-    ensures memory { OnErr result (IsTrue A.refuses) }
 {
     // TRUSTED: a command allocates by itself, and fails only where that is refused.
-    A::library_growth(command.arg(argument))?;
+    granted(command.arg(argument))?;
     Ok(())
 }
 
-fn push_arguments<A: Grows, L: Allocator>(
-    command: &mut Command<A>,
-    arguments: &[Text<L>],
-) -> Result<(), AllocError>
+fn push_arguments<L: Allocator>(command: &mut Command, arguments: &[Text<L>]) -> Result<(), Refused>
     ensures program { OnOk result (command_program command.new ≡ command_program command.old) }
     ensures arguments { OnOk result (command_args command.new
         ≡ command_args command.old ++ arguments.now) }
     ensures environment { OnOk result (SameEnv command.old command.new) }
     ensures directory { OnOk result (SameDir command.old command.new) }
-    ensures memory { OnErr result (IsTrue A.refuses) }
 {
     for argument in arguments {
         push_argument(command, argument.as_str())?;
@@ -43,35 +39,30 @@ fn push_arguments<A: Grows, L: Allocator>(
     Ok(())
 }
 
-fn set_variable<A: Grows>(
-    command: &mut Command<A>,
-    name: &str,
-    value: &str,
-) -> Result<(), AllocError>
+#[tactic(auto, using(growth::specs::Refused::refuses))]
+fn set_variable(command: &mut Command, name: &str, value: &str) -> Result<(), Refused>
     ensures call { OnOk result (SameProgramAndArgs command.old command.new) }
     ensures variables { OnOk result ((k : List ℕ)
         → command_var command.new k
         ≡ (if bytes_eq name.now k then Some (Some value.now) else command_var command.old k)) }
     ensures cleared { OnOk result (clears_env command.new ≡ clears_env command.old) }
     ensures directory { OnOk result (SameDir command.old command.new) }
-    ensures memory { OnErr result (IsTrue A.refuses) }
 {
     // TRUSTED: a command allocates by itself, and fails only where that is refused.
-    A::library_growth(command.env(name, value))?;
+    granted(command.env(name, value))?;
     Ok(())
 }
 
-fn push_variables<A: Grows, L: Allocator>(
-    command: &mut Command<A>,
+fn push_variables<L: Allocator>(
+    command: &mut Command,
     variables: &[(Text<L>, Text<L>)],
-) -> Result<(), AllocError>
+) -> Result<(), Refused>
     ensures call { OnOk result (SameProgramAndArgs command.old command.new) }
     ensures variables { OnOk result ((name : List ℕ)
         → command_var command.new name
         ≡ var_after Some Some name (command_var command.old name) variables.now) }
     ensures cleared { OnOk result (clears_env command.new ≡ clears_env command.old) }
     ensures directory { OnOk result (SameDir command.old command.new) }
-    ensures memory { OnErr result (IsTrue A.refuses) }
 {
     for (name, value) in variables {
         set_variable(command, name.as_str(), value.as_str())?;
@@ -79,25 +70,43 @@ fn push_variables<A: Grows, L: Allocator>(
     Ok(())
 }
 
+#[tactic(auto, using(growth::specs::Refused::refuses))]
+fn new_command(alloc: Global, program: &str) -> Result<Command, Refused>
+    ensures program { IfOk result (λ c. command_program c ≡ program.now) }
+    ensures arguments { IfOk result (λ c. command_args c ≡ []) }
+    ensures variables { IfOk result (λ c. (name : List ℕ) → command_var c name ≡ None) }
+{
+    // TRUSTED: a command allocates by itself, and fails only where that is refused.
+    granted(Command::new(alloc, program))
+}
+
+#[tactic(auto, using(growth::specs::Refused::refuses))]
+fn set_directory(command: &mut Command) -> Result<(), Refused>
+    ensures call { OnOk result (SameProgramAndArgs command.old command.new) }
+    ensures environment { OnOk result (SameEnv command.old command.new) }
+    ensures directory { OnOk result (command_dir command.new ≡ Some (codes "/")) }
+{
+    // TRUSTED: a command allocates by itself, and fails only where that is refused.
+    granted(command.current_dir(DIRECTORY))?;
+    Ok(())
+}
+
 // A command with neither arguments nor variables.
-fn bare<A: Grows>(alloc: A, program: &str) -> Result<Command<A>, AllocError>
+fn bare(alloc: Global, program: &str) -> Result<Command, Refused>
     ensures program { IfOk result (λ c. command_program c ≡ program.now) }
     ensures arguments { IfOk result (λ c. command_args c ≡ []) }
     ensures variables { IfOk result (λ c. (name : List ℕ) → command_var c name ≡ None) }
     ensures cleared { IfOk result (λ c. clears_env c ≡ true) }
     ensures directory { IfOk result (λ c. command_dir c ≡ Some (codes "/")) }
-    ensures memory { OnErr result (IsTrue A.refuses) }
 {
-    // TRUSTED: a command allocates by itself, and fails only where that is refused.
-    let mut command = A::library_growth(Command::new(alloc, program))?;
+    let mut command = new_command(alloc, program)?;
     command.env_clear();
-    // TRUSTED: a command allocates by itself, and fails only where that is refused.
-    A::library_growth(command.current_dir(DIRECTORY))?;
+    set_directory(&mut command)?;
     Ok(command)
 }
 
 /// Sets where a command writes its standard output and its standard error.
-pub fn write_to<A: Grows>(command: &mut Command<A>, output: Stdio, errors: Stdio)
+pub fn write_to(command: &mut Command, output: Stdio, errors: Stdio)
     ensures call { SameProgramAndArgs command.old command.new }
     ensures environment { SameEnv command.old command.new }
     ensures directory { SameDir command.old command.new }
@@ -107,7 +116,7 @@ pub fn write_to<A: Grows>(command: &mut Command<A>, output: Stdio, errors: Stdio
 }
 
 // Connects the standard streams of a command to `/dev/null`.
-fn silence<A: Grows>(command: &mut Command<A>)
+fn silence(command: &mut Command)
     ensures call { SameProgramAndArgs command.old command.new }
     ensures environment { SameEnv command.old command.new }
     ensures directory { SameDir command.old command.new }
@@ -119,10 +128,7 @@ fn silence<A: Grows>(command: &mut Command<A>)
 
 // Completes a command with the arguments of an invocation, its variables and no others, and standard streams that are connected to
 // `/dev/null`.
-fn complete<A: Grows, L: Allocator>(
-    command: &mut Command<A>,
-    invocation: &Invocation<L>,
-) -> Result<(), AllocError>
+fn complete<L: Allocator>(command: &mut Command, invocation: &Invocation<L>) -> Result<(), Refused>
     ensures program { OnOk result (command_program command.new ≡ command_program command.old) }
     ensures arguments { OnOk result (command_args command.new
         ≡ command_args command.old ++ invocation.now.arguments) }
@@ -131,7 +137,6 @@ fn complete<A: Grows, L: Allocator>(
         ≡ var_after Some Some name (command_var command.old name) invocation.now.environment) }
     ensures cleared { OnOk result (clears_env command.new ≡ clears_env command.old) }
     ensures directory { OnOk result (SameDir command.old command.new) }
-    ensures memory { OnErr result (IsTrue A.refuses) }
 {
     push_arguments(command, invocation.arguments())?;
     push_variables(command, invocation.environment())?;
@@ -141,12 +146,11 @@ fn complete<A: Grows, L: Allocator>(
 
 /// The command of an invocation: its program with its arguments, its variables and no others, in the root directory, with its
 /// standard streams connected to `/dev/null`.
-pub fn command_of<A: Grows, L: Allocator>(
-    alloc: A,
+pub fn command_of<L: Allocator>(
+    alloc: Global,
     invocation: &Invocation<L>,
-) -> Result<Command<A>, AllocError>
+) -> Result<Command, Refused>
     ensures asks { IfOk result (λ c. Asks c invocation.now) }
-    ensures memory { OnErr result (IsTrue A.refuses) }
 {
     let mut command = bare(alloc, invocation.program())?;
     complete(&mut command, invocation)?;
@@ -154,13 +158,12 @@ pub fn command_of<A: Grows, L: Allocator>(
 }
 
 // The command of an invocation that this leader makes.
-fn led<A: Grows, L: Allocator>(
-    alloc: A,
+fn led<L: Allocator>(
+    alloc: Global,
     leader: &str,
     invocation: &Invocation<L>,
-) -> Result<Command<A>, AllocError>
+) -> Result<Command, Refused>
     ensures asks { IfOk result (λ c. AsksBy (Some leader.now) c invocation.now) }
-    ensures memory { OnErr result (IsTrue A.refuses) }
 {
     let mut command = bare(alloc, leader)?;
     push_argument(&mut command, invocation.program())?;
@@ -170,13 +173,12 @@ fn led<A: Grows, L: Allocator>(
 
 /// The command of an invocation, made by a leader, if there is one. The standard input of the launcher is a pipe, on which it waits for
 /// a byte; the other streams are connected to `/dev/null`.
-pub fn command_by<A: Grows, B: Allocator, L: Allocator>(
-    alloc: A,
+pub fn command_by<B: Allocator, L: Allocator>(
+    alloc: Global,
     leading: &Leading<B>,
     invocation: &Invocation<L>,
-) -> Result<Command<A>, AllocError>
+) -> Result<Command, Refused>
     ensures asks { IfOk result (λ c. AsksBy (leader_of leading.now) c invocation.now) }
-    ensures memory { OnErr result (IsTrue A.refuses) }
 {
     match leading {
         Leading::Nothing => command_of(alloc, invocation),

@@ -1,6 +1,7 @@
 //! How agents are put into process groups of their own.
 use crate::agent_system::AgentSystem;
-use std::alloc::{AllocError, Allocator, Global};
+use growth::{Grows, Refused, push_text, text_of};
+use std::alloc::{Allocator, Global};
 use std::io::Eprint;
 
 // The name of the launcher, which is in the directory of this program.
@@ -35,25 +36,29 @@ impl<A: Allocator> Leading<A> {
     }
 }
 
+fn launcher_in<A: Grows>(alloc: A, directory: &str) -> Result<String<A>, Refused<A>> {
+    let mut path = text_of(alloc, directory)?;
+    push_text(&mut path, "/")?;
+    push_text(&mut path, LAUNCHER)?;
+    Ok(path)
+}
+
 // The path of the launcher beside this program: `None` where this program's path cannot be read.
-fn launcher_path<R: AgentSystem, A: Allocator + Copy>(
+fn launcher_path<R: AgentSystem, A: Grows>(
     rt: &R,
     alloc: A,
-) -> Result<Option<String<A>>, AllocError> {
+) -> Result<Option<String<A>>, Refused<A>> {
     let Ok(own) = rt.own_path(alloc) else {
         return Ok(None);
     };
     match own.as_str().rsplit_once('/') {
-        Some((directory, _)) => Ok(Some(format!(in alloc; "{directory}/{LAUNCHER}")?)),
+        Some((directory, _)) => Ok(Some(launcher_in(alloc, directory)?)),
         None => Ok(None),
     }
 }
 
 // The launcher, if it may be run.
-fn launcher<R: AgentSystem, A: Allocator + Copy>(
-    rt: &R,
-    alloc: A,
-) -> Result<Option<Leading<A>>, AllocError> {
+fn launcher<R: AgentSystem, A: Grows>(rt: &R, alloc: A) -> Result<Option<Leading<A>>, Refused<A>> {
     match launcher_path(rt, alloc)? {
         Some(path) if rt.check_program(path.as_str()).is_ok() => Ok(Some(Leading::Launcher(path))),
         _ => Ok(None),
@@ -61,13 +66,10 @@ fn launcher<R: AgentSystem, A: Allocator + Copy>(
 }
 
 /// By setsid(1), or, where it is not found, without a group. It fails only where memory is refused.
-pub fn setsid<R: AgentSystem, A: Allocator + Copy>(
-    rt: &R,
-    alloc: A,
-) -> Result<Leading<A>, AllocError> {
+pub fn setsid<R: AgentSystem, A: Grows>(rt: &R, alloc: A) -> Result<Leading<A>, Refused<A>> {
     for path in SETSID.iter() {
         if rt.check_program(path).is_ok() {
-            return Ok(Leading::Setsid(String::from_str(alloc, path)?));
+            return Ok(Leading::Setsid(text_of(alloc, path)?));
         }
     }
     Ok(Leading::Nothing)
@@ -75,11 +77,11 @@ pub fn setsid<R: AgentSystem, A: Allocator + Copy>(
 
 /// How agents are spawned here: by the launcher beside this program; or by setsid(1); or, where neither is found, without a group; without
 /// one also where groups are not wanted. It fails only where memory is refused.
-pub fn leading_for<R: AgentSystem, A: Allocator + Copy>(
+pub fn leading_for<R: AgentSystem, A: Grows>(
     rt: &R,
     alloc: A,
     wanted: bool,
-) -> Result<Leading<A>, AllocError> {
+) -> Result<Leading<A>, Refused<A>> {
     if !wanted {
         return Ok(Leading::Nothing);
     }
@@ -90,11 +92,11 @@ pub fn leading_for<R: AgentSystem, A: Allocator + Copy>(
 }
 
 /// The same; that groups are wanted and there are none is reported on standard error.
-pub fn leading_of<R: AgentSystem + Eprint, A: Allocator + Copy>(
+pub fn leading_of<R: AgentSystem + Eprint, A: Grows>(
     rt: &R,
     alloc: A,
     wanted: bool,
-) -> Result<Leading<A>, AllocError> {
+) -> Result<Leading<A>, Refused<A>> {
     let leading = leading_for(rt, alloc, wanted)?;
     if let (Leading::Nothing, true) = (&leading, wanted) {
         let _ = rt.eprintln(

@@ -11,7 +11,7 @@ use Rattle.agents_file.specs.declared.entry.AgentEntry.{AgentEntry}
 use Rattle.child_keeper.specs.Openings.{AreFound, IsFound, IsSeenEnded, OnlyAdopts, left_of}
 use Rattle.child_keeper.specs.Waits.{IsPart}
 use Rattle.child_keeper.proofs.WaitLemmas.{begins_more}
-use Rattle.exec_commands.specs.declared.left.Left.{Left}
+use Rattle.ocf_types.specs.declared.orphan.Orphan.{Orphan}
 use Rattle.process_ends.specs.Endings.{Begins}
 use Rattle.proc_files.specs.declared.process.Process.{Process}
 
@@ -86,7 +86,7 @@ adopts_more u v w first second =
     }
 
 -- no agents are found by no entries
-pub none_found : (v m : SystemView) (leave : Bool) (waits : List AgentProcess) (left : List Left) → waits ≡ [] → left ≡ []
+pub none_found : (v m : SystemView) (leave : Bool) (waits : List AgentProcess) (left : List Orphan) → waits ≡ [] → left ≡ []
     → AreFound v m leave [] waits left
 none_found v m leave waits left no_waits no_left =
     record {
@@ -116,7 +116,7 @@ since v m w living e before (inl lives) = inl lives
 since v m w living e before (inr ended) = inr (seen_more v m w w e before ([], sym (append-nil w.looked)) ended)
 
 -- what was found since the record was opened was found since just before that
-pub found_from : (v m w : SystemView) (opened : List AgentEntry) (leave : Bool) (entries : List AgentEntry) (waits : List AgentProcess) (left : List Left)
+pub found_from : (v m w : SystemView) (opened : List AgentEntry) (leave : Bool) (entries : List AgentEntry) (waits : List AgentProcess) (left : List Orphan)
     → m ≡ after_open v (Some opened) → AreFound m w leave entries waits left → AreFound v w leave entries waits left
 found_from v m w opened leave entries waits left same found =
     let before : Begins m.looked v.looked = ([], ap (λ (x : SystemView). x.looked) same ∙ sym (append-nil v.looked)) in
@@ -147,7 +147,7 @@ waits_more true living e was now one all = one ∙ all
 waits_more false living e was now one all =
     one ∙ ap (λ ps. ps ++ process_in e ∷ []) all ∙ sym (map-append process_in living (e ∷ []))
 
-one_more : (v m w : SystemView) (leave : Bool) (entries : List AgentEntry) (e : AgentEntry) (was now : List AgentProcess) (listed list : List Left)
+one_more : (v m w : SystemView) (leave : Bool) (entries : List AgentEntry) (e : AgentEntry) (was now : List AgentProcess) (listed list : List Orphan)
     → Begins m.looked v.looked → Begins w.looked m.looked → AreFound v m leave entries was listed → (lives : Bool)
     → (lives ≡ false → IsSeenEnded m w e) → now ≡ (if lives && not leave then was ++ process_in e ∷ [] else was)
     → list ≡ (if lives then listed ++ left_of e ∷ [] else listed) → AreFound v w leave (entries ++ e ∷ []) now list
@@ -174,7 +174,7 @@ one_more v m w leave entries e was now listed list before after found false ende
       left = left ∙ found.left;
     }
 
-pub found_more : (v m w : SystemView) (leave : Bool) (entries : List AgentEntry) (e : AgentEntry) (was now : List AgentProcess) (listed list : List Left)
+pub found_more : (v m w : SystemView) (leave : Bool) (entries : List AgentEntry) (e : AgentEntry) (was now : List AgentProcess) (listed list : List Orphan)
     → Begins m.looked v.looked → Begins w.looked m.looked → AreFound v m leave entries was listed → IsFound m w leave e was now listed list
     → AreFound v w leave (entries ++ e ∷ []) now list
 found_more v m w leave entries e was now listed list before after found one =

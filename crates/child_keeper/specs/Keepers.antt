@@ -96,10 +96,6 @@ pub record IsIdle (v : SystemView) : Type 0 where
   pub spawned : v.spawned ≡ []
   pub asked : v.asked ≡ []
 
--- the process that was spawned for a launch
-abbrev pub spawned_for : LaunchOf Call → Option (List ℕ) → AgentProcess → Spawned
-spawned_for launch leader p = record { process = p; call = launch.invocation; leader = leader }
-
 -- an agent was spawned for a launch, and let run
 pub record IsStarted (launch : LaunchOf Call) (leader : Option (List ℕ)) (v w : SystemView) : Type 0 where
   pub process : AgentProcess

@@ -5,7 +5,7 @@ use Rattle.agent_system.specs.SystemView.{SystemView, process_in}
 use Rattle.agent_system.specs.declared.agent_process.AgentProcess.{AgentProcess}
 use Rattle.agents_file.specs.declared.entry.AgentEntry.{AgentEntry}
 use Rattle.child_keeper.specs.Waits.{IsPart}
-use Rattle.exec_commands.specs.declared.left.Left.{Left}
+use Rattle.ocf_types.specs.declared.orphan.Orphan.{Orphan}
 use Rattle.process_ends.specs.Endings.{Begins, HasLook}
 use Rattle.proc_files.specs.declared.process.Process.{Process}
 
@@ -42,12 +42,12 @@ abbrev pub IsSeenEnded : SystemView → SystemView → AgentEntry → Type 0
 IsSeenEnded v w e = (answer : Option (Option Process)) × HasLook v w e.pid answer × HasEnded (Some e.start) answer
 
 -- how an agent is listed that lives
-abbrev pub left_of : AgentEntry → Left
+abbrev pub left_of : AgentEntry → Orphan
 left_of e = record { run = e.run; pid = e.pid }
 
 -- the agent of one more entry was looked for: one that lives is listed, and waited for unless agents are left to themselves; one that
 -- does not was seen to have ended
-pub record IsFound (v w : SystemView) (leave : Bool) (e : AgentEntry) (was now : List AgentProcess) (listed list : List Left) : Type 0 where
+pub record IsFound (v w : SystemView) (leave : Bool) (e : AgentEntry) (was now : List AgentProcess) (listed list : List Orphan) : Type 0 where
   pub lives : Bool
   pub ended : lives ≡ false → IsSeenEnded v w e
   pub waits : now ≡ (if lives && not leave then was ++ process_in e ∷ [] else was)
@@ -55,7 +55,7 @@ pub record IsFound (v w : SystemView) (leave : Bool) (e : AgentEntry) (was now :
 
 -- the agents of these entries were looked for: those that live are listed, and waited for unless agents are left to themselves; each of
 -- the others was seen to have ended
-pub record AreFound (v w : SystemView) (leave : Bool) (entries : List AgentEntry) (waiting : List AgentProcess) (listed : List Left) : Type 0 where
+pub record AreFound (v w : SystemView) (leave : Bool) (entries : List AgentEntry) (waiting : List AgentProcess) (listed : List Orphan) : Type 0 where
   pub living : List AgentEntry
   pub part : IsPart living entries
   pub each : All (λ e. Contains living e ⊎ IsSeenEnded v w e) entries

@@ -1,5 +1,5 @@
 //! The agents that live, each under its run, and those that were given up.
-ghost use Rattle.std.specs.Prelude.{◌≡◌, ◌↔◌, ◌+◌, ◌<◌, ◌≤◌, ◌==◌, ◌++◌, [], ◌∷◌, Contains, IfOk, IfSome, IsTrue, OnErr, IfNone, OnSome};
+ghost use Rattle.std.specs.Prelude.{◌≡◌, ◌↔◌, ◌+◌, ◌<◌, ◌≤◌, ◌==◌, ◌++◌, [], ◌∷◌, Contains, IfOk, IfSome, IsTrue, IfNone, OnSome};
 ghost use Rattle.std.specs.Prelude.{Some, length, slice_get, vec_len};
 ghost use Rattle.std.specs.List.{list_any, position_from};
 ghost use Rattle.std.specs.Str.{bytes_eq};
@@ -10,9 +10,9 @@ ghost use Rattle.child_model.specs.Children.{live_limit};
 use crate::live::LIVE_LIMIT;
 use agent_logs::Uncopied;
 use agent_system::AgentProcess;
-use growth::{Grows, with_capacity};
+use growth::{Grows, Refused, with_capacity};
 use ocf_types::{Action, RscId, RunId};
-use std::alloc::{AllocError, Allocator};
+use std::alloc::Allocator;
 use std::time::Duration;
 
 /// An agent's process, and the action that it performs.
@@ -60,10 +60,9 @@ fn any_of<C: Drop>(agents: &[Agent<C>], id: &RscId) -> bool
 
 impl<C: Drop, A: Grows> Agents<C, A> {
     /// Empty lists with the capacity for all that may live. It fails only where memory is refused.
-    pub fn new(alloc: A) -> Result<Agents<C, A>, AllocError>
+    pub fn new(alloc: A) -> Result<Agents<C, A>, Refused<A>>
         ensures none { IfOk result (λ a. a.agents.items ≡ []) }
         ensures ended { IfOk result (λ a. a.given_up.items ≡ []) }
-        ensures memory { OnErr result (IsTrue A.refuses) }
     {
         let agents = with_capacity(alloc, LIVE_LIMIT)?;
         let given_up = with_capacity(alloc, LIVE_LIMIT)?;

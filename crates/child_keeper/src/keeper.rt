@@ -239,7 +239,7 @@ impl<C: Drop, R: AgentSystem<Child = C> + Clock + Eprint + Drop, A: Allocator + 
         Ok(())
     }
 
-    /// Ends all that were given up, and goes on with the waits. All waits are shown after it.
+    /// Asks for the end of all that were given up, and goes on with the waits; processes may live on. All waits are shown after it.
     pub fn end_killed(&mut self)
         requires kept { KeeperInvariant R.view R.process_of self.old }
         ensures kept { KeeperInvariant R.view R.process_of self.new }
@@ -253,7 +253,7 @@ impl<C: Drop, R: AgentSystem<Child = C> + Clock + Eprint + Drop, A: Allocator + 
         self.shown = self.waits.waits.len();
     }
 
-    /// Gives all agents up and ends them, with all that were given up before.
+    /// Gives all agents up and asks for their end, and for that of all that were given up before; processes may live on.
     pub fn give_up_all(&mut self)
         requires kept { KeeperInvariant R.view R.process_of self.old }
         ensures kept { KeeperInvariant R.view R.process_of self.new }

@@ -1,11 +1,11 @@
 //! The runs whose agent processes live, and those that were given up.
-ghost use Rattle.std.specs.Prelude.{◌≡◌, ◌↔◌, ◌+◌, ◌<◌, ◌≤◌, ◌++◌, [], ◌∷◌, Contains, IfOk, IsTrue, OnErr, length, vec_len};
+ghost use Rattle.std.specs.Prelude.{◌≡◌, ◌↔◌, ◌+◌, ◌<◌, ◌≤◌, ◌++◌, [], ◌∷◌, Contains, IfOk, IsTrue, length, vec_len};
 ghost use Rattle.std.specs.Vec.{vec_capacity};
 ghost use Rattle.child_model.specs.Children.{without_run, live_limit};
 
-use growth::{Grows, with_capacity};
+use growth::{Grows, Refused, with_capacity};
 use ocf_types::{RESOURCES_LIMIT, RunId};
-use std::alloc::{AllocError, Allocator};
+use std::alloc::Allocator;
 
 /// How many agent processes may live at once: one for each resource that can be registered.
 pub const LIVE_LIMIT: usize = RESOURCES_LIMIT;
@@ -22,10 +22,9 @@ pub struct LiveRuns<A: Allocator> {
 
 impl<A: Grows> LiveRuns<A> {
     /// Empty lists with the capacity for all that may live. It fails only where memory is refused.
-    pub fn new(alloc: A) -> Result<LiveRuns<A>, AllocError>
+    pub fn new(alloc: A) -> Result<LiveRuns<A>, Refused<A>>
         ensures empty { IfOk result (λ l. l.runs.items ≡ []) }
         ensures none { IfOk result (λ l. l.given_up.items ≡ []) }
-        ensures memory { OnErr result (IsTrue A.refuses) }
     {
         let runs = with_capacity(alloc, LIVE_LIMIT)?;
         let given_up = with_capacity(alloc, LIVE_LIMIT)?;

@@ -1,5 +1,5 @@
 //! What an earlier executor left running, by the record of who runs.
-ghost use Rattle.std.specs.Prelude.{◌≡◌, ◌+◌, ◌*◌, ◌++◌, ◌<◌, ◌≤◌, List, [], ◌∷◌, All, Contains, IfOk, IsTrue, OnErr, OnOk, Some, false, length, map, option_map, take, true, vec_len};
+ghost use Rattle.std.specs.Prelude.{◌≡◌, ◌+◌, ◌*◌, ◌++◌, ◌<◌, ◌≤◌, List, [], ◌∷◌, All, Contains, IfOk, OnOk, Some, false, length, map, option_map, take, true, vec_len};
 ghost use Rattle.std.specs.Vec.{vec_capacity};
 ghost use Rattle.agent_system.specs.Sights.{HasEnded};
 ghost use Rattle.agent_system.specs.SystemView.{after_adopt, after_open, process_in};
@@ -12,12 +12,12 @@ use crate::record::Record;
 use crate::wait::{Wait, wait_in};
 use crate::wait_lines::report_orphan;
 use crate::waits::{WAIT_LIMIT, Waits};
-use agent_system::{AgentSystem, Leading, leading_of};
+use agent_system::AgentSystem;
 use agents_file::{AgentEntry, Kept, SLOTS};
-use exec_commands::Left;
-use growth::{Grows, push};
+use growth::{Grows, Refused, push};
+use ocf_types::Orphan;
 use proc_files::Process;
-use std::alloc::{AllocError, Allocator};
+use std::alloc::Allocator;
 use std::io::Eprint;
 use std::rt::Clock;
 
@@ -32,18 +32,6 @@ pub struct Upkeep<'a> {
     pub leave: bool,
     /// Whether each agent is to lead a process group of its own.
     pub groups: bool,
-}
-
-/// How agents are spawned, so that each leads a process group of its own, if that is wanted.
-pub fn leading<R: AgentSystem + Eprint, A: Grows>(
-    rt: &R,
-    alloc: A,
-    wanted: bool,
-) -> Result<Leading<A>, AllocError>
-    ensures memory { OnErr result (IsTrue A.refuses) }
-{
-    // TRUSTED: it fails only where memory is refused.
-    A::library_growth(leading_of(rt, alloc, wanted))
 }
 
 // Opens the record of who runs, and returns the entries that it has. A record that cannot be opened is reported, and then none is kept;
@@ -163,10 +151,10 @@ fn hold<R: AgentSystem + Clock + Eprint, A: Allocator + Copy>(
 }
 
 // How an agent is listed that lives.
-fn left_of(entry: &AgentEntry) -> Left
+fn left_of(entry: &AgentEntry) -> Orphan
     ensures { result ≡ left_of entry.now }
 {
-    Left {
+    Orphan {
         run: entry.run,
         pid: entry.pid,
     }
@@ -178,7 +166,7 @@ pub struct Orphans<C: Drop, A: Allocator> {
     pub record: Record,
     pub waits: Waits<C, A>,
     /// Those that live.
-    pub left: Vec<Left, A>,
+    pub left: Vec<Orphan, A>,
 }
 
 impl<C: Drop, A: Grows> Orphans<C, A> {
@@ -190,7 +178,7 @@ impl<C: Drop, A: Grows> Orphans<C, A> {
         alloc: A,
         kept: &Kept,
         upkeep: Upkeep<'_>,
-    ) -> Result<(), AllocError>
+    ) -> Result<(), Refused<A>>
         requires room { vec_len self.old.waits.waits < SLOTS }
         requires found { Contains (R.view rt.old).found kept.now.entry }
         requires given_up { AreGivenUp R.process_of (R.view rt.old).sights self.old.waits.waits.items }
@@ -200,7 +188,6 @@ impl<C: Drop, A: Grows> Orphans<C, A> {
             (processes self.old.waits.waits.items) (processes self.new.waits.waits.items)
             self.old.left.items self.new.left.items) }
         ensures len { vec_len self.new.waits.waits ≤ vec_len self.old.waits.waits + 1 }
-        ensures memory { OnErr result (IsTrue A.refuses) }
     {
         let is_alive = lives(rt, alloc, &kept.entry);
         if is_alive && !upkeep.leave {
@@ -228,7 +215,7 @@ impl<C: Drop, A: Grows> Orphans<C, A> {
         alloc: A,
         entries: &[Kept],
         upkeep: Upkeep<'_>,
-    ) -> Result<(), AllocError>
+    ) -> Result<(), Refused<A>>
         requires few { length entries.now ≤ SLOTS }
         requires found { All (λ k. Contains (R.view rt.old).found k.entry) entries.now }
         requires none { self.old.waits.waits.items ≡ [] }
@@ -239,7 +226,6 @@ impl<C: Drop, A: Grows> Orphans<C, A> {
         ensures found { OnOk result (AreFound (R.view rt.old) (R.view rt.new) upkeep.entry.leave
             (map (λ k. k.entry) entries.now) (processes self.new.waits.waits.items) self.new.left.items) }
         ensures few { vec_len self.new.waits.waits ≤ length entries.now }
-        ensures memory { OnErr result (IsTrue A.refuses) }
     {
         for kept in entries {
             self.find(rt, alloc, kept, upkeep)?;
@@ -254,7 +240,7 @@ pub fn find_orphans<R: AgentSystem + Clock + Eprint, A: Grows>(
     rt: &mut R,
     alloc: A,
     upkeep: Upkeep<'_>,
-) -> Result<Orphans<R::Child, A>, AllocError>
+) -> Result<Orphans<R::Child, A>, Refused<A>>
     requires { (R.view rt.old).sights.given_up ≡ [] }
     ensures given_up { IfOk result
         (λ orphans. AreGivenUp R.process_of (R.view rt.new).sights orphans.waits.waits.items) }
@@ -264,7 +250,6 @@ pub fn find_orphans<R: AgentSystem + Clock + Eprint, A: Grows>(
         × AreFound (R.view rt.old) (R.view rt.new) upkeep.entry.leave (take SLOTS entries)
         (processes orphans.waits.waits.items) orphans.left.items) }
     ensures few { IfOk result (λ orphans. vec_len orphans.waits.waits ≤ WAIT_LIMIT) }
-    ensures memory { OnErr result (IsTrue A.refuses) }
 {
     let mut orphans = Orphans {
         record: Record::new(false),

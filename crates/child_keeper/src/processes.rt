@@ -11,16 +11,15 @@ ghost use Rattle.child_model.specs.MayStart.{MayStart};
 use crate::agents::Agents;
 use crate::book::Book;
 use crate::keeper::Keeper;
-use crate::opening::{Upkeep, find_orphans, leading};
+use crate::opening::{Upkeep, find_orphans};
 use crate::{Children, Entry, KillFault, Poll};
 use agent_logs::Log;
-use agent_system::AgentSystem;
 use agent_system::laws::{lemma_apart, lemma_over};
+use agent_system::{AgentSystem, leading_of};
 use agents_file::SLOTS;
-use exec_commands::Left;
 use growth::{GROWTH_LIMIT, Grows};
 use ocf_env::Launch;
-use ocf_types::{RscId, RunId, StartFault};
+use ocf_types::{Orphan, RscId, RunId, StartFault};
 use std::alloc::{AllocError, Allocator, Global};
 use std::io::Eprint;
 use std::marker::Model;
@@ -72,7 +71,7 @@ impl<R: AgentSystem + Clock + Eprint + Drop, A: Grows> Processes<R, A> {
         log: Log,
         book: usize,
         upkeep: Upkeep<'_>,
-    ) -> Result<(Processes<R, A>, Vec<Left, A>), AllocError>
+    ) -> Result<(Processes<R, A>, Vec<Orphan, A>), AllocError>
         requires idle { IsIdle (R.view rt) }
         ensures children { IfOk result (λ made. (held : List (List ℕ))
             × (made.0.children ≡ fresh_processes book held)) }
@@ -87,7 +86,7 @@ impl<R: AgentSystem + Clock + Eprint + Drop, A: Grows> Processes<R, A> {
     {
         let book = Book::new(alloc, book)?;
         let agents = Agents::new(alloc)?;
-        let leading = leading(&rt, alloc, upkeep.groups)?;
+        let leading = leading_of(&rt, alloc, upkeep.groups)?;
         let orphans = find_orphans(&mut rt, alloc, upkeep)?;
         let shown = orphans.waits.waits.len();
         let keeper = Keeper {

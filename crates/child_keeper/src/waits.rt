@@ -1,5 +1,5 @@
 //! Resources that are held until the processes of an earlier action have ended.
-ghost use Rattle.std.specs.Prelude.{◌≡◌, ◌*◌, ◌+◌, ◌++◌, ◌≤◌, ◌<◌, [], ◌∷◌, All, IfOk, IsTrue, OnErr, if◌then◌else◌, length, map, not, vec_len};
+ghost use Rattle.std.specs.Prelude.{◌≡◌, ◌*◌, ◌+◌, ◌++◌, ◌≤◌, ◌<◌, [], ◌∷◌, All, IfOk, if◌then◌else◌, length, map, not, vec_len};
 ghost use Rattle.std.specs.List.{list_any, remove};
 ghost use Rattle.std.specs.Str.{bytes_eq};
 ghost use Rattle.std.specs.Vec.{vec_capacity};
@@ -17,10 +17,10 @@ use crate::record::Record;
 use crate::wait::{Wait, wait_for};
 use crate::wait_lines::{report_begun, report_over, report_overdue};
 use agent_system::AgentSystem;
-use growth::{Grows, with_capacity};
+use growth::{Grows, Refused, with_capacity};
 use ocf_types::RscId;
 use process_ends::{Pauses, kill_actions};
-use std::alloc::{AllocError, Allocator};
+use std::alloc::Allocator;
 use std::io::Eprint;
 use std::rt::Clock;
 
@@ -255,9 +255,8 @@ fn report_fresh<R: AgentSystem + Eprint, C: Drop, A: Allocator>(
 
 impl<C: Drop, A: Grows> Waits<C, A> {
     /// No waits, with the capacity for all that there may be. It fails only where memory is refused.
-    pub fn new(alloc: A) -> Result<Waits<C, A>, AllocError>
+    pub fn new(alloc: A) -> Result<Waits<C, A>, Refused<A>>
         ensures none { IfOk result (λ w. w.waits.items ≡ []) }
-        ensures memory { OnErr result (IsTrue A.refuses) }
     {
         Ok(Waits {
             waits: with_capacity(alloc, WAIT_LIMIT)?,

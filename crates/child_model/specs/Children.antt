@@ -86,19 +86,19 @@ after_poll v run answer =
 abbrev pub after_kill : ChildrenView → ℕ → Result Unit KillFault → ChildrenView
 after_kill v run answer = record (with_entry v run 0 (kill_answer answer)) { live = without_run run v.live; given_up = v.given_up ++ run ∷ [] }
 
--- the view after all that were given up were ended, with these resources held
+-- the view after the end of all that were given up was asked for, with these resources held
 abbrev pub after_ends : ChildrenView → List (List ℕ) → ChildrenView
 after_ends v held = record v { given_up = []; held = held }
 
--- the view after all agent processes were given up and ended, with these resources held
+-- the view after all agent processes were given up and their end was asked for, with these resources held
 abbrev pub all_ended : ChildrenView → List (List ℕ) → ChildrenView
 all_ended v held = record (after_ends v held) { live = [] }
 
--- all that were given up were ended, and any resources are held after it
+-- the end of all that were given up was asked for, and any resources are held after it
 abbrev pub Ended : ChildrenView → ChildrenView → Type 0
 Ended old new = (held : List (List ℕ)) × (new ≡ after_ends old held)
 
--- all agent processes were given up and ended, and any resources are held after it
+-- all agent processes were given up and their end was asked for, and any resources are held after it
 abbrev pub AllEnded : ChildrenView → ChildrenView → Type 0
 AllEnded old new = (held : List (List ℕ)) × (new ≡ all_ended old held)
 

@@ -51,12 +51,13 @@ pub trait Children {
         requires lives { Contains (view self.old).live run }
         ensures killed { view self.new ≡ after_kill (view self.old) run result };
 
-    /// Ends all that were given up since the last call, each with its processes, together. From here on those resources are held of
-    /// whose ended actions processes are known to live.
+    /// Asks for the end of all that were given up since the last call, each with its processes, together; processes may live on. From
+    /// here on those resources are held of whose ended actions processes are known to live.
     fn end_killed(&mut self)
         ensures ended { Ended (view self.old) (view self.new) };
 
-    /// Gives up every agent process that lives, and ends all that were given up, each with its processes. It adds no entry.
+    /// Gives up every agent process that lives, and asks for the end of all that were given up, each with its processes; processes may
+    /// live on. It adds no entry.
     fn give_up_all(&mut self)
         ensures ended { AllEnded (view self.old) (view self.new) };
 

@@ -1,10 +1,9 @@
 //! Escapes the bytes of a log for a terminal.
-ghost use Rattle.std.specs.Prelude.{◌≡◌, ◌<◌, ◌++◌, IsTrue, OnErr, OnOk};
+ghost use Rattle.std.specs.Prelude.{◌≡◌, ◌<◌, ◌++◌, OnOk};
 ghost use Rattle.std.specs.List.{flat_map};
 ghost use Rattle.exit_reasons.specs.Reasons.{hex_digit, is_plain, shown_byte};
 
-use growth::{Grows, append, push};
-use std::alloc::{AllocError, Global};
+use growth::{Refused, append, push};
 
 // Whether a byte needs no escape: a graphic character of ASCII or a space, and no backslash.
 fn is_plain(byte: u8) -> bool
@@ -25,9 +24,8 @@ fn hex_digit(digit: u8) -> u8
     }
 }
 
-fn add_shown_byte(text: &mut Vec<u8>, byte: u8) -> Result<(), AllocError>
+fn add_shown_byte(text: &mut Vec<u8>, byte: u8) -> Result<(), Refused>
     ensures added { OnOk result (text.new.items ≡ text.old.items ++ shown_byte byte) }
-    ensures memory { OnErr result (IsTrue ⟦<Global as Grows>⟧.refuses) }
 {
     if is_plain(byte) {
         push(text, byte)
@@ -41,9 +39,8 @@ fn add_shown_byte(text: &mut Vec<u8>, byte: u8) -> Result<(), AllocError>
 
 /// Appends bytes, escaped for a terminal.
 #[tactic(auto, using(crate::proofs::Lemmas::byte_more))]
-pub fn add_shown(text: &mut Vec<u8>, bytes: &[u8]) -> Result<(), AllocError>
+pub fn add_shown(text: &mut Vec<u8>, bytes: &[u8]) -> Result<(), Refused>
     ensures added { OnOk result (text.new.items ≡ text.old.items ++ flat_map shown_byte bytes.now) }
-    ensures memory { OnErr result (IsTrue ⟦<Global as Grows>⟧.refuses) }
 {
     for byte in bytes {
         add_shown_byte(text, *byte)?;

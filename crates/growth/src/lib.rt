@@ -6,6 +6,6 @@ mod growth;
 mod texts;
 mod vectors;
 
-pub use growth::{GROWTH_LIMIT, Grows};
+pub use growth::{GROWTH_LIMIT, Grows, Refused, granted};
 pub use texts::{push_text, text_of};
 pub use vectors::{append, fill, push, vec_of, with_capacity};

@@ -1,10 +1,10 @@
 //! A text that is built piece by piece.
-ghost use Rattle.std.specs.Prelude.{◌≡◌, ◌++◌, ◌∷◌, [], ℕ, List, IfOk, IsTrue, OnErr, decimal, true, false};
+ghost use Rattle.std.specs.Prelude.{◌≡◌, ◌++◌, ◌∷◌, [], ℕ, List, None, IfOk, decimal};
 
-use growth::{Grows, append};
+use growth::{Refused, append};
 use itoa::Buffer;
 use past::Past;
-use std::alloc::{AllocError, Global};
+use std::alloc::Global;
 use std::marker::Model;
 
 /// A text that is built piece by piece. Once an allocation was refused, nothing more is kept of it, and [`LineText::finish`] says so.
@@ -13,7 +13,7 @@ use std::marker::Model;
 #[derive(Drop)]
 pub struct LineText {
     kept: Vec<u8>,
-    failed: bool,
+    refused: Option<Refused>,
     // for contracts alone: what was appended
     appended: Past<u8>,
 }
@@ -23,8 +23,7 @@ impl Model for LineText {
 
     ghost view = { λ t. t.appended.items };
 
-    ghost invariant = { λ t. (t.failed ≡ true → IsTrue ⟦<Global as Grows>⟧.refuses)
-        × (t.failed ≡ false → t.kept.items ≡ t.appended.items) };
+    ghost invariant = { λ t. t.refused ≡ None → t.kept.items ≡ t.appended.items };
 }
 
 // Notes each of the bytes. A running program does nothing here.
@@ -43,7 +42,7 @@ impl LineText {
     {
         LineText {
             kept: Vec::new(alloc),
-            failed: false,
+            refused: None,
             appended: Past::new(),
         }
     }
@@ -53,8 +52,10 @@ impl LineText {
         ensures appended { self.new ≡ self.old ++ more.now }
     {
         note_all(&mut self.appended, more);
-        if !self.failed && append(&mut self.kept, more).is_err() {
-            self.failed = true;
+        if self.refused.is_none()
+            && let Err(refused) = append(&mut self.kept, more)
+        {
+            self.refused = Some(refused);
         }
     }
 
@@ -81,14 +82,12 @@ impl LineText {
     }
 
     /// The bytes of the whole text. It fails only if an allocation was refused while the text was built.
-    pub fn finish(self) -> Result<Vec<u8>, AllocError>
+    pub fn finish(self) -> Result<Vec<u8>, Refused>
         ensures bytes { IfOk result (λ v. v.items ≡ self) }
-        ensures memory { OnErr result (IsTrue ⟦<Global as Grows>⟧.refuses) }
     {
-        if self.failed {
-            Err(AllocError)
-        } else {
-            Ok(self.kept)
+        match self.refused {
+            Some(refused) => Err(refused),
+            None => Ok(self.kept),
         }
     }
 }

@@ -218,7 +218,7 @@ impl AgentSystem for SystemAgents<'_> {
             id: launch.id.copied(),
         };
         let child = self.spawned(whose, &launch.invocation, how);
-        // TRUSTED: the command of exactly this invocation, by this leader, was spawned once, or, where the answer is an error, not at all.
+        // TRUSTED: the command of exactly this invocation, by this leader, was spawned once, or, if the answer is an error, not at all.
         self.note.follow(&(&launch.invocation, leading, &child));
         child
     }
@@ -235,7 +235,7 @@ impl AgentSystem for SystemAgents<'_> {
             id: whose.id.copied(),
         };
         let child = self.spawned(whose, invocation, how);
-        // TRUSTED: as in `spawn`.
+        // TRUSTED: the command of exactly this invocation, by this leader, was spawned once, or, if the answer is an error, not at all.
         self.note.follow(&(invocation, leading, &child));
         child
     }
@@ -263,18 +263,18 @@ impl AgentSystem for SystemAgents<'_> {
     }
 
     fn give_up(&mut self, child: &AgentChild) {
-        // TRUSTED: nothing is asked.
+        // TRUSTED: the system is asked nothing; the child counts as given up from here on.
         self.note.follow(&child.process);
     }
 
     fn adopt(&mut self, entry: &AgentEntry) {
-        // TRUSTED: nothing is asked.
+        // TRUSTED: the system is asked nothing; the process of this entry counts as given up from here on.
         self.note.follow(entry);
     }
 
     fn reap(&mut self, at: usize, child: &mut AgentChild) -> io::Result<Option<ExitStatus>> {
         let answer = child.child.try_wait();
-        // TRUSTED: as in `poll`; a child that has ended is reaped.
+        // TRUSTED: this is the system's answer about this child, which was not waited for; a child that has ended is reaped.
         self.note.follow(&(at, &answer));
         answer
     }
@@ -287,12 +287,12 @@ impl AgentSystem for SystemAgents<'_> {
     }
 
     fn keep(&mut self, at: usize, found: &[Process]) {
-        // TRUSTED: nothing is asked.
+        // TRUSTED: the system is asked nothing; these processes count as known from here on.
         self.note.follow(&(at, found));
     }
 
     fn release(&mut self, at: usize) {
-        // TRUSTED: nothing is asked.
+        // TRUSTED: the system is asked nothing; what was given up counts as released from here on.
         self.note.follow(&at);
     }
 
@@ -343,7 +343,7 @@ impl AgentSystem for SystemAgents<'_> {
 
     fn open_record(&mut self, directory: &str) -> io::Result<OpenedRecord> {
         let answer = opened_into(&mut self.record, self.system.host(), directory);
-        // TRUSTED: these are the entries of the record.
+        // TRUSTED: these are the entries that the file `agents` of this directory has.
         self.note.follow(&answer);
         answer
     }

@@ -1,5 +1,5 @@
 //! The counts of all resources.
-ghost use Rattle.std.specs.Prelude.{◌≡◌, ◌<◌, ◌++◌, ◌∷◌, [], List, length, IsTrue, OnErr, OnOk};
+ghost use Rattle.std.specs.Prelude.{◌≡◌, ◌<◌, ◌++◌, ◌∷◌, [], List, length, OnOk};
 ghost use Rattle.std.specs.List.{flat_map};
 ghost use Rattle.ocf_types.specs.Indexes.{entry_at};
 ghost use Rattle.run_counts.specs.Counts.{Tallies, count_at};
@@ -8,11 +8,11 @@ ghost use Rattle.run_counts.specs.Runs.{Ran, ended_by, left_by, ran_after, ran_a
 use crate::count::RunCount;
 use crate::ends::{end_of, ending};
 use exec_state::State;
-use growth::Grows;
+use growth::{Grows, Refused};
 use indexmap::IndexMap;
 use ocf_codes::failed;
 use ocf_types::{Change, Event, Params, RscId, StateView};
-use std::alloc::{AllocError, Global};
+use std::alloc::Global;
 
 /// The counts by id of the resources that have had a run end.
 pub type RunCounts = IndexMap<RscId, RunCount>;
@@ -28,10 +28,9 @@ pub fn count_of(counts: &RunCounts, id: &RscId) -> RunCount
 }
 
 // Counts one more run of a resource.
-fn add(counts: &mut RunCounts, id: &RscId, failed: bool) -> Result<(), AllocError>
+fn add(counts: &mut RunCounts, id: &RscId, failed: bool) -> Result<(), Refused>
     ensures counted { (runs : List Ran) → Tallies counts.old.entries runs
         → OnOk result (Tallies counts.new.entries (runs ++ ran_as id.now failed ∷ [])) }
-    ensures memory { OnErr result (IsTrue ⟦<Global as Grows>⟧.refuses) }
 {
     let count = count_of(counts, id).one_more(failed);
     Global::reserve_entries(counts, 1)?;
@@ -65,12 +64,11 @@ fn count_index(
     state: &State,
     change: &Change<Params>,
     index: usize,
-) -> Result<(), AllocError>
+) -> Result<(), Refused>
     requires { index < length state.now.state.resources }
     ensures counted { (runs : List Ran) → Tallies counts.old.entries runs → OnOk result
         (Tallies counts.new.entries
         (runs ++ ended_by change.now (entry_at state.now.state index))) }
-    ensures memory { OnErr result (IsTrue ⟦<Global as Grows>⟧.refuses) }
 {
     let id = state.id_at(index);
     let Some(outcome) = end_of(change, id) else {
@@ -92,11 +90,10 @@ fn count_ended(
     counts: &mut RunCounts,
     state: &State,
     change: &Change<Params>,
-) -> Result<(), AllocError>
+) -> Result<(), Refused>
     ensures counted { (runs : List Ran) → Tallies counts.old.entries runs → OnOk result
         (Tallies counts.new.entries
         (runs ++ flat_map (ended_by change.now) state.now.state.resources)) }
-    ensures memory { OnErr result (IsTrue ⟦<Global as Grows>⟧.refuses) }
 {
     let (from, to) = ending(state, change);
     for index in from..to {
@@ -106,10 +103,9 @@ fn count_ended(
 }
 
 /// Counts the runs that an event ends, by the state before it, and forgets those of a resource that it unregisters.
-pub fn count_event(counts: &mut RunCounts, state: &State, event: &Event) -> Result<(), AllocError>
+pub fn count_event(counts: &mut RunCounts, state: &State, event: &Event) -> Result<(), Refused>
     ensures counted { (runs : List Ran) → Tallies counts.old.entries runs → OnOk result
         (Tallies counts.new.entries (ran_after state.now.state runs event.now)) }
-    ensures memory { OnErr result (IsTrue ⟦<Global as Grows>⟧.refuses) }
 {
     forget_by(counts, &event.change);
     count_ended(counts, state, &event.change)

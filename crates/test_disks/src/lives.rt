@@ -79,9 +79,10 @@ fn holds(first: &[Reply], second: &[Reply]) -> bool {
 fn answered(alloc: Global, stop: u64, fill: Fill) -> Option<usize> {
     let one = machine(alloc, 0, first(alloc)?, stop)?;
     let other = machine(alloc, 4, second(alloc)?, u64::MAX)?;
-    let (replies, last) = live_twice(alloc, one, other, fill)?;
-    let all = last.replies.len() == 1 && holds(&replies, &last.replies);
-    all.then(|| replies.len())
+    let (answers, last) = live_twice(alloc, one, other, fill)?;
+    let found = &last.answers.replies;
+    let all = found.len() == 1 && holds(&answers.replies, found);
+    all.then(|| answers.replies.len())
 }
 
 #[test]

@@ -21,13 +21,15 @@ loop-index-preserved c = λ runs were.
     subst (λ (l : List Ran). Tallies c.count_index.new.counts.entries l) (index_more f s index runs lt)
     (c.in_ok-count_index.ensures.counted (runs ++ flat_map f (take index s.resources)) (c.loop-index.invariant runs were))
 
-pub returns-clause-counted : goal.returns-clause-counted
-returns-clause-counted c = λ runs were.
-    let s = c.args.state.now.state in
-    let change = c.args.change.now in
-    let f = ended_by change in
-    let to = c.ending-from.result.1 in
-    let all = none_after f s change _ to c.ending-from.ensures.range.0 c.ending-from.ensures.range.1 c.ending-from.ensures.others (ended_none change) in
-    let last : c.loop-index.index ≡ to = search rules in
-    subst (λ (l : List Ran). Tallies c.loop-index.counts.entries (runs ++ l)) (ap (λ n. flat_map f (take n s.resources)) last ∙ all)
-    (c.loop-index.invariant runs were)
+pub returns : goal.returns
+returns c = record {
+  counted = λ runs were.
+      let s = c.args.state.now.state in
+      let change = c.args.change.now in
+      let f = ended_by change in
+      let to = c.ending-from.result.1 in
+      let all = none_after f s change _ to c.ending-from.ensures.range.0 c.ending-from.ensures.range.1 c.ending-from.ensures.others (ended_none change) in
+      let last : c.loop-index.index ≡ to = search rules in
+      subst (λ (l : List Ran). Tallies c.loop-index.counts.entries (runs ++ l)) (ap (λ n. flat_map f (take n s.resources)) last ∙ all)
+      (c.loop-index.invariant runs were);
+}

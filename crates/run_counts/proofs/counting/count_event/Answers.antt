@@ -1,6 +1,8 @@
 use Rattle.run_counts.specs.Runs.{left_by}
 use Rattle.run_counts.proofs.counting.count_event.Goals as goal
 
-pub returns-clause-counted : goal.returns-clause-counted
-returns-clause-counted c = λ runs were.
-    c.count_ended.ensures.counted (left_by c.args.event.now.change runs) (c.forget_by.ensures runs were)
+pub returns : goal.returns
+returns c = record {
+  counted = λ runs were.
+      c.count_ended.ensures.counted (left_by c.args.event.now.change runs) (c.forget_by.ensures runs were);
+}
