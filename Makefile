@@ -7,7 +7,7 @@ LAUNCHER := crates/ocfexec/out/ocfexec-run-agent
 # of the client
 MODULES := $(addprefix examples/,agents.py alerts.py calls.py control.py kept.py orders.py output.py resources.py targets.py)
 
-.PHONY: run program test check mutants bench plots costs statement soak fuzz sanitize install install-python modules deb source release guide clean
+.PHONY: run program test check mutants bench plots costs counts statement soak fuzz sanitize install install-python modules deb source release guide clean
 
 # Compiles every crate without proving it, and answers the example's commands with the example's agent.
 run:
@@ -28,8 +28,11 @@ check:
 
 # Tries the wrong bodies of one crate, make mutants NAME=recurring; without a name those that the gate tries. NAME=every tries, for all
 # crates, those that were not seen refused in their present state, JOBS=n crates at once. NAME=show lists these and tries nothing.
+# NAME=random tries COUNT=m random edits of one line, of the product or of CRATES="a b", drawn with SEED=n, by the proofs; with TESTS=1 also
+# by the fast checks of the program compiled with each that no proof refuses.
 mutants:
-	@mutants/stamps.py $(if $(JOBS),-j $(JOBS)) $(if $(filter show,$(NAME)),show every,$(if $(filter every,$(NAME)),check every,all $(NAME)))
+	@$(if $(filter random,$(NAME)),mutants/random.py --seed $(or $(SEED),1) --count $(or $(COUNT),20) $(if $(TESTS),--tests) \
+		$(if $(JOBS),-j $(JOBS)) $(CRATES),mutants/stamps.py $(if $(JOBS),-j $(JOBS)) $(if $(filter show,$(NAME)),show every,$(if $(filter every,$(NAME)),check every,all $(NAME))))
 
 # Measures the rate of each benchmark. This call proves their programs, since the gate has no benchmarks.
 bench:
@@ -46,6 +49,10 @@ plots: $(PROGRAM)
 # kit whose gate keeps what it proved is asked to begin from scratch; any other always does.
 costs:
 	@bench/costs.py --into docs/ARCHITECTURE.md -- rt ci $$(rt help 2>&1 | grep -o -m 1 -e --anew)
+
+# Counts the tests of each kind, and writes the tables of docs/TESTING.md, with the seconds of the last `make check` of this copy.
+counts:
+	@tests/count.py --into docs/TESTING.md
 
 # Writes the laws of whole histories, and each definition that they depend on, into docs/STATEMENT.antt.txt.
 statement:

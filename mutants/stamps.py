@@ -28,11 +28,15 @@ import threading
 import time
 
 sys.dont_write_bytecode = True
+# comes last, since random.py has the name of a module of Python
+sys.path.sort(key=os.path.dirname(os.path.abspath(__file__)).__eq__)
 import goals  # noqa: E402
 
 TOP = os.path.dirname(os.path.dirname(os.path.abspath(__file__)))
 MUTANTS = os.path.join(TOP, "mutants")
 EDITS = os.path.join(MUTANTS, "gate")
+# Those that random.py made, which no call of this script tries.
+RANDOM = os.path.join(MUTANTS, "out", "random")
 TRIED = os.path.join(MUTANTS, "tried")
 # The edits that a test refuses: they rest on the whole program, and a script of theirs says what became of each.
 TESTS, PROGRAM = "tests", "ocfexec"
@@ -74,9 +78,9 @@ class Texts:
             self.sums[crate] = total.hexdigest()
         return self.sums[crate]
 
-    def sum_of_edit(self, edit):
-        """The sum that an edit's line has, once it was seen refused with these texts."""
-        crate = edit.split("/")[0]
+    def sum_of_edit(self, edit, top=None):
+        """The sum that an edit's line has, once it was seen refused with these texts, by the crate itself or by one above it."""
+        crate = top or edit.split("/")[0]
         crates = [(name, self.words[name], self.sum_of_crate(name)) for name in self.at_or_below(PROGRAM if crate == TESTS else crate)]
         return hashlib.sha256(repr((edit, edit_of(edit), self.kit, crates)).encode()).hexdigest()
 
@@ -91,9 +95,9 @@ def crate_of(edit):
 
 
 def path_of(edit):
-    """The path of an edit, in mutants/gate or in mutants."""
-    path = os.path.join(EDITS, edit + ".edit")
-    return path if os.path.exists(path) else os.path.join(MUTANTS, edit + ".edit")
+    """The path of an edit, in mutants/gate, among the random ones, or in mutants."""
+    paths = [os.path.join(folder, edit + ".edit") for folder in (EDITS, RANDOM, MUTANTS)]
+    return next(filter(os.path.exists, paths), paths[-1])
 
 
 def edit_of(edit):
@@ -229,23 +233,28 @@ def end_all(running):
             os.killpg(tried.pid, signal.SIGTERM)
 
 
-def try_all(wanted, asked, stamps, known):
-    """Tries these edits, crate by crate. Gives how many count."""
-    by_crate, running = collections.defaultdict(dict), set()
-    for edit, total in wanted.items():
-        by_crate[edit.split("/")[0]][edit] = total
-    lanes = at_once(asked, len(by_crate))
+def in_lanes(by_crate, asked, call):
+    """The results of a call for each crate with its edits, some at a time; it notes its process in its last argument meanwhile."""
+    running, lanes = set(), at_once(asked, len(by_crate))
     if lanes > 1:
         os.environ.setdefault("RT_JOBS", str(max(1, len(os.sched_getaffinity(0)) // lanes)))
     # those with the most to do come first
     order = sorted(by_crate.items(), key=lambda pair: -len(pair[1]))
     with concurrent.futures.ThreadPoolExecutor(lanes) as pool:
-        calls = [pool.submit(try_crate, crate, edits, stamps, known, running) for crate, edits in order]
+        calls = [pool.submit(call, crate, edits, running) for crate, edits in order]
         try:
-            return sum(call.result() for call in calls)
+            return [call.result() for call in calls]
         finally:
             pool.shutdown(wait=False, cancel_futures=True)
             end_all(running)
+
+
+def try_all(wanted, asked, stamps, known):
+    """Tries these edits, crate by crate. Gives how many count."""
+    by_crate = collections.defaultdict(dict)
+    for edit, total in wanted.items():
+        by_crate[edit.split("/")[0]][edit] = total
+    return sum(in_lanes(by_crate, asked, lambda crate, edits, running: try_crate(crate, edits, stamps, known, running)))
 
 
 def chosen(names, gate, every):

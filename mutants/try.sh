@@ -27,7 +27,8 @@ for folder in "crates/$name/must-fail" "mutants/$name" "mutants/gate/$name"; do
     [ $# -gt 0 ] || [ ! -d "$folder" ] || cp "$folder/"*.edit "$tried/"
 done
 for edit in "$@"; do
-    cp "mutants/$name/$edit.edit" "$tried/" 2> /dev/null || cp "mutants/gate/$name/$edit.edit" "$tried/"
+    cp "mutants/$name/$edit.edit" "$tried/" 2> /dev/null || cp "mutants/gate/$name/$edit.edit" "$tried/" 2> /dev/null ||
+        cp "mutants/out/random/$name/$edit.edit" "$tried/"
 done
 git init -q "$copy"
 

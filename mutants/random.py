@@ -1,0 +1,442 @@
+#!/usr/bin/env python3
+"""Random wrong bodies: edits of one line of the product's sources, drawn with a seed; each line that has an edit is as likely as any other.
+An edit that does not compile is replaced by the next one of the seed, so a seed and a count always mean the same edits of the same texts.
+
+What becomes of each: the proof of its crate refuses it; or, where it changes what other crates see, the proof of a crate that names its
+crate; or, with --tests, a check of `make check FAST=1` of the program compiled with it; or it is alive. Edits of one crate are tried
+together, by try.sh. mutants/out/random has the edits, and in its file `kept` what became of each, with the sum of the crates' texts that
+this rests on, so an interrupted run goes on. The table is over the edits of this call.
+
+Use: random.py [--seed N] [--count M] [--tests] [-j CRATES] [CRATE..]"""
+import os
+import sys
+
+sys.dont_write_bytecode = True
+# comes last, since this file has the name of a module of Python
+sys.path.sort(key=os.path.dirname(os.path.abspath(__file__)).__eq__)
+
+import argparse  # noqa: E402
+import collections  # noqa: E402
+import contextlib  # noqa: E402
+import functools  # noqa: E402
+import hashlib  # noqa: E402
+import itertools  # noqa: E402
+import json  # noqa: E402
+import random  # noqa: E402
+import re  # noqa: E402
+import shutil  # noqa: E402
+import signal  # noqa: E402
+import subprocess  # noqa: E402
+import tempfile  # noqa: E402
+import time  # noqa: E402
+from collections.abc import Iterable, Iterator  # noqa: E402
+from dataclasses import dataclass  # noqa: E402
+from pathlib import Path  # noqa: E402
+
+import goals  # noqa: E402
+import stamps  # noqa: E402
+
+TOP, FOLDER = Path(stamps.TOP), Path(stamps.RANDOM)
+NO_CODE = re.compile(r'//[^\n]*|/\*.*?\*/|\bb?r(#*)".*?"\1|"(?:\\.|[^"\\])*"|\'(?:\\(?:x\w\w|u\{\w+\}|.)|[^\\\'\n])\'', re.DOTALL)
+NO_BODY = re.compile(r"\bghost use [^;]*;|#!?(?=\[)|\b(?:requires|ensures)(?: \*)?(?:\s+\w+)?\s*(?=\{)|\bghost\s+\w+\s*[:=]\s*(?=\{)")
+CONSTANT = re.compile(r"^ *(?:pub(?:\([a-z]+\))? )?const \w+: [^=;\n]*=([^;\n]*);", re.MULTILINE)
+PAIRS = {"(": ")", "[": "]", "{": "}"}
+SWAPS = {one: other for pair in ("< <=", "> >=", "== !=", "&& ||", "+ -", "+= -=") for one, other in zip(pair.split(), pair.split()[::-1])}
+PLAIN = {"bool": ["true", "false"], "Option": ["None"], "Result<()": ["Ok(())"], **{f"{sign}{size}": ["0"] for sign in "iu"
+         for size in (8, 16, 32, 64, "size")}}
+# What `make check FAST=1` has of the program itself: the checks of the repository would see the text of an edit.
+CHECKS = ["cli", "journal", "agents", "crash", "load"]
+
+
+@dataclass(frozen=True)
+class Edit:
+    """One line of a file of a crate, and the line in its place."""
+    crate: str
+    path: str
+    number: int
+    kind: str
+    old: str
+    new: str
+
+    @property
+    def text(self) -> str:
+        return f"file: {self.path}\nold: {self.old}\nnew: {self.new}\n"
+
+    @property
+    def name(self) -> str:
+        return f"{self.crate}/{hashlib.sha256(self.text.encode()).hexdigest()[:12]}"
+
+    @property
+    def function(self) -> str | None:
+        """The function that it changes; none for a constant."""
+        text = goals.read(TOP / "crates" / self.crate / self.path)
+        return None if CONSTANT.match(code_of(self.old)) else goals.function_at(text, text.find(self.old))
+
+    def __str__(self) -> str:
+        place = f"{self.crate}/{self.path}:{self.number} {self.function or '-'}"
+        return f"{place}: {self.kind}: {self.old.strip()} => {self.new.strip() or '(nothing)'}"
+
+
+def end_of(text: str, place: int) -> int:
+    """The end of a group that begins with a bracket at this place."""
+    depth = 0
+    for found in re.compile(r"[()\[\]{}]").finditer(text, place):
+        depth += 1 if found[0] in PAIRS else -1
+        if not depth:
+            return found.end()
+    return len(text)
+
+
+def blank(text: str) -> str:
+    return re.sub(r"[^\n]", " ", text)
+
+
+def code_of(text: str) -> str:
+    """A source with blanks for its comments, what is quoted, attributes, clauses and ghost items."""
+    code = NO_CODE.sub(lambda found: f'"{blank(found[0][1:-1])}"' if found[0][0] in "\"'" else blank(found[0]), text)
+    place = 0
+    while found := NO_BODY.search(code, place):
+        place = found.end() if found[0].endswith(";") else end_of(code, found.end())
+        code = code[:found.start()] + blank(code[found.start():place]) + code[place:]
+    return code
+
+
+def body_at(code: str, place: int) -> tuple[int, int] | None:
+    """Where the body of a function begins and ends whose parameters follow this place; its brace ends a line, or is that of `{}`."""
+    while found := re.compile(r"[(\[{;]").search(code, place):
+        if found[0] == ";":
+            return None
+        place = end_of(code, found.start())
+        if found[0] == "{" and re.match(r"\{ *(\n|\})", code[found.start():]):
+            return found.end(), place - 1
+    return None
+
+
+def regions(code: str) -> Iterator[tuple[int, int, str]]:
+    """The bodies of functions, each with the type that it gives, and the values of constants."""
+    for found in goals.FUNCTION.finditer(code):
+        if body := body_at(code, found.end()):
+            given = re.search(r"\) -> ([^{]*)", code[found.end():body[0]])
+            yield *body, " ".join(given[1].split()) if given else ""
+    yield from ((*found.span(1), "") for found in CONSTANT.finditer(code))
+
+
+@dataclass(frozen=True)
+class Line:
+    """A line of a body: its text, its code, the code of the line before it, and, for the last line, the type that the function gives."""
+    text: str
+    code: str
+    before: str
+    given: str
+
+    def found(self, form: str) -> Iterator[re.Match[str]]:
+        return re.finditer(form, self.code)
+
+    def put(self, span: tuple[int, int], new: str) -> str:
+        """The line with a text in place of a part of it, which $ stands for: no code has that."""
+        return (self.text[:span[0]] + new.replace("$", self.text[slice(*span)]) + self.text[span[1]:]).rstrip()
+
+    @property
+    def begins(self) -> bool:
+        """Whether a statement begins with it."""
+        return self.before.endswith(("{", "}", ";"))
+
+
+def deleted(line: Line) -> Iterator[str]:
+    if line.begins and all(line.code.count(one) == line.code.count(other) for one, other in PAIRS.items()):
+        yield from (line.put(found.span(1), "") for found in line.found(r"^ *((?!(?:let|use|const)\b)[\w*(].*;) *$"))
+
+
+def negated(line: Line) -> Iterator[str]:
+    yield from (line.put(found.span(1), "!($)") for found in line.found(r"\b(?:if|while) ((?!let\b).+) \{ *$") if " let " not in found[1])
+
+
+def operator(line: Line) -> Iterator[str]:
+    yield from (line.put(found.span(), SWAPS[found[0]]) for found in line.found(r"(?<= )(?:[<>]=?|[=!]=|&&|\|\||[+-]=?)(?= )"))
+
+
+def off_by_one(line: Line) -> Iterator[str]:
+    for found in line.found(r"(?:(?<=\.\.)|(?<![\w.]))(\d[\d_]*)(?=(?:[iu](?:\d\d?|size))?(?:\.\.|[^\w.]|$))"):
+        yield from (line.put(found.span(1), str(int(found[1]) + more)) for more in (1, -1) if int(found[1]) + more >= 0)
+
+
+def exchanged(line: Line) -> Iterator[str]:
+    for call in line.found(r"(?<=[\w>])\("):
+        end, commas, place = end_of(line.code, call.start()) - 1, [call.start()], call.end()
+        while found := re.compile(r"[(\[{,]").search(line.code, place, end):
+            commas += [found.start()] if found[0] == "," else []
+            place = found.end() if found[0] == "," else end_of(line.code, found.start())
+        for first, comma, last in zip(commas, commas[1:], [*commas[2:], end]):
+            one, other = line.text[first + 1:comma].strip(), line.text[comma + 1:last].strip()
+            if end < len(line.code) and one != other:
+                yield line.put((first + 1, last), f"{' ' * (first != call.start())}{other}, {one}")
+
+
+def unasked(line: Line) -> Iterator[str]:
+    if line.begins:
+        yield from (line.put(found.span(1), "let _ = $").replace("?;", ";")
+                    for found in line.found(r"^ *((?!(?:let|return)\b)\w[^=]*)\?; *$"))
+
+
+def plain(line: Line) -> Iterator[str]:
+    """Another value of a condition, or another end of a function."""
+    conditions = line.found(r"\b(?:if|while) !?([\w.]+\(.*\)) \{ *$")
+    yield from (line.put(found.span(1), value) for found in conditions for value in PLAIN["bool"])
+    if line.begins and line.given:
+        values = [value for kind, values in PLAIN.items() if line.given.startswith(kind) for value in values]
+        yield from (line.put(found.span(1), value) for found in line.found(r"^ *(\S.*\)\??) *$") for value in values)
+
+
+def shortened(line: Line) -> Iterator[str]:
+    yield from (line.put(found.span(1), "($).saturating_sub(1)") for found in line.found(r"\bfor .+ in [^.]+\.\.=?(.+) \{ *$"))
+    yield from (line.put(found.span(1), "&$[..$.len().saturating_sub(1)]") for found in line.found(r"\bfor .+ in ([\w.]+) \{ *$")
+                if ".." not in found[1])
+    yield from (line.put(found.span(1), "$ + 1") for found in line.found(r"\bwhile ([\w.]+) < "))
+
+
+KINDS = {"a statement deleted": deleted, "a condition negated": negated, "another operator": operator, "a constant off by one": off_by_one,
+         "arguments exchanged": exchanged, "a fault ignored": unasked, "a plain result": plain, "a loop stops one early": shortened}
+
+
+def edits_of(crate: str, path: str, text: str) -> list[list[Edit]]:
+    """The edits of a source by its lines. A line that the file has twice has none, since an edit names a line by its text, and neither has
+    a call of a lemma, which does nothing."""
+    code, place, before, found = code_of(text), 0, "", []
+    spans = [*regions(code)]
+    for number, line in enumerate(text.split("\n"), 1):
+        end = place + len(line)
+        span = next((span for span in spans if span[0] < end and place + len(line) - len(line.lstrip()) < span[1]), None)
+        if span and text.count(line) == 1 and "lemma_" not in line:
+            begin = max(place, span[0])
+            given = span[2] if not code[end:span[1]].strip() else ""
+            here = Line(line, " " * (begin - place) + code[begin:min(end, span[1])], before, given)
+            found.append([Edit(crate, path, number, kind, line, new) for kind, made in KINDS.items() for new in made(here) if new != line])
+        before = code[place:end].strip() or before
+        place = end + 1
+    return [line for line in found if line]
+
+
+def product(texts: stamps.Texts) -> list[str]:
+    """The crates of the product: no tests, and no laws, which are functions that do nothing."""
+    return [crate for crate in texts.words if not crate.startswith("test_") and not crate.endswith("_laws")]
+
+
+def all_edits(crates: list[str]) -> list[list[Edit]]:
+    return [edits for crate in sorted(crates) for path in sorted((TOP / "crates" / crate).glob("src/**/*.rt"))
+            for edits in edits_of(crate, str(path.relative_to(TOP / "crates" / crate)), goals.read(path))]
+
+
+def drawn(lines: list[list[Edit]], seed: int) -> Iterator[Edit]:
+    """All edits, in the order of a seed: of a line by chance, a kind by chance, and then one of that kind."""
+    chance, left = random.Random(seed), [list(edits) for edits in lines]
+    while left:
+        edits = chance.choice(left)
+        kind = chance.choice(sorted({edit.kind for edit in edits}))
+        edit = chance.choice([edit for edit in edits if edit.kind == kind])
+        edits.remove(edit)
+        left = left if edits else [each for each in left if each]
+        yield edit
+
+
+class Kept:
+    """What became of edits, by the sum of the texts that it rests on."""
+
+    def __init__(self, path: Path):
+        self.path, self.fates = path, {}
+        with contextlib.suppress(FileNotFoundError):
+            for line in path.read_text(encoding="utf-8").splitlines():
+                with contextlib.suppress(ValueError, KeyError):
+                    one = json.loads(line)
+                    self.fates[one["sum"]] = one["fate"]
+
+    def keep(self, total: str, edit: Edit, fate: str, seconds: float) -> None:
+        self.fates[total] = fate
+        with open(self.path, "a", encoding="utf-8") as file:
+            # (what is before it may be half of a line)
+            file.write("\n" + json.dumps({"sum": total, "edit": str(edit), "fate": fate, "seconds": round(seconds)}))
+
+
+def copied(one: str, other: str) -> None:
+    """Copies a file, by a link if it was built, since such a file is replaced and never changed."""
+    if "/out/" in one:
+        with contextlib.suppress(OSError):
+            return os.link(one, other)
+    shutil.copy2(one, other)
+
+
+@contextlib.contextmanager
+def edited(edit: Edit | None) -> Iterator[Path]:
+    """A copy of the repository with an edit, or with none, and with the libraries as they were built here."""
+    with tempfile.TemporaryDirectory() as room:
+        copy = Path(room) / "top"
+        shutil.copytree(TOP, copy, symlinks=True, copy_function=copied,
+                        ignore=lambda at, _: {".git", "incremental"} | ({"out"} if Path(at).parent.name != "crates" else set()))
+        if edit:
+            path = copy / "crates" / edit.crate / edit.path
+            path.write_text(goals.read(path).replace(edit.old, edit.new), encoding="utf-8")
+        subprocess.run(["git", "init", "-q", copy], check=True)
+        yield copy
+
+
+def called(where: Path, *words: str) -> tuple[int, str]:
+    how = {"stdin": subprocess.DEVNULL, "stdout": subprocess.PIPE, "stderr": subprocess.STDOUT, "errors": "replace"}
+    done = subprocess.run(words, cwd=where, check=False, **how)
+    return done.returncode, done.stdout
+
+
+def fate_above(edit: Edit, texts: stamps.Texts) -> str:
+    """What the crates that name the edit's crate say of it, if its library has another interface: the first one that refuses it."""
+    own, library = Path("crates", edit.crate), Path("crates", edit.crate, "out", "rlib", f"{edit.crate}.rlib", "interface", "lang")
+    with edited(edit) as copy:
+        status, said = called(copy / own, "rt", "lib")
+        if status:
+            return f"NOT TRIED: no library: {said[-200:]}"
+        if not called(TOP, "diff", "-r", str(library), str(copy / library))[0]:
+            return "NOT REFUSED: the library has the same interface"
+        for crate in sorted(crate for crate, (_, below) in texts.words.items() if edit.crate in below):
+            status, said = called(copy / "crates" / crate, "rt", "check")
+            told = next((line for line in said.splitlines() if re.search(r":\d+:\d+: error|^note: ", line)), said[-200:])
+            if status:
+                return f"refused by {crate}: {told}" if "logic=not-proved" in said else f"NOT TRIED: {crate}: {told}"
+    return "NOT REFUSED"
+
+
+@functools.cache
+def failing(edit: Edit | None) -> frozenset[str] | None:
+    """The checks of `make check FAST=1` that fail with a program that was compiled with this edit, or with none; none where it was not."""
+    with edited(edit) as copy:
+        folder = copy / "crates" / stamps.PROGRAM / "out"
+        # (tests/check.sh builds it anew)
+        (copy / "crates/ocf_agents/out/ocf_agents").unlink(missing_ok=True)
+        if called(copy, "package/program.sh", str(folder))[0]:
+            return None
+        return frozenset(re.findall(r"^failed +[0-9.]+ s  (.*)$", called(copy, "tests/check.sh", "--fast", *CHECKS)[1], re.MULTILINE))
+
+
+def fate_of_tests(edit: Edit) -> str:
+    found, always = failing(edit), failing(None)
+    if found is None or always is None:
+        return "NOT TRIED: the program was not compiled"
+    return f"refused by {min(found - always)}" if found - always else "NOT REFUSED"
+
+
+def may_be_seen(edit: Edit) -> bool:
+    """Whether an edit changes more than a body, which no other crate sees: a constant, or a function that is computed in types."""
+    return not edit.function or f"const fn {edit.function}" in goals.read(TOP / "crates" / edit.crate / edit.path)
+
+
+@dataclass
+class Judge:
+    """Says of each edit what became of it, and has those tried of which nothing is kept."""
+    texts: stamps.Texts
+    kept: Kept
+    with_tests: bool
+    lanes: int
+
+    def stage(self, edit: Edit) -> tuple[str, str]:
+        """The stage that decided about an edit, or the one to be tried, with the sum of what its answer will rest on."""
+        for stage, total in self.stages(edit):
+            fate = self.kept.fates.get(total)
+            if fate is None:
+                return stage, total
+            if not fate.startswith("NOT REFUSED"):
+                return "bad" if fate.startswith("BAD EDIT") else "weak" if "(only b" in fate else stage, ""
+        return "alive", ""
+
+    def stages(self, edit: Edit) -> Iterator[tuple[str, str]]:
+        """The stages of an edit, each with the sum of what its answer rests on."""
+        yield "proof", self.texts.sum_of_edit(edit.name)
+        whole = self.texts.sum_of_edit(edit.name, stamps.PROGRAM)
+        if may_be_seen(edit):
+            yield "above", f"above {whole}"
+        if self.with_tests:
+            yield "test", f"test {whole}"
+
+    def note(self, edit: Edit, fate: str, seconds: float) -> None:
+        if not fate.startswith("NOT TRIED"):
+            self.kept.keep(self.stage(edit)[1], edit, fate, seconds)
+        print(f"  {edit}\n    {fate[:200]}", flush=True)
+
+    def prove(self, crate: str, edits: dict[str, Edit], running: set) -> None:
+        """Tries edits of one crate by its proof."""
+        began = time.monotonic()
+        told, said = stamps.fates(crate, [name.split("/")[1] for name in edits], running)
+        seconds, after = time.monotonic() - began, stamps.Texts()
+        print(f"{crate}: {len(edits)} tried in {seconds:.0f} s", *([] if told else said.splitlines()[-20:]), sep="\n", flush=True)
+        for name, edit in edits.items():
+            fate = told.get(name, "NOT TRIED: nothing was said of it")
+            if after.sum_of_edit(name) != self.texts.sum_of_edit(name):
+                fate = "NOT TRIED: a file that it rests on changed meanwhile"
+            by = goals.goal(stamps.crate_of(name), fate) if fate.startswith("refused") else None
+            self.note(edit, f"{fate} [goal of {by}]" if by else fate, seconds / len(edits))
+
+    def try_all(self, edits: Iterable[Edit]) -> None:
+        """Moves each of these on by one stage."""
+        by_crate = collections.defaultdict(dict)
+        for edit in edits:
+            stage = self.stage(edit)[0]
+            if stage == "proof":
+                by_crate[edit.crate][edit.name] = edit
+                continue
+            began = time.monotonic()
+            fate = fate_above(edit, self.texts) if stage == "above" else fate_of_tests(edit)
+            self.note(edit, fate, time.monotonic() - began)
+        if by_crate:
+            stamps.in_lanes(by_crate, self.lanes, self.prove)
+
+
+def written(edit: Edit) -> Edit:
+    """Writes an edit where try.sh finds it."""
+    path = FOLDER / f"{edit.name}.edit"
+    path.parent.mkdir(parents=True, exist_ok=True)
+    path.write_text(edit.text, encoding="utf-8")
+    return edit
+
+
+def judged(edits: Iterator[Edit], count: int, judge: Judge) -> dict[Edit, str]:
+    """The first edits that compile, each with the stage that decided about it; ? stands for what could not be tried."""
+    chosen, stuck = [], set()
+    while True:
+        chosen = [edit for edit in chosen if judge.stage(edit)[0] != "bad"]
+        more = [written(edit) for edit in itertools.islice(edits, count - len(chosen))]
+        chosen += more
+        left = {edit: judge.stage(edit) for edit in chosen if edit not in stuck and judge.stage(edit)[1]}
+        if left:
+            judge.try_all(left)
+            stuck |= {edit for edit, stage in left.items() if judge.stage(edit) == stage}
+        elif not more:
+            return {edit: "?" if edit in stuck else judge.stage(edit)[0] for edit in chosen}
+
+
+def table(found: dict[Edit, str]) -> str:
+    """The numbers by kind, and the edits that are alive."""
+    columns = {"edits": None, "refused by the crate": "proof", "only by a limit or a name": "weak", "above it": "above",
+               "by a test": "test", "alive": "alive", "not tried": "?"}
+    lines = [f"{'':24}  {'  '.join(columns)}"]
+    for kind in [*KINDS, "all"]:
+        stages = [stage for edit, stage in found.items() if kind in (edit.kind, "all")]
+        numbers = [stages.count(stage) if stage else len(stages) for stage in columns.values()]
+        lines.append(f"{kind:24}  {'  '.join(f'{number:{len(head)}}' for head, number in zip(columns, numbers))}")
+    return "\n".join([*lines, *[f"{stage}: {edit}" for edit, stage in found.items() if stage in ("alive", "?")]])
+
+
+def main() -> int:
+    asked = argparse.ArgumentParser(description=__doc__.split("\n", maxsplit=1)[0])
+    asked.add_argument("--seed", type=int, default=1)
+    asked.add_argument("--count", type=int, default=20)
+    asked.add_argument("--tests", action="store_true", help="whether `make check FAST=1` sees what no proof refuses")
+    asked.add_argument("-j", type=int, default=0, metavar="CRATES", help="how many crates are tried at a time")
+    asked.add_argument("crates", nargs="*", metavar="CRATE", help="all of the product, if left out")
+    words, texts = asked.parse_args(), stamps.Texts()
+    signal.signal(signal.SIGTERM, lambda *_: sys.exit(143))
+    FOLDER.mkdir(parents=True, exist_ok=True)
+    lines = all_edits(words.crates or product(texts))
+    if not lines:
+        sys.exit("random.py: these crates have no line to edit")
+    found = judged(drawn(lines, words.seed), words.count, Judge(texts, Kept(FOLDER / "kept"), words.tests, words.j))
+    print(table(found))
+    return 1 if "?" in found.values() else 0
+
+
+if __name__ == "__main__":
+    sys.exit(main())
