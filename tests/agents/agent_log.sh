@@ -24,7 +24,7 @@ starts_by() {
 
 # One start, drained. Use: starts WORD..
 starts() {
-    starts_by timeout 20 "$program" run "$@" 2> "$here/err"
+    starts_by timeout "$patience" "$program" run "$@" 2> "$here/err"
 }
 
 # The agents' own output in a file. Use: words FILE
@@ -64,7 +64,7 @@ for log in "$here/none/log" "$here/root" "$here/pipe"; do
     same "--log $log, status" 7 "$status"
     same "--log $log, standard output" "" "$(cat "$here/out")"
     same "--log $log, standard error" "ocfexec: input or output" "$(cat "$here/err")"
-    starts_by explained "$here/err" timeout 20 "$program" run --journal "$here/journal" --log "$log"
+    starts_by explained "$here/err" timeout "$patience" "$program" run --journal "$here/journal" --log "$log"
     same "--log $log, status for a person" 7 "$status"
     same "--log $log, first line for a person" "ocfexec: input or output" "$(head -n 1 "$here/err")"
     sed -n 2p "$here/err" | grep -q -F -e "$log: " || differs "--log $log, why" "$log: .." "$(cat "$here/err")"

@@ -120,11 +120,17 @@ metadata() {
     replied 'metadata of no agent'
 }
 
-# Whether this process is gone within five seconds: init may reap what was killed a little later. Use: gone PID
+# The state of a process as proc(5) has it, a letter; nothing if there is no such process. Use: process_state PID
+process_state() {
+    sed -n 's/^State:[[:space:]]*\(.\).*/\1/p' "/proc/$1/status" 2> /dev/null
+}
+
+# Whether this process has ended within a minute. A killed process may stay a zombie for as long as init does not wait for it. Use: gone PID
 gone() {
-    local _
-    for _ in {1..50}; do
-        kill -0 "$1" 2> /dev/null || return 0
+    local _ state
+    for _ in {1..600}; do
+        state=$(process_state "$1")
+        [ -n "${state//[ZX]/}" ] || return 0
         sleep 0.1
     done
     return 1
@@ -134,9 +140,9 @@ gone() {
 # goes on: each ends at its limit, and the agent is killed.
 limited() {
     local began took
-    echo 'echo $$ >> "$HERE/pids"; exec sleep 20' | sed "s,\$HERE,$here," > "$agents/Hangs"
-    echo 'echo half; sleep 20 & echo $! > "$HERE/leaver"; exit 0' | sed "s,\$HERE,$here," > "$agents/Leaves"
-    echo 'echo $$ >> "$HERE/pids"; echo all; exec sleep 20 > /dev/null' | sed "s,\$HERE,$here," > "$agents/Closes"
+    echo 'echo $$ >> "$HERE/pids"; exec sleep 300' | sed "s,\$HERE,$here," > "$agents/Hangs"
+    echo 'echo half; sleep 300 & echo $! > "$HERE/leaver"; exit 0' | sed "s,\$HERE,$here," > "$agents/Leaves"
+    echo 'echo $$ >> "$HERE/pids"; echo all; exec sleep 300 > /dev/null' | sed "s,\$HERE,$here," > "$agents/Closes"
     for agent in Hangs Leaves Closes; do
         printf '{"op":"meta","provider":"test","type":"%s","limit":300}\n' "$agent"
     done > "$here/lines"
@@ -218,10 +224,7 @@ stubborn() {
     { register r1 Stubborn; start r1 300; printf '{"op":"drain"}\n'; } > "$here/lines"
     play
     same 'an agent that ignores SIGTERM' 'start timed-out 1' "$(outcomes "$here/out")"
-    # (a killed process may be there as a zombie, until it is waited for)
-    local state
-    state=$(sed -n 's/^State:[[:space:]]*\(.\).*/\1/p' "/proc/$(cat "$here/left")/status" 2> /dev/null)
-    same 'what a killed agent has started' '' "${state//[ZX]/}"
+    gone "$(cat "$here/left")" || differs 'what a killed agent has started' 'killed' "$(process_state "$(cat "$here/left")")"
 }
 
 # The inheritance of an agent, from a program that has another descriptor, ignores SIGPIPE, blocks no signal and has a umask of 027.
@@ -281,7 +284,7 @@ crowd() {
     first=$(wc -w < "/proc/$pid/task/$pid/children")
     {
         for n in $(seq 1 256); do register "r$n" Sleeps; done
-        for n in $(seq 1 256); do start "r$n" 4000; done
+        for n in $(seq 1 256); do start "r$n" 10000; done
         printf '{"op":"drain"}\n'
     } >&3
     local most=0 now last=$(($(date +%s) + patience))

@@ -45,6 +45,8 @@ def can(*command):
     return shutil.which(command[0]) is not None and subprocess.run(command, capture_output=True, check=False).returncode == 0
 
 
+# the timeout of a start that a busy machine held back, in milliseconds
+LONG = 20_000
 # The sleeps of this run have these digits after the point, so that no other run finds them.
 MINE = f"{os.getpid():07}"
 
@@ -92,13 +94,17 @@ class Endings(helper.Check):
             return err.read()
 
     def timed_out(self, does, timeout=500, way="serve", names=("child",), **params):
-        """Lets a start time out that leaves processes under these names; returns their numbers once the timeout was reported."""
+        """Lets a start time out that leaves processes under these names; returns their numbers once the timeout was reported. A busy
+        machine may hold the start back until then: so it has more time once more."""
         run = self.opened(way)
         run.tell(self.register(does, **params), helper.action("r1", "start", timeout=timeout))
         if way == "run":
             run.tell({"op": "drain"})
-        pids = [self.awaits_pid(name) for name in names]
         _, notice = run.awaits(helper.is_notice)
+        pids = [self.pid(name) for name in names]
+        if not all(pids) and timeout < LONG:
+            self.assertEqual(run.ends(), 0)
+            return self.timed_out(does, LONG, way, names, **params)
         self.assertIsNotNone(notice, "a notice")
         self.assertEqual((notice["outcome"], notice["code"]), ("timed-out", 1))
         return run, pids
@@ -184,7 +190,7 @@ class Endings(helper.Check):
         run = self.opened()
         run.tell(self.register("NOTE child & :", monitor="sh -c 'NOTE other; :'"), helper.action("r1", "start", timeout=5000))
         run.awaits(lambda value: helper.is_notice(value, action="start"))
-        run.tell(helper.action("r1", "monitor", timeout=500))
+        run.tell(helper.action("r1", "monitor", timeout=2000))
         service, other = self.awaits_pid("child"), self.awaits_pid("other")
         _, notice = run.awaits(lambda value: helper.is_notice(value, action="monitor"))
         self.assertEqual(notice["outcome"], "timed-out")
@@ -196,7 +202,7 @@ class Endings(helper.Check):
         run = self.opened()
         run.tell(self.register("NOTE second; :", name="r2"), helper.action("r2", "start", timeout=60000))
         second = self.awaits_pid("second")
-        run.tell(self.register("NOTE child; :"), helper.action("r1", "start", timeout=400))
+        run.tell(self.register("NOTE child; :"), helper.action("r1", "start", timeout=2000))
         child = self.awaits_pid("child")
         run.awaits(lambda value: helper.is_notice(value, id="r1"))
         self.ended([child])
@@ -267,7 +273,7 @@ class Endings(helper.Check):
         os.chmod(self.place("resource.d/test/Direct"), 0o755)
         words = f"{mount} && exec {helper.PROGRAM} serve --memory --root {self.here}"
         run = self.heard("-m", shell, "-c", words, err=self.err, program="unshare")
-        run.tell(helper.register("r1", "Direct", up=self.up), helper.action("r1", "start", timeout=500))
+        run.tell(helper.register("r1", "Direct", up=self.up), helper.action("r1", "start", timeout=2000))
         child = self.awaits_pid("child")
         _, notice = run.awaits(helper.is_notice)
         self.assertEqual(notice["outcome"], "timed-out")

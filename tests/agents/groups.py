@@ -188,7 +188,7 @@ class Groups(acting.Acting):
         self.assertEqual((group, session), (executor, executor))
         run = self.opened("--no-groups")
         run.tell(self.register(start="HERE/waits child; :"))
-        self.assertEqual(self.done(run, "r1", "start", timeout=1500)["outcome"], "timed-out")
+        self.assertEqual(self.done(run, "r1", "start", timeout=4000)["outcome"], "timed-out")
         self.assertNotEqual(self.noted("child"), [], "it began")
         self.is_down(run)
 
@@ -269,7 +269,7 @@ class Groups(acting.Acting):
         [end] = self.ends_of(run, "r1", "start")
         self.assertEqual(end["outcome"], "timed-out", self.seen())
         # (a process that looks for them, on a busy machine, may not see one of them)
-        self.assertGreater(os.path.getsize(os.path.join(self.up, "flown")), 60 * len("flies\n"), "the comets had successors")
+        self.came_often(61, os.path.getsize(os.path.join(self.up, "flown")) // len("flies\n"), "comets, with their successors")
         monitors = os.path.join(self.up, "monitors")
         before = os.path.getsize(monitors) if os.path.exists(monitors) else 0
         self.eventually("five more monitors of the other resource", lambda: os.path.exists(monitors) and
@@ -304,7 +304,7 @@ class Groups(acting.Acting):
         """a service in the group of its start is ended by a timeout of that start"""
         run = self.opened()
         run.tell(self.register(start="WAITS service1 & WAITS agent"))
-        run.tell(helper.action("r1", "start", timeout=1500))
+        run.tell(helper.action("r1", "start", timeout=4000))
         service = self.pid("service1")
         [end] = self.ends_of(run, "r1", "start")
         self.assertEqual(end["outcome"], "timed-out")

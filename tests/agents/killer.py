@@ -124,7 +124,7 @@ class Killer(acting.Acting):
         """where /proc shows nothing, a start past its timeout stays down behind its stop"""
         words = f"mount -t tmpfs none /proc && exec {helper.PROGRAM} serve --memory --root {self.here}"
         run = self.heard("-m", "sh", "-c", words, err=self.err, program="unshare", start_new_session=True)
-        child = self.begins(run, timeout=1500)
+        child = self.begins(run, timeout=4000)
         self.passes(run, child)
         self.is_down(run)
 
@@ -171,7 +171,7 @@ class Killer(acting.Acting):
         pid = self.killer(run)
         os.kill(pid, signal.SIGKILL)
         self.eventually("it is gone", lambda: not helper.is_alive(pid))
-        child = self.begins(run, timeout=1500)
+        child = self.begins(run, timeout=4000)
         self.passes(run, child)
         self.is_down(run)
 
@@ -193,7 +193,7 @@ class Killer(acting.Acting):
         self.assertFalse(helper.is_alive(child), "nothing of the second start is left")
 
     def begins_again(self, run):
-        run.tell(helper.action("r1", "start", timeout=1500))
+        run.tell(helper.action("r1", "start", timeout=4000))
         return self.pid("child")
 
     def test_is_stopped(self):
@@ -203,7 +203,7 @@ class Killer(acting.Acting):
         run.tell(self.register("r2", monitor="exit 7"))
         os.kill(pid, signal.SIGSTOP)
         self.addCleanup(lambda: helper.is_alive(pid) and os.kill(pid, signal.SIGKILL))
-        child = self.begins(run, timeout=1500)
+        child = self.begins(run, timeout=4000)
         self.assertEqual(self.done(run, "r2", "monitor")["code"], 7)
         self.passes(run, child)
         self.is_down(run)
@@ -231,7 +231,7 @@ class Killer(acting.Acting):
                 self.written(over, "\x7fELF, and nothing else\n")
                 os.chmod(over, mode)
                 run = self.behind((over, os.path.realpath(shutil.which("setsid"))))
-                child = self.begins(run, timeout=1500)
+                child = self.begins(run, timeout=4000)
                 self.passes(run, child)
                 self.is_down(run)
                 os.remove(os.path.join(self.up, "child"))
@@ -242,7 +242,7 @@ class Killer(acting.Acting):
         """what could not be killed holds its resource, and is killed as soon as signals can be sent; its begin and its end are told once"""
         folder = self.journal()
         run = self.behind(("/dev/null", "/bin/sh"), kept=("--journal", folder))
-        child = self.begins(run, timeout=1500)
+        child = self.begins(run, timeout=4000)
         [end] = self.ends_of(run, "r1", "start")
         self.assertEqual(end["outcome"], "timed-out")
         run.tell(helper.action("r1", "stop"), self.register("r2", monitor="exit 7"))

@@ -136,7 +136,7 @@ class Logs(WithLogs):
         self.assertEqual(run.ends(), 0)
         self.assertRegex(self.read(), r"run 1 was killed after \d+ ms\n$")
 
-    def awaits_log(self, text, name="web.log", seconds=20):
+    def awaits_log(self, text, name="web.log", seconds=helper.PATIENCE):
         until = time.monotonic() + seconds
         while time.monotonic() < until:
             if os.path.exists(os.path.join(self.logs, name)) and text in self.read(name):
@@ -154,9 +154,9 @@ class Logs(WithLogs):
         os.rename(os.path.join(self.logs, "web.log"), os.path.join(self.logs, "web.log.1"))
         with open(go, "w", encoding="ascii"):
             pass
-        run.awaits(lambda value: helper.is_notice(value, action="start", code=0), 20)
+        run.awaits(lambda value: helper.is_notice(value, action="start", code=0))
         run.tell(helper.action("web", "stop"))
-        run.awaits(lambda value: helper.is_notice(value, action="stop", code=0), 20)
+        run.awaits(lambda value: helper.is_notice(value, action="stop", code=0))
         self.assertEqual(run.ends(), 0)
         self.assertTrue(self.read("web.log.1").endswith("went on\n"), self.read("web.log.1"))
         self.assertEqual(without_moments(self.read()).split("\n")[:3], [
@@ -169,9 +169,7 @@ class Logs(WithLogs):
         os.rename(os.path.join(self.logs, "web.log"), os.path.join(self.logs, "web.log.1"))
         with open(go, "w", encoding="ascii"):
             pass
-        until = time.monotonic() + 20
-        while not os.path.exists(ready) and time.monotonic() < until:
-            time.sleep(0.02)
+        self.eventually("the daemon's end", lambda: os.path.exists(ready))
         self.assertTrue(self.read("web.log.1").endswith("daemon: 0\n"), self.read("web.log.1"))
 
     def names(self, done, *wanted):

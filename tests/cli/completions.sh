@@ -95,7 +95,7 @@ done
 awaits prompted
 zpty -d shell
 ZSH
-    HOME=$here timeout $((30 * $(slowness))) zsh -f "$here/typed" "$here" "$@" > /dev/null 2>&1
+    HOME=$here timeout $((60 * $(slowness))) zsh -f "$here/typed" "$here" "$@" > /dev/null 2>&1
     sed 's/ *$//' "$here/words"
 }
 if command -v zsh > /dev/null; then

@@ -224,7 +224,7 @@ class Conditions(helper.Check):
         took = time.monotonic() - began
         self.assertEqual({value["since"] for value in found.values()}, {self.written.now - 2 * HOUR})
         print(f"conditions: a status over a full part of 256 resources took {took:.3f} s")
-        self.assertLess(took, 2 + helper.more_patience(2))
+        self.took_less(2, took, "a status over a full part")
 
 
 if __name__ == "__main__":

@@ -955,7 +955,7 @@ class Programs(Hand):
         self.assertEqual((half.line()["kind"], half.line()), ("reply", None))
         before = helper.processor_time(client.run.pid)
         time.sleep(2)
-        self.assertLess(helper.processor_time(client.run.pid) - before, 0.3)
+        self.assertLess(helper.processor_time(client.run.pid) - before, 0.3 * helper.slowness())
 
 
 if __name__ == "__main__":

@@ -77,7 +77,7 @@ class Events(helper.Check):
         run = self.heard("serve", "--memory", "--root", self.here, "--events", err=self.place("err"),
                          env={**os.environ, **self.stream()})
         run.tell(helper.register("web", "Ends", code="7"), {"op": "recur", "id": "web", "interval": 1000})
-        run.awaits(lambda value: helper.is_notice(value, action="monitor", code=7), 20)
+        run.awaits(lambda value: helper.is_notice(value, action="monitor", code=7))
         self.assertEqual(run.ends(), 0)
         with open(self.place("err"), encoding="utf-8") as err:
             first = without_times(err.read()).splitlines()[0]

@@ -205,7 +205,8 @@ class Metrics(helper.Check):
         for family, moments in at.items():
             self.assertEqual(list(ages[family]), list(moments), family)
             for series, moment in moments.items():
-                self.assertAlmostEqual(ages[family][series], now - moment / 1000, delta=5 * helper.slowness(), msg=f"{family} of {series}")
+                wanted, most = now - moment / 1000, 5 + helper.more_patience(5)
+                self.assertAlmostEqual(ages[family][series], wanted, delta=most, msg=f"{family} of {series}")
         return found
 
     def is_held(self):
@@ -315,7 +316,7 @@ class Metrics(helper.Check):
         run.ready()
         found = self.metrics()
         self.assertEqual((found["ocfexec_up"], found["ocfexec_resource_held"]), ([((), 1)], []))
-        self.assertAlmostEqual(found["ocfexec_start_time_seconds"][0][1], began, delta=5 * helper.slowness())
+        self.assertAlmostEqual(found["ocfexec_start_time_seconds"][0][1], began, delta=5 + helper.more_patience(5))
         run.tell(action("web", "start"))
         self.numbers_in(self.place("pid"))
         run.killed()

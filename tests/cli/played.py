@@ -205,7 +205,12 @@ class Rows(Played):
         full = refusal("journal-full", 14)
         self.ends("0", [*[OK] * 542, full, OK, '{"end":"done"}', OK], "directory /j",
                   *lines(REG, *[large] * 542, {"op": "forget", "id": "r1"}, {"op": "tidy"}, large),
-                  "ocfexec run --tidy-at 8388608 --journal /j")
+                  "ocfexec run --tidy-at 0 --journal /j")
+
+    def test_never_full(self):
+        """where a session tidies by itself no command finds the part full, however late it may begin to"""
+        large = {"op": "params", "id": "r1", "params": dict.fromkeys("abcdefghijklmno", "v" * 1024)}
+        self.ends("0", [OK] * 1200, "directory /j", *lines(REG, *[large] * 1199), "ocfexec run --tidy-at 8388608 --journal /j")
 
 
 class Asked(Played):
@@ -215,23 +220,46 @@ class Asked(Played):
                  "--logs d")
         run = self.ends("0", [OK], "directory /j", "clock 500", *lines(REG), f"ocfexec run {words}")
         self.assertEqual(run.asked(), [
-            "ignored", "signals", "log l d", "files /j yes", "reader", "agents /j 7 yes no 768", "watch -", "moment 500", "moment 500",
-            "source /r /p v yes", "groups no", "identity /j", "writer -", "reasons l d", "give-up", "ran well", "ended 0"])
+            "ignored", "signals", "log l d", "files /j yes", "reader", "agents /j 7 yes no 768", "watch -", "moment 500", "ticker /j 0",
+            "source /r /p v yes", "groups no", "identity /j", "writer -", "reasons l d", "leave", "ran well", "close", "ended 0"])
+
+    def test_each(self):
+        """each option of a run, and the requests that it changes"""
+        plain = self.ends("0", [], "directory /j", "ocfexec run --journal /j").asked()
+        for words, wanted in [("--any-owner", ["files /j yes"]), ("--orphans 7", ["agents /j 7 no yes 768"]),
+                              ("--leave-orphans", ["agents /j 20000 yes yes 768"]),
+                              ("--no-groups", ["agents /j 20000 no no 768", "groups no"]), ("--root /r", [f"source /r {PATH} - no"]),
+                              ("--path /p", [f"source {ROOT} /p - no"]), ("--via v", [f"source {ROOT} {PATH} v no"]),
+                              ("--meta-variables", [f"source {ROOT} {PATH} - yes"]), ("--log l", ["log l -", "reasons l -"]),
+                              ("--logs d", ["log - d", "reasons - d"]), ("--events", []), ("--existing", []), ("--strict", []),
+                              ("--tidy-at 0", [])]:
+            asked = self.ends("0", [], "directory /j", f"ocfexec run {words} --journal /j").asked()
+            self.assertEqual([line for line, before in zip(asked, plain, strict=True) if line != before], wanted, words)
+
+    def test_each_once(self):
+        """each option of an action that is run once, and what it changes"""
+        for words, asked, site in [("", "p:t start", f"{ROOT} {PATH} - no"), ("--root /r", "p:t start", f"/r {PATH} - no"),
+                                   ("--path /p", "p:t start", f"{ROOT} /p - no"), ("--via v", "p:t start", f"{ROOT} {PATH} v no"),
+                                   ("--meta-variables", "p:t start", f"{ROOT} {PATH} - yes"),
+                                   ("--no-groups", "p:t start", f"{ROOT} {PATH} - no")]:
+            run = self.ends("77", [], f"ocfexec once p:t start {words}".rstrip())
+            self.assertEqual(run.asked(), [f"once {asked}", f"site {site}", "ended 77"])
 
     def test_serve(self):
         """the requests of a serving run: its directory is watched; by default agents are where the manual page says"""
         run = self.ends("0", [SERVED_OK], "directory /j", *lines(REG), "ocfexec serve --journal /j")
         self.assertEqual(run.asked(), [
-            "ignored", "signals", "log - -", "files /j no", "reader", "agents /j 20000 no yes 768", "watch /j", "moment 0", "moment 0",
-            f"source {ROOT} {PATH} - no", "groups yes", "identity /j", "writer /j", "reasons - -", "give-up", "ran well", "ended 0"])
+            "ignored", "signals", "log - -", "files /j no", "reader", "agents /j 20000 no yes 768", "watch /j", "moment 0", "ticker /j 0",
+            f"source {ROOT} {PATH} - no", "groups yes", "identity /j", "writer /j", "reasons - -", "leave", "ran well", "close",
+            "ended 0"])
         self.is_ready(run)
 
     def test_memory(self):
         """a run in memory requests no directory and writes nothing on standard error"""
         run = self.ends("0", [], "ocfexec serve --memory")
         self.assertEqual(run.asked(), ["ignored", "signals", "log - -", "reader", "agents - 20000 no yes 768", "watch -", "moment 0",
-                                       f"source {ROOT} {PATH} - no", "groups yes", "identity -", "writer -", "reasons - -", "give-up",
-                                       "ran well", "ended 0"])
+                                       "ticker - 0", f"source {ROOT} {PATH} - no", "groups yes", "identity -", "writer -", "reasons - -",
+                                       "leave", "ran well", "ended 0"])
         self.is_ready(run, journal=None, identity=None)
 
     def test_site(self):
@@ -305,12 +333,13 @@ class Fails(Played):
         self.assertEqual(self.ends(ended, [], *plan).asked(), [*asked, f"ended {ended}"])
 
     def test_before(self):
-        """each call before the opening fails in turn: no request follows, and nothing is written"""
+        """each call before the opening fails in turn: no request follows but the close of opened files, and nothing is written"""
         run, before = "ocfexec run --journal /j --log l", ["ignored", "signals", "log l -", "files /j no", "reader",
                                                           "agents /j 20000 no yes 768"]
         for word, ended, count in [("ignored", "8 SIGCHLD is ignored", 1), ("log", "7 input or output", 3), ("files", "5 disk", 4),
                                    ("reader", "4 memory", 5), ("agents", "4 memory", 6)]:
-            self.fails(ended, before[:count], "directory /j", f"fail {word}", *self.TOLD, run)
+            closes = ["close"] if count > 4 else []
+            self.fails(ended, before[:count] + closes, "directory /j", f"fail {word}", *self.TOLD, run)
         self.fails("5 disk", before[:4], *self.TOLD, run)
 
     def test_device(self):

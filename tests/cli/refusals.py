@@ -43,6 +43,23 @@ SPOKEN = [
 BROKEN = [b"x", b"{", b'"list"', b"[]", b" " * 131_073, b'{"op":"list","op":"list"}', b"\xff"]
 
 
+def nested(depth, inner):
+    return b'{"a":' * depth + inner + b"}" * depth
+
+
+LONG = b"1" * 400
+# JSON in which an object has a key twice: by two spellings, at any depth that is read, and where a number is too great for a value.
+TWICE = [b'{"a":1,"\\u0061":2}', b'{"\\ud834\\udd1e":1,"\xf0\x9d\x84\x9e":2}', b'{"a/b":1,"a\\/b":2}', b'{"":1,"":2}',
+         b'[[{"x":1},{"b":[{"c":1,"c":1}]}]]', b'{"op":"list","tag":"t","op":"list"}', b'{"a":{"b":1,"b":2},"a":3}',
+         b'{"a":":","a":"\\\\"}', b'{"a":%s,"a":1}' % LONG, b'[1e400,{"a":1,"a":2}]',
+         nested(126, b'{"b":1,"b":2}'), nested(127, b'{"b":1,"b":2}')]
+# Lines with none of that, though they look alike: an escape that is no letter, other keys, a nested key again, and what is no JSON.
+ONCE = [b'{"a":1,"a\\u0000":2}', b'{"a":1,"A":2}', b'{"a":{"a":1}}', b'[{"a":1},{"a":1}]', b'{"a":"\\"a\\":1"}',
+        b'{"a":":\\\\","b":"{\\"b\\":1}"}', nested(127, b"{}"), nested(128, b'{"b":1,"b":2}'), b'{"a":%s}' % LONG,
+        b'{"a":1,"a":2', b'{"a":1,"a":"\\ud834"}', b'{"\\udd1e":1,"\\udd1e":2}',
+        b'{"a":1,"a":"\xff"}', b'{"a":1,"a":2}x', b'{"a":tr"ue","a":1}', b'{"a":1,"a":01}']
+
+
 def asked(word, *commands):
     return helper.replies(helper.run(word, "--memory", told=helper.lines(*commands)).stdout)
 
@@ -81,6 +98,14 @@ class Refusals(helper.Check):
             self.assertEqual(value.get("key"), "op" if line in (b'"list"', b"[]") else None, line[:20])
             wanted = "twice" if b"op" in line else "op must be" if "key" in value else "one JSON object of at most 131072 bytes"
             self.assertIn(wanted, value["message"])
+
+    def test_twice(self):
+        """serve tells a key that occurs twice from all else, by any spelling and at any depth that JSON is read to"""
+        told = b"".join(line + b"\n" for line in TWICE + ONCE)
+        values = helper.replies(helper.run("serve", "--memory", told=told).stdout)
+        self.assertEqual(len(values), len(TWICE + ONCE))
+        for line, value in zip(TWICE + ONCE, values):
+            self.assertEqual(("twice" in value["message"], value["error"] == "syntax"), (line in TWICE, True), line[:60])
 
 
 if __name__ == "__main__":

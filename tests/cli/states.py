@@ -27,6 +27,22 @@ BY_CODES = [
 # The code of a monitor, the expected code, and the state of the resource after it.
 EXPECTED = [(7, 7, "stopped"), (8, 8, "promoted"), (191, 8, "promoted, degraded"), (190, 7, "failed"), (190, 8, "failed"),
             (0, 8, "failed"), (0, 7, "failed")]
+# What the result of a monitor means, by its exit code.
+MEANINGS = {
+    0: "running",
+    1: "failed",
+    2: "failed: its parameters are not valid on this machine",
+    3: "failed: the agent has no such action",
+    4: "failed: the agent lacks a permission",
+    5: "failed: the agent, or what it needs, is not installed",
+    6: "failed: its parameters are not valid on any machine",
+    7: "not running",
+    8: "running, promoted",
+    9: "failed in the promoted role",
+    190: "running, but degraded",
+    191: "running, promoted, but degraded",
+    77: "failed with a code of the agent's own",
+}
 
 
 class States(helper.Check):
@@ -77,6 +93,15 @@ class States(helper.Check):
             with self.subTest(f"{action} ends with {code}"):
                 self.ends(code, action)
                 self.is_so("r1", state)
+
+    def test_meanings(self):
+        """what a result means, in words"""
+        for code, meaning in MEANINGS.items():
+            with self.subTest(f"a monitor ends with {code}"):
+                self.ends(code, "monitor")
+                self.assertRegex(self.status("r1").decode(), rf"(?m)^  monitor +{re.escape(meaning)}, \d+ ms ago$")
+        self.ends(0, "start")
+        self.assertRegex(self.status("r1").decode(), r"(?m)^  start +ok, \d+ ms ago$")
 
     def test_expected(self):
         """by the expected code of a monitor"""

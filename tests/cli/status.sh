@@ -49,6 +49,9 @@ awaits 1 '"outcome":"signaled"' "$here/replies"
 awaits 1 '"interval":90001' "$here/replies"
 printf '%s\n' '{"op":"exec","id":"a-longer-name","action":"start","timeout":90000}' '{"op":"exec","id":"a-longer-name","action":"stop"}' >&3
 eventually "a start that runs" "$here/replies" is_running a-longer-name_start_0 "$here/journal"
+# (the agent is noted in the journal's directory after its begin, in the turn before this reply)
+printf '%s\n' '{"op":"list","tag":"settled"}' >&3
+awaits 1 '"tag":"settled"' "$here/replies"
 cp -r "$here/journal" "$here/before"
 tells --journal "$here/journal"
 cat > "$here/wanted" <<'TABLE'

@@ -494,12 +494,8 @@ class Growths(helper.Check):
         self.agent("Slow", f"echo $$ > {pid}\nsleep 600\n:\n")
         run = helper.Heard("serve", "--journal", folder, "--root", self.here, "--path", "/usr/bin:/bin")
         run.tell(helper.register("r1", "Slow"), helper.action("r1", "start", timeout=900_000))
-        until = time.monotonic() + 10
-        while not (os.path.exists(pid) and os.path.getsize(pid)):
-            self.assertLess(time.monotonic(), until, "the start is under way")
-            time.sleep(0.005)
-        with open(pid, encoding="ascii") as number:
-            self.addCleanup(os.kill, int(number.read()), 9)
+        [number] = self.numbers_in(pid)
+        self.addCleanup(os.kill, number, 9)
         run.killed()
         self.noticed(self.words("serve", "--leave-orphans"), [Step(LIST)], "lives", folder)
 

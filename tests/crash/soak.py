@@ -352,7 +352,7 @@ class Soak(helper.Check):
         for name in ("life.stdin", "life.stdout"):
             with open(os.path.join(helper.TOP, "tests/trials", name), "rb") as file:
                 texts.append(file.read())
-        done = subprocess.run([helper.trials(), "life"], input=texts[0], capture_output=True, timeout=20)
+        done = subprocess.run([helper.trials(), "life"], input=texts[0], capture_output=True, timeout=helper.PATIENCE)
         self.assertEqual((done.returncode, done.stdout, done.stderr), (0, texts[1], b""))
 
     def lived(self, stops, plain, tidies):

@@ -56,7 +56,7 @@ class Durable(helper.Check):
         print(f"durable: a recorded command: {command:.0f} microseconds; its two writes and two syncs by a C loop: {loop:.0f}")
         print(f"durable: ratio {command / loop:.2f}, {command - loop:.0f} microseconds more (at most 50 wanted)", flush=True)
         if command > 2 * loop:
-            self.assertLessEqual(command - loop, 500, "microseconds more than the loop")
+            self.assertLessEqual(command - loop, 500 * helper.slowness(), "microseconds more than the loop")
 
 
 if __name__ == "__main__":

@@ -310,7 +310,7 @@ while [ ! -e enough ]; do
     sleep 0.01
 done | env --default-signal "$program" run --journal busy > busy_replies 2> busy_err &
 pid=$!
-eventually "a first reply of the busy executor" busy_err test -s busy_replies
+awaits 12 '"ok":true' busy_replies
 last=0
 for _ in $(seq 50); do
     "$program" show --journal busy > out 2> err

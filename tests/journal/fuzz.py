@@ -20,7 +20,7 @@ SHOWN, REFUSED, DAMAGED = 0, 5, 3
 class Fuzz(helper.Check):
     def hand(self, text, *words, name="", said=b""):
         """Gives these bytes to a reader."""
-        done = subprocess.run([helper.trials(), *words], input=text, capture_output=True, timeout=20)
+        done = subprocess.run([helper.trials(), *words], input=text, capture_output=True, timeout=helper.PATIENCE)
         self.assertEqual((done.returncode, done.stdout, done.stderr), (0, said, b""), name)
 
     def inputs(self, reader):
@@ -49,7 +49,7 @@ class Fuzz(helper.Check):
 
     def test_none(self):
         """an unknown reader is refused"""
-        done = subprocess.run([helper.trials(), "none"], input=b"", capture_output=True, timeout=20)
+        done = subprocess.run([helper.trials(), "none"], input=b"", capture_output=True, timeout=helper.PATIENCE)
         self.assertEqual((done.returncode, done.stdout), (1, b""))
         self.assertIn(b"no reader is called none", done.stderr)
 
@@ -87,7 +87,7 @@ class Fuzz(helper.Check):
         """the same pairs, shown by the program, which reports the damage that a second reader finds, and writes nothing"""
         for name, parts in self.pairs():
             folder = self.spelled(name, *parts)
-            done = helper.explained("show", "--journal", folder, timeout=10)
+            done = helper.explained("show", "--journal", folder, timeout=helper.PATIENCE)
             said = done.stderr.decode().partition("\n")[0]
             if b"" in parts and b": empty, while part-" in done.stderr:
                 self.assertEqual(done.returncode, REFUSED, name)

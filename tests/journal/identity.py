@@ -214,7 +214,7 @@ class Identity(helper.Check):
                     make(name)
                     os.chdir(self.here)
                     with self.subTest(name=name, kind=kind, word=word):
-                        done = helper.run(word, "--journal", folder, timeout=20)
+                        done = helper.run(word, "--journal", folder, timeout=helper.PATIENCE)
                         self.assertEqual(done.returncode, 5 if name in helper.PARTS else 0, done.stderr)
                         if name in helper.PARTS and word not in ("run", "show"):
                             self.assertEqual(done.stderr.decode(), f"ocfexec: disk: {folder}/{name}: not a plain file\n")

@@ -130,13 +130,13 @@ class Units(helper.Check):
         write("/etc/ocfexec/resources.json", json.dumps({"resources": wanted}))
 
     def says(self, wanted):
-        until = time.monotonic() + 30
+        until = time.monotonic() + helper.PATIENCE
         while shown("StatusText") != wanted:
             self.assertLess(time.monotonic(), until, f"{wanted}, not {shown('StatusText')}:\n{self.log()}")
             time.sleep(0.05)
 
     def comes(self, what, holds):
-        self.eventually(what, holds, 30)
+        self.eventually(what, holds)
 
     def pids(self):
         """The processes of nginx and of a Dummy, both of which live."""

@@ -10,6 +10,14 @@ here=$(mktemp -d)
 trap 'rm -rf "$here"' EXIT
 failed=0
 any_failed=0
+
+# For how many milliseconds since its start the machine had a process that waited for a processor, or one that waited for a disk; nothing if
+# the system does not report it.
+waited() {
+    sed -n 's/^some .*total=//p' /proc/pressure/cpu /proc/pressure/io 2> /dev/null |
+        awk '{ sum += $1 / 1000 } END { if (NR == 2) print int(sum) }'
+}
+waited_before=$(waited)
 check_began=$(date +%s%3N)
 check_part=${check%.sh}
 
@@ -127,10 +135,16 @@ slowness() {
         awk '{ most = $1 > $2 ? $1 : $2; slower = most < 99 ? int(100 / (100 - most)) : 100 } END { print slower ? slower : 1 }'
 }
 
-# The duration, in milliseconds, is less than this limit, which is scaled up on a busy machine.
+# For how many milliseconds at most the machine may have held a process back since this script began: each moment in which one waits is
+# reported. Ten seconds if the system does not report it.
+held_back() {
+    echo $((${waited_before:+$(waited) - }${waited_before:-10000}))
+}
+
+# The duration, in milliseconds, is less than this limit, which is scaled up on a busy machine; that may also have held it back.
 # Use: took_less WHAT MOST TOOK
 took_less() {
-    [ "$3" -lt "$2" ] || [ "$3" -lt $(($2 * $(slowness))) ] || differs "$1" "less than $2 milliseconds" "$3"
+    [ "$3" -lt "$2" ] || [ "$3" -lt $(($2 * $(slowness) + $(held_back))) ] || differs "$1" "less than $2 milliseconds" "$3"
 }
 
 # The notices of a file in short: action, outcome, code and its name; and without the name. Use: notices FILE, outcomes FILE

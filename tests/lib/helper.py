@@ -31,6 +31,9 @@ FAILED = os.path.join(TOP, "tests/failed")
 # how many of the last lines are shown if another one did not come, and for how many seconds one is waited for; scaled up on a busy machine,
 # at most this many times
 LAST, PATIENCE, SLOWER = 10, 60, 4
+# where the system reports for how long processes waited; for how many seconds in a test a quiet machine holds processes back at most; how
+# many times slower a busy one is at least; and for how many seconds that may hold a process back
+PRESSURE, QUIET, BUSY, BURST = "/proc/pressure", 0.25, 1.2, 10
 # how many seconds a whole run may take, which is less than a script of checks may
 WHOLE = 280
 # the lines about a process that has not ended a tenth of a second after it was killed, and about its end: on a busy machine that is no
@@ -39,8 +42,8 @@ STILL_ALIVE = re.compile(r"ocfexec: (?:\S+ waits for )?pid \d+ \([^\n]*\)[^\n]* 
                          r"|ocfexec: \S+ waits no longer: pid \d+ of [^\n]* has ended\n")
 # the lines about what an interrupted action left: an opening has them if that lives, or has just ended
 HOLDS = re.compile(r"ocfexec: \S+ waits (?:for pid \d+ of [a-z-]+, at most \d+ s more|no longer: pid \d+ of [a-z-]+ has ended)\n")
-# how this module is called again, and the numbers that the current test asked for
-CALL, numbers = [sys.argv[0], *([PROGRAM] if PROGRAM else [])], {}
+# how this module is called again, the numbers that the current test asked for, and for how long processes had waited when it began
+CALL, numbers, waited_before = [sys.argv[0], *([PROGRAM] if PROGRAM else [])], {}, [0.0]
 
 # The program names the signals that are ignored when it starts, such as those ignored by nohup or a script's `&`. Signals that Python
 # itself ignores have their default action in the processes that it starts.
@@ -237,16 +240,38 @@ def slowness():
     """How many times longer than on a quiet machine things may take now: by the share of the last minute, or of the last ten seconds, in
     which a process waited for a processor; or, if the system does not report it, by the number of running processes per processor."""
     try:
-        with open("/proc/pressure/cpu", encoding="ascii") as pressure:
+        with open(f"{PRESSURE}/cpu", encoding="ascii") as pressure:
             shares = [float(word.partition("=")[2]) / 100 for word in pressure.readline().split()[1:3]]
         return 1 / max(0.01, 1 - max(shares))
     except OSError:
         return max(1.0, os.getloadavg()[0] / len(os.sched_getaffinity(0)))
 
 
+def waited():
+    """For how many seconds since its start the machine had a process that waited for a processor, or one that waited for a disk; None if
+    the system does not report it."""
+    total = 0
+    try:
+        for name in ("cpu", "io"):
+            with open(f"{PRESSURE}/{name}", encoding="ascii") as pressure:
+                total += int(pressure.readline().rpartition("total=")[2])
+    except OSError:
+        return None
+    return total / 1e6
+
+
+def held_back():
+    """For how many seconds at most the machine may have held a process back since the current test began. Each moment in which one waits is
+    reported: so no burst of other work, whenever it came, explains more. On a quiet machine it is next to nothing."""
+    now = waited()
+    if now is None:
+        return BURST if slowness() > BUSY else 0
+    return now - waited_before[0]
+
+
 def more_patience(seconds):
     """How many seconds more than this something is waited for now."""
-    return seconds * (min(SLOWER, slowness()) - 1)
+    return seconds * (min(SLOWER, slowness()) - 1) + min(BURST, held_back())
 
 
 def keep(folder, into):
@@ -394,6 +419,7 @@ class Check(unittest.TestCase):
 
     def run(self, result=None):
         numbers.clear()
+        waited_before[0] = waited() or 0
         bad = count_bad(result)
         super().run(result)
         if count_bad(result) > bad:
@@ -480,17 +506,16 @@ class Check(unittest.TestCase):
         return self.eventually(f"numbers in {os.path.basename(path)}", written)
 
     def came_often(self, least, count, what):
-        """Checks that something came this many times within a time; scaled down on a busy machine, to at least once."""
-        if count < least:
-            slower = slowness()
-            self.assertGreaterEqual(count, max(1, least / slower),
-                                    f"{what}, on a machine that is {slower:.1f} times slower than a quiet one")
+        """Checks that something came this many times within a time; on a machine that held processes back, any number will do."""
+        if count < least and held_back() < QUIET:
+            self.fail(f"{what}: {count}, not {least}, on a machine that held processes back for {held_back():.2f} s")
 
     def took_less(self, most, took, what):
-        """Checks that something took less than this many seconds; scaled up on a busy machine."""
+        """Checks that something took less than this many seconds; scaled up on a busy machine, which may also have held it back."""
         if took >= most:
-            slower = slowness()
-            self.assertLess(took, most * slower, f"seconds of {what}, on a machine that is {slower:.1f} times slower than a quiet one")
+            slower, held = slowness(), held_back()
+            self.assertLess(took, most * slower + held, f"seconds of {what}, on a machine that is {slower:.1f} times slower than a quiet "
+                                                        f"one, and held processes back for {held:.2f} s")
 
 
 class Told(unittest.TestResult):

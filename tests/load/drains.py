@@ -31,7 +31,7 @@ class Drains(helper.Check):
         print(f"drains: ten seconds of waiting: {spent} milliseconds of the processor (under 200 wanted)", flush=True)
         self.assertEqual([(value["outcome"], value["code"]) for value in run.told()], [("done", 0)])
         self.assertEqual((end, run.ends()), ({"end": "idle"}, 0))
-        self.assertLess(spent, 500, "milliseconds of the processor")
+        self.assertLess(spent, 500 * helper.slowness(), "milliseconds of the processor")
 
     def test_ends(self):
         """how soon the end of a monitor is noticed, at moments of the system's clock"""
@@ -44,8 +44,8 @@ class Drains(helper.Check):
         late = sorted(at - since - TIMEOUT for since, at in runs)
         print(f"drains: ends: {len(late)} are noticed late by these milliseconds (at most 2 wanted): {late}", flush=True)
         self.assertEqual(end, {"end": "limit"})
-        self.assertGreaterEqual(len(late), 3, "monitors that ran")
-        self.took_less(0.021, late[len(late) // 2] / 1000, "noticing the middle end")
+        self.came_often(3, len(late), "monitors that ran")
+        self.took_less(0.021, late[len(late) // 2] / 1000 if late else 0, "noticing the middle end")
         moments = sorted(moment for run in runs for moment in run)
         self.assertEqual(sorted([began, *moments, ended]), [began, *moments, ended], "moments between those before and behind the run")
 

@@ -73,7 +73,7 @@ class Replies:
             self.accepted += sum(b'"ok":true' in line and not any(word in line for word in ANSWERS) for line in whole)
 
     def awaits(self, count):
-        until = time.monotonic() + 30
+        until = time.monotonic() + helper.PATIENCE
         while self.count < count and time.monotonic() < until:
             time.sleep(0.05)
             self.read()

@@ -65,7 +65,7 @@ class Rounds(helper.Check):
             for names in (["a"], ["b", "c", "d"]):
                 run.tell(*[helper.register(name, "None") for name in names])
                 count = ord(names[-1]) - ord("a") + 1
-                self.eventually(f"{word}: replies to {names}", lambda: len(run.values()) >= count, seconds=20)
+                self.eventually(f"{word}: replies to {names}", lambda: len(run.values()) >= count)
                 self.assertEqual(run.values(), [{"ok": True}] * count, f"{word}: {names}")
             self.assertEqual(run.ends(), 0)
 

@@ -138,7 +138,7 @@ class Serving(helper.Check):
         """a queued action is withdrawn while another one runs"""
         run = self.served()
         run.tell(sleeper("r1", **{"for": "30"}), action("r1", "start"), action("r1", "stop"), action("r1", "stop"))
-        for _ in range(100):
+        for _ in range(600):
             run.tell({"op": "info", "id": "r1"})
             if run.hears(lambda value: value.get("running"), 0.1)[0]:
                 break
@@ -201,8 +201,8 @@ class Serving(helper.Check):
         time.sleep(0.5)
         asleep = cost()
         print(f"serve: of a core, idle {idle:.2f} % (0.1 wanted), with one agent asleep {asleep:.2f} % (2 wanted)", flush=True)
-        self.assertLessEqual(idle, 1)
-        self.assertLessEqual(asleep, 20)
+        self.assertLessEqual(idle, helper.slowness())
+        self.assertLessEqual(asleep, 20 * helper.slowness())
 
     def test_script(self):
         """a script for run gives the same replies in the same order, except for the sentences of refusals"""

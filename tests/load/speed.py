@@ -44,7 +44,7 @@ class Speed(helper.Check):
         print(f"speed: list lines a second: {rate} (at least 150000 wanted)")
         print(f"speed: processor time of {LINES} lines: {worked:.0f} milliseconds")
         print(f"speed: resident memory: at most {memory} KiB (under 8192 wanted)", flush=True)
-        self.assertGreaterEqual(rate, 15000, "lines a second")
+        self.assertGreaterEqual(rate, 15000 / helper.slowness(), "lines a second")
         self.assertLess(memory, 8192, "KiB of resident memory")
 
     def test_starts(self):
@@ -57,7 +57,7 @@ class Speed(helper.Check):
                 self.assertEqual(os.waitpid(pid, 0)[1], 0, "its status")
             best = min(best, (time.monotonic() - began) / STARTS)
         print(f"speed: start to end on empty input: {best * 1e6:.0f} microseconds (under 5000 wanted)", flush=True)
-        self.assertLess(best, 0.05, "seconds from start to end")
+        self.assertLess(best, 0.05 * helper.slowness(), "seconds from start to end")
 
 
 if __name__ == "__main__":

@@ -101,7 +101,7 @@ class Runner(helper.Check):
         self.script("cli/status", GOOD + "exit 3\n")
         self.script("cli/hangs", f"echo begun; echo $$ > {self.place('pid')}; sleep 600\n")
         self.script("cli/not_executable", GOOD, mode=0o644)
-        status, said = self.ran("--limit", "1")
+        status, said = self.ran("--limit", "5")
         self.assertEqual((status, said[-1]), (1, "1 passed, 4 failed"))
         self.assertIn("begun", said)
         failed = said[said.index("failed 4:") + 1:-2]
@@ -119,10 +119,10 @@ class Runner(helper.Check):
 
     def test_built(self):
         """the programs that scripts need are built once before they begin, and everything else begins before"""
-        self.build("trials", f"sleep 1.5; echo built >> {self.place('log')}; echo of a compiler >&2; echo /its/place\n")
+        self.build("trials", f"sleep 5.5; echo built >> {self.place('log')}; echo of a compiler >&2; echo /its/place\n")
         for name, mark in (("a_needs", "# check: trials\n"), ("b_needs", "# check: trials\n"), ("other", "")):
             self.script(f"cli/{name}", f"echo {name} $BUILT_TRIALS >> {self.place('log')}\n" + GOOD, mark=mark)
-        status, said = self.ran("--limit", "1")
+        status, said = self.ran("--limit", "5")
         self.assertEqual((status, said[-1], "of a compiler" in said), (0, "3 passed, 0 failed", False))
         with open(self.place("log"), encoding="ascii") as file:
             other, built, *needs = file.read().splitlines()
@@ -164,9 +164,18 @@ class Runner(helper.Check):
     def test_longest(self):
         """the script that took longest in the last run begins first, and times with --fast are kept apart"""
         self.environment["JOBS"] = "1"
-        for name, took in (("one", 0.1), ("two", 0.6), ("three", 0.3)):
+        times, times_of = self.place("tests/out/times"), {"one": 0.1, "three": 0.3, "two": 0.6}
+        for name, took in times_of.items():
             self.script(f"cli/{name}", f"echo {name} >> {self.place('log')}; sleep {took}\n" + GOOD)
-        for words in ([], ["two"], [], ["--fast"]):
+        for words in ([], ["two"]):
+            self.assertEqual(self.ran(*words)[0], 0)
+        with open(times, encoding="ascii") as file:
+            kept = {os.path.basename(name): float(took) for took, name in map(str.split, file)}
+        self.assertEqual([name for name, took in times_of.items() if kept[f"{name}.sh"] < took], [], kept)
+        # (on a busy machine another one may take longest)
+        with open(times, "w", encoding="ascii") as file:
+            file.write("".join(f"{took} tests/cli/{name}.sh\n" for name, took in times_of.items()))
+        for words in ([], ["--fast"]):
             self.assertEqual(self.ran(*words)[0], 0)
         with open(self.place("log"), encoding="ascii") as file:
             log = file.read().split()
@@ -190,13 +199,10 @@ class Runner(helper.Check):
             self.script(f"cli/{name}", f"echo $$ > {self.place(name)}; sleep 60\n")
         run = subprocess.Popen(self.words, stdout=subprocess.DEVNULL, env=self.environment)
         self.addCleanup(run.kill)
-        until = time.monotonic() + 10
-        while sum(os.path.exists(self.place(name)) for name in ("one", "two", "three")) < 2:
-            self.assertLess(time.monotonic(), until, "two scripts run")
-            time.sleep(0.02)
+        self.eventually("two scripts run", lambda: sum(os.path.exists(self.place(name)) for name in ("one", "two", "three")) == 2)
         time.sleep(0.2)
         run.send_signal(signal.SIGTERM)
-        self.assertEqual(run.wait(20), 128 + signal.SIGTERM)
+        self.assertEqual(run.wait(helper.PATIENCE), 128 + signal.SIGTERM)
         begun = [name for name in ("one", "two", "three") if os.path.exists(self.place(name))]
         self.assertEqual(len(begun), 2)
         for name in begun:
@@ -225,7 +231,7 @@ class Runner(helper.Check):
                                  env={**os.environ, "ONLY": "a throw that lasts", "LASTS": "1"})
         self.assertEqual(lasts.stdout.readline(), "9\n")
         lasts.terminate()
-        said = lasts.communicate(timeout=20)[0]
+        said = lasts.communicate(timeout=helper.PATIENCE)[0]
         self.assertRegex(said, r"^failed +[0-9.]+ s  throws: a throw that lasts\n"
                          "throws: once more: LASTS=1 SEED=9 ONLY='a throw that lasts' ")
         self.assertEqual(os.listdir(self.place("tests/failed/throws")), ["test_zero"])

@@ -1,6 +1,7 @@
 #!/usr/bin/env python3
 """The statement in one file, docs/STATEMENT.antt.txt: it is what docs/statement.py generates from the definitions of this tree, a change of
-a text in it makes it stale, and it contains everything that its definitions name; docs/STATEMENT.md names nothing else.
+a text in it makes it stale, and it contains everything that its definitions name, of which little in its first part; docs/STATEMENT.md
+names nothing else.
 Use: statement.py PROGRAM"""
 import os
 import re
@@ -15,15 +16,20 @@ SCRIPT, STATEMENT, READING = "docs/statement.py", "docs/STATEMENT.antt.txt", "do
 # The names in docs/STATEMENT.md besides definitions: the program, and the commands of its example.
 EXAMPLE = {"exec", "ocfexec", "register", "web"}
 KEY = re.compile(r"^(?:abbrev|unfoldable|record|data) ([^\s:({]+)", re.MULTILINE)
+# The first line of its second part, and of what comes after its definitions.
+SECOND, ENDS = "-- Second part: what is beneath\n", "\n-- Types and constants from Rust"
+# Its first part has fewer definitions than this, and their texts and comments fewer lines.
+DEFINITIONS, LINES = 300, 1200
 # Built into the language, and variables.
 BUILT_IN = {"Type", "Unit", "Why"}
 # A change of each kind of text in it: a file, and a text that occurs there once, with its replacement.
 CHANGES = [
-    ("executor/src/laws.rt", "        → (zs : List Event) × FoundAs (after_all start zs) c\n        × Behaves",
+    ("executor_laws/src/laws.rt", "        → (zs : List Event) × FoundAs (after_all start zs) c\n        × Behaves",
      "        → (zs : List Event) × FoundAs start c\n        × Behaves"),
-    ("executor/specs/Behaves.antt", "  pub ran : x.ran ≡ interrupted s (moment s x.now)\n", "  pub ran : x.ran ≡ []\n"),
-    ("executor/specs/Incarnations.antt", "-- one call after the other; a session is the calls of its inputs", "-- one after the other"),
-    ("executor/specs/Incarnations.antt", "  pub acknowledged : p ≡ x.done.events ++ later\n", ""),
+    ("executor_laws/specs/Behaves.antt", "  pub ran : x.ran ≡ interrupted s (moment s x.now)\n", "  pub ran : x.ran ≡ []\n"),
+    ("executor_laws/specs/Incarnations.antt", "-- one call after the other; a session is the calls of its inputs",
+     "-- one after the other"),
+    ("executor_laws/specs/Incarnations.antt", "  pub acknowledged : p ≡ x.done.events ++ later\n", ""),
     ("agent_system/src/laws.rt", "→ IsFree w.sights id → Contains (given_up_in v) p", "→ Contains (given_up_in v) p"),
     ("agent_system/src/agent_system.rt", "requires over { IsOverAt (view self.old).sights at }", "requires over { ⊤ }"),
     ("agent_system/specs/May.antt", "  pub reaped : u.is_child ≡ false\n", ""),
@@ -36,7 +42,7 @@ CHANGES = [
 # Texts that are not in it: a lemma, and a definition that nobody names.
 OTHERS = [
     ("gated_slots/specs/Slot.antt", "length-slot body = omega (arith, ", "length-slot body = omega (arith, arith, "),
-    ("executor/specs/Behaves.antt", "-- a behaviour of the",
+    ("executor_laws/specs/Behaves.antt", "-- a behaviour of the",
      "-- as many as there are\nabbrev pub Unnamed : ℕ\nUnnamed = 0\n\n-- a behaviour of the"),
 ]
 
@@ -60,6 +66,12 @@ def check(top):
 def words(text):
     """The words of definitions that are not projections, without comments and texts."""
     return re.findall(r"(?<![\w.'])[A-Za-z_][\w']*", re.sub(r'--.*|"[^"\n]*"', "", text))
+
+
+def parts():
+    """The definitions of each part, and what comes after them."""
+    text, _, ends = read(os.path.join(helper.TOP, STATEMENT)).partition(ENDS)
+    return [part[part.rindex("\n---", 0, KEY.search(part).start()):] for part in text.split(SECOND)], ends
 
 
 class Statement(helper.Check):
@@ -103,14 +115,20 @@ class Statement(helper.Check):
             self.assertEqual(self.with_change("exec_ledger/specs/Boots.antt", "abbrev pub booted", new),
                              (1, "statement.py: booted in crates/exec_ledger/specs/Boots.antt is no definition\n"), new)
 
+    def test_first_part(self):
+        """what has to be believed is less than 300 definitions, of less than 1,200 lines with their comments"""
+        first = parts()[0][0]
+        self.assertLess(len(KEY.findall(first)), DEFINITIONS)
+        paragraphs = [paragraph for paragraph in first.split("\n\n") if not paragraph.lstrip("\n").startswith("---")]
+        self.assertLess(len([line for paragraph in paragraphs for line in paragraph.splitlines() if line]), LINES)
+
     def test_whole(self):
         """each word in it that begins with a capital is defined in it, declared in Rust, a name of the library or one letter for a type"""
-        text = read(os.path.join(helper.TOP, STATEMENT))
-        definitions, _, ends = text.partition("\n-- Types and constants from Rust")
+        texts, ends = parts()
+        definitions = "\n".join(texts)
         there = re.findall(r"^  (\w+) :|(\w+) \(there ", definitions, re.MULTILINE)
         known = BUILT_IN.union(KEY.findall(definitions), *there, re.findall(r"\w+", ends))
-        named = definitions[re.search(KEY, definitions).start():]
-        self.assertEqual(sorted({word for word in words(named) if word[0].isupper() and len(word) > 1} - known), [])
+        self.assertEqual(sorted({word for word in words(definitions) if word[0].isupper() and len(word) > 1} - known), [])
 
     def test_reading(self):
         """each name in backticks in docs/STATEMENT.md is in it"""
@@ -119,20 +137,24 @@ class Statement(helper.Check):
         self.assertEqual(sorted(names - set(words(read(os.path.join(helper.TOP, STATEMENT))))), [])
 
     def test_order(self):
-        """each definition of a file is in it once, and what names it is above it or under the same comment"""
-        text, _, ends = read(os.path.join(helper.TOP, STATEMENT)).partition("\n-- Types and constants from Rust")
+        """each definition of a file is in it once, and what names it is above it, under the same comment, or in the second part"""
+        texts, ends = parts()
         groups, file, places = [], "", {}
-        for paragraph in text.split("\n\n"):
-            file = paragraph if paragraph.startswith("---") else file
+        for paragraph in "\n\n".join(texts).split("\n\n"):
+            file = paragraph.lstrip("\n").partition("\n")[2].partition("\n")[0] if paragraph.lstrip("\n").startswith("---") else file
             if paragraph.startswith("-- ") or not groups:
                 groups.append("")
             groups[-1] += paragraph + "\n"
             for name in KEY.findall(paragraph):
                 self.assertNotIn((file, name), places)
                 places[file, name] = len(groups) - 1
-        names = [name for _, name in places] + re.findall(r"^  (\w+) :", text, re.MULTILINE) + words(ends)
+        first = len(KEY.findall(texts[0]))
+        second_begins = list(places.values())[first]
+        names = [name for _, name in places] + re.findall(r"^  (\w+) :", "\n".join(texts), re.MULTILINE) + words(ends)
         at = {name: place for (_, name), place in places.items() if names.count(name) == 1 and name[0].isupper()}
-        self.assertEqual([(word, group) for place, group in enumerate(groups) for word in words(group) if at.get(word, place) < place], [])
+        wrong = [(word, group) for place, group in enumerate(groups) for word in words(group)
+                 if at.get(word, place) < place and (at[word] < second_begins) == (place < second_begins)]
+        self.assertEqual(wrong, [])
 
 
 if __name__ == "__main__":

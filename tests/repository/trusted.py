@@ -1,6 +1,7 @@
 #!/usr/bin/env python3
 """The trusted places, docs/TRUSTED.txt: it is what docs/trusted.py generates from this tree, and a place more or less, or a longer file,
-makes it old. One file makes the calls about agents' processes, with a sentence on each.
+makes it old. It names each file of the program's edge that has no contract. One file makes the calls about agents' processes, with a
+sentence on each.
 Use: trusted.py PROGRAM"""
 import glob
 import os
@@ -13,6 +14,8 @@ sys.path[0] += "/../lib"
 import helper  # noqa: E402
 
 SCRIPT, HOST = "docs/trusted.py", "crates/ocfexec/src/host.rt"
+# The crates at the system's edge.
+EDGE = ["ocfexec", "exec_lines"]
 OLD = (1, "docs/TRUSTED.txt is old: docs/trusted.py writes it\n")
 # The file with the calls about agents' processes, and the calls of the library that spawn, poll and signal processes; the shell that sends
 # signals is a process of its own.
@@ -33,18 +36,31 @@ class Trusted(helper.Check):
 
     def test_changed(self):
         """a removed place, a changed text, and another line make it old"""
-        for folder in ("docs", "crates"):
+        for folder in ("docs", "crates", "launcher"):
             left_out = shutil.ignore_patterns("out", "proofs", "must-fail")
             shutil.copytree(os.path.join(helper.TOP, folder), self.place(folder), ignore=left_out)
         self.assertEqual(check(self.here), (0, ""))
         with open(self.place(HOST), encoding="utf-8") as file:
             text = file.read()
-        for new in (text.replace("// TRUSTED: agents write there.", "// agents write there."),
-                    text.replace("// TRUSTED: agents write there.", "// TRUSTED: agents write here."), text + "\n"):
+        place = "// TRUSTED: the writer is standard output."
+        for new in (text.replace(place, "// the writer is standard output."),
+                    text.replace(place, "// TRUSTED: the writer is standard error."), text + "\n"):
             self.assertNotEqual(new, text)
             with open(self.place(HOST), "w", encoding="utf-8") as file:
                 file.write(new)
             self.assertEqual(check(self.here), OLD)
+
+    def test_edge(self):
+        """each file of the program's edge is in it, or has a contract"""
+        with open(os.path.join(helper.TOP, "docs/TRUSTED.txt"), encoding="utf-8") as file:
+            named = {line.split(":")[0] for line in file}
+        silent = []
+        for path in [path for crate in EDGE for path in glob.glob(f"crates/{crate}/src/*.rt", root_dir=helper.TOP)]:
+            with open(os.path.join(helper.TOP, path), encoding="utf-8") as file:
+                text = file.read()
+            if path not in named and re.search(r"\bfn \w", text) and not re.search(r"\b(?:ensures|from_gives)\b", text):
+                silent.append(path)
+        self.assertEqual(silent, [])
 
     def test_each_method(self):
         """each method of the system's host with a promise in its trait says what is trusted of it"""
