@@ -19,7 +19,7 @@ program:
 
 # The gate: proves every crate, tries the wrong bodies whose stamps are old, and then runs the checks of the programs that it built.
 test:
-	@tests/gate.sh
+	@tools/gate.sh
 
 # Runs only the checks of the built programs: all of them, or the named ones, as make check NAMES="serve cli"; a name is that of a script or
 # of a directory. FAST=1 leaves out the slow ones, and JOBS=n runs n at once (default: two per processor).
@@ -27,12 +27,12 @@ check:
 	@tests/check.sh $(if $(FAST),--fast) $(NAME) $(NAMES)
 
 # Tries the wrong bodies of one crate, make mutants NAME=recurring; without a name those that the gate tries. NAME=every tries, for all
-# crates, those that were not seen refused in their present state, JOBS=n crates at once. NAME=show lists these and tries nothing.
+# crates, those that were not seen refused in their present state, JOBS=n crates at once. NAME=show lists these and tries nothing. NAME=CRATE/EDIT is one edit.
 # NAME=random tries COUNT=m random edits of one line, of the product or of CRATES="a b", drawn with SEED=n, by the proofs; with TESTS=1 also
 # by the fast checks of the program compiled with each that no proof refuses.
 mutants:
-	@$(if $(filter random,$(NAME)),mutants/random.py --seed $(or $(SEED),1) --count $(or $(COUNT),20) $(if $(TESTS),--tests) \
-		$(if $(JOBS),-j $(JOBS)) $(CRATES),mutants/stamps.py $(if $(JOBS),-j $(JOBS)) $(if $(filter show,$(NAME)),show every,$(if $(filter every,$(NAME)),check every,all $(NAME))))
+	@$(if $(filter random,$(NAME)),tools/random_edits.py --seed $(or $(SEED),1) --count $(or $(COUNT),20) $(if $(TESTS),--tests) \
+		$(if $(JOBS),-j $(JOBS)) $(CRATES),tools/wrong_bodies.py $(if $(JOBS),-j $(JOBS)) $(if $(filter show,$(NAME)),show every,$(if $(filter every,$(NAME)),check every,all $(NAME))))
 
 # Measures the rate of each benchmark. This call proves their programs, since the gate has no benchmarks.
 bench:
@@ -48,15 +48,15 @@ plots: $(PROGRAM)
 # Measures the cost of each crate in a gate from scratch, and writes the table of docs/ARCHITECTURE.md. Nothing else should run meanwhile. A
 # kit whose gate keeps what it proved is asked to begin from scratch; any other always does.
 costs:
-	@bench/costs.py --into docs/ARCHITECTURE.md -- rt ci $$(rt help 2>&1 | grep -o -m 1 -e --anew)
+	@tools/costs.py --into docs/ARCHITECTURE.md -- rt ci $$(rt help 2>&1 | grep -o -m 1 -e --anew)
 
 # Counts the tests of each kind, and writes the tables of docs/TESTING.md, with the seconds of the last `make check` of this copy.
 counts:
-	@tests/count.py --into docs/TESTING.md
+	@tools/count.py --into docs/TESTING.md
 
 # Writes the laws of whole histories, and each definition that they depend on, into docs/STATEMENT.antt.txt.
 statement:
-	@docs/statement.py
+	@tools/statement.py
 
 # Plays thirty days on a simulated clock, twice: a history with a crash in each hour, of scripted agents and a disk in memory; and one
 # executor with 2,048 monitors, by the program itself with real agents. `make check` plays a day and two days of them. With REAL=1: the

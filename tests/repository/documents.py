@@ -28,8 +28,8 @@ STATEMENT = "docs/STATEMENT.antt.txt"
 HIDDEN = [*DOCUMENTS, MANUAL, PAGE, CLIENT_PAGE, STATEMENT, "tests/repository/documents.py"]
 SUBCOMMANDS = ["run", "serve", "show", "status", "log", "metrics", "once"]
 # Names of other programs, of files that only a gate or a check leaves, and of things that a document says do not exist.
-OUTSIDE = {"--default-signal", "--keep-size", "--length", "--pdeathsig", "/srv/hour", "ArgGroup", "clap_complete", "clone3",
-           "crates/ocfexec/out/gate", "crates/ocfexec/out/ocfexec", "fallocate", "flock", "get_ocf_metadata", "hidepid",
+OUTSIDE = {"--default-signal", "--keep-size", "--length", "--pdeathsig", "/srv/hour", "ArgGroup", "build/gate.log", "clap_complete",
+           "clone3", "crates/ocfexec/out/gate", "crates/ocfexec/out/ocfexec", "fallocate", "flock", "get_ocf_metadata", "hidepid",
            "list_ocf_providers", "migrate_from", "migrate_to", "nohup", "ocfexec run --version", "perf", "rattle-kit-13b", "rattle-kit-13f",
            "rt check --fix-imports", "strace -c -w", "systemctl reload", "tests/failed", "wait4"}
 # A placeholder for any name of its kind.

@@ -13,14 +13,18 @@ from pathlib import Path
 sys.path[0] += "/../lib"
 import helper  # noqa: E402
 
-sys.path.append(os.path.join(helper.TOP, "mutants"))
-import goals  # noqa: E402
+sys.path.append(os.path.join(helper.TOP, "tools"))
+import wrong_bodies as bodies  # noqa: E402
 
 TOP = Path(helper.TOP)
 QUOTED = re.compile(r"`(\w+)/(\w+)`(\*?)")
 ENSURES = re.compile(r"^\s*ensures (\w+) \{", re.MULTILINE)
 REQUIRES = re.compile(r"^\s*requires (\w+) \{", re.MULTILINE)
 REFUSED_BY = re.compile(r"^refused by: ([^,\n]+), (.+)$", re.MULTILINE)
+
+
+def read(path):
+    return path.read_text(encoding="utf-8")
 
 
 def edits():
@@ -37,15 +41,15 @@ def clauses(crate, kind=ENSURES):
     """The functions of a crate, each with the labels of what it ensures, or requires."""
     found = collections.defaultdict(set)
     for path in (TOP / "crates").glob(f"{crate}/src/**/*.rt"):
-        text = goals.read(path)
-        for name, start, end in goals.functions(text):
+        text = read(path)
+        for name, start, end in bodies.functions(text):
             found[name] |= set(kind.findall(text, start, end))
     return found
 
 
 def listed():
     """The edits in the list of mistakes: the crate and the name of each, and whether it has a star."""
-    for line in goals.read(TOP / "mutants/README.md").splitlines():
+    for line in read(TOP / "mutants/README.md").splitlines():
         if line.startswith("- **"):
             yield from ((crate, name, bool(star)) for crate, name, star in QUOTED.findall(line))
 
@@ -53,7 +57,7 @@ def listed():
 def taken(path, crate):
     """The old texts of an edit, each with its file."""
     file, top = None, TOP if crate == "tests" else TOP / "crates" / crate
-    for line in goals.read(path).splitlines():
+    for line in read(path).splitlines():
         key, _, text = line.partition(": ")
         if key == "file":
             file = top / text.strip()
@@ -76,7 +80,7 @@ class Edits(helper.Check):
         """each edit names functions of its crate that must refuse it, and existing clauses of them or of what they call"""
         known, required = {crate: clauses(crate) for crate in {crate for crate, _ in edits()}}, clauses("*", REQUIRES)
         for (crate, name), path in edits().items():
-            named = goals.named(path)
+            named = bodies.named(read(path))
             self.assertTrue(named, f"{path.relative_to(TOP)}: it has no line '# refused by: FUNCTION, CLAUSE'")
             for function, clause in named:
                 self.assertIn(function, known[crate], f"{crate}/{name}: {crate} has no function {function}")
@@ -89,21 +93,21 @@ class Edits(helper.Check):
         tried = edits() | {("tests", path.stem): path for path in TOP.glob("mutants/tests/*.edit")}
         for (crate, name), path in tried.items():
             for file, text in taken(path, crate):
-                self.assertEqual(goals.read(file).count(text), 1, f"{crate}/{name}: not there once in {file.relative_to(TOP)}: {text}")
+                self.assertEqual(read(file).count(text), 1, f"{crate}/{name}: not there once in {file.relative_to(TOP)}: {text}")
 
     def test_sentences(self):
         """each edit that a test refuses names an existing check"""
         for path in TOP.glob("mutants/tests/*.edit"):
-            named = REFUSED_BY.search(goals.read(path))
+            named = REFUSED_BY.search(read(path))
             self.assertTrue(named, f"{path.relative_to(TOP)}: it has no line 'refused by: SCRIPT, SENTENCE'")
-            self.assertIn(f'"{named[2]}"', goals.read(TOP / named[1]), f"{path.relative_to(TOP)}: {named[1]} has no check of that sentence")
+            self.assertIn(f'"{named[2]}"', read(TOP / named[1]), f"{path.relative_to(TOP)}: {named[1]} has no check of that sentence")
 
     def test_fast(self):
         """each edit that a test refuses is refused by a check of `make check FAST=1`, or says that it is not"""
         for path in TOP.glob("mutants/tests/*.edit"):
-            script, sentence = REFUSED_BY.search(goals.read(path)).groups()
-            says = "\n# not by FAST=1" in goals.read(path)
-            self.assertEqual(is_slow(goals.read(TOP / script), sentence), says, f"{path.relative_to(TOP)}: {script}, {sentence}")
+            script, sentence = REFUSED_BY.search(read(path)).groups()
+            says = "\n# not by FAST=1" in read(path)
+            self.assertEqual(is_slow(read(TOP / script), sentence), says, f"{path.relative_to(TOP)}: {script}, {sentence}")
 
     def test_table(self):
         """the list of mistakes names existing edits, with a star if they are tried for each commit"""
@@ -116,7 +120,7 @@ class Edits(helper.Check):
 
     def test_untried(self):
         """mutants/untried names existing edits, each once and in order"""
-        names = goals.read(TOP / "mutants/untried").split()
+        names = read(TOP / "mutants/untried").split()
         self.assertEqual(names, sorted(set(names)), "mutants/untried: not in order, or not once")
         found = {f"{crate}/{name}" for crate, name in edits()} | {f"tests/{path.stem}" for path in TOP.glob("mutants/tests/*.edit")}
         self.assertEqual(set(names) - found, set(), "mutants/untried: there are no such edits")

@@ -8,12 +8,13 @@ import glob
 import os
 import re
 import sys
+from pathlib import Path
 
 sys.path[0] += "/../lib"
 import helper  # noqa: E402
 
-sys.path.append(os.path.join(helper.TOP, "mutants"))
-import goals  # noqa: E402
+sys.path.append(os.path.join(helper.TOP, "tools"))
+import wrong_bodies as bodies  # noqa: E402
 
 LEMMA = re.compile(r"\bgrowth\.specs\.Refused\b(?!\.\{refuses_here\})|\bspecs::Refused::refuses\b")
 FLAG = re.compile(r"\brefuses_here\b")
@@ -37,7 +38,7 @@ def sources(*endings):
     for ending in endings:
         for path in sorted(glob.glob(f"crates/*/**/*.{ending}", root_dir=helper.TOP, recursive=True)):
             if "/out/" not in path:
-                yield path, goals.read(os.path.join(helper.TOP, path))
+                yield path, Path(helper.TOP, path).read_text(encoding="utf-8")
 
 
 def conditions(text):
@@ -58,8 +59,8 @@ def is_marked(lines):
 
 def unmarked(text):
     """The functions that cite the lemma by an attribute and are not marked; and `else`, if it is cited elsewhere."""
-    cited = [(name, text[start:end].splitlines()) for name, start, end in goals.functions(text)
-             if LEMMA.search(text, start, goals.FUNCTION.search(text, start).start())]
+    cited = [(name, text[start:end].splitlines()) for name, start, end in bodies.functions(text)
+             if LEMMA.search(text, start, bodies.FUNCTION.search(text, start).start())]
     faults = [name for name, lines in cited if not is_marked(lines)]
     return faults + ["else"] * (len(LEMMA.findall(text)) > len(cited))
 

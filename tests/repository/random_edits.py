@@ -1,8 +1,7 @@
 #!/usr/bin/env python3
-"""The random wrong bodies, mutants/random.py: what is drawn of a small source, and what is kept of a call; nothing is proved here.
+"""The random wrong bodies, tools/random_edits.py: what is drawn of a small source, and what is kept of a call; nothing is proved here.
 Use: random_edits.py PROGRAM"""
 import contextlib
-import importlib.util
 import os
 import sys
 from pathlib import Path
@@ -12,13 +11,9 @@ from unittest import mock
 sys.path[0] += "/../lib"
 import helper  # noqa: E402
 
-sys.path.append(os.path.join(helper.TOP, "mutants"))
-import stamps  # noqa: E402
-
-# (its name is that of a module of Python)
-spec = importlib.util.spec_from_file_location("random_edits", os.path.join(helper.TOP, "mutants/random.py"))
-edits = sys.modules["random_edits"] = importlib.util.module_from_spec(spec)
-spec.loader.exec_module(edits)
+sys.path.append(os.path.join(helper.TOP, "tools"))
+import random_edits as edits  # noqa: E402
+import wrong_bodies as bodies  # noqa: E402
 
 # Lines of a body, and what each kind of edit makes of one.
 MADE = [
@@ -110,14 +105,14 @@ class RandomEdits(helper.Check):
         """A call over the same edits, where this is told of those that are tried, by their numbers: what it found, and what it tried."""
         drawn, tried = [*edits.drawn(edits.edits_of("low", "src/lib.rt", SOURCE), 1)], []
 
-        def fates(crate, names, _):
-            numbers = [next(at for at, edit in enumerate(drawn) if edit.name == f"{crate}/{name}") for name in names]
+        def judged(_, files):
+            numbers = [next(at for at, edit in enumerate(drawn) if edit.name == file.name) for file in files]
             tried.extend(numbers)
             return {drawn[at].name: told[at] for at in numbers if at in told}, "nothing"
 
-        texts = SimpleNamespace(sum_of_edit=lambda name, top=None: f"{name} {top}")
+        texts = SimpleNamespace(sum_of=lambda file, top=None: f"{file.name} {top}")
         judge = edits.Judge(texts, edits.Kept(Path(self.place("kept"))), False, 1)
-        with mock.patch.multiple(stamps, fates=fates, Texts=lambda: texts), mock.patch.object(edits, "print", create=True):
+        with mock.patch.multiple(bodies, judged=judged, Texts=lambda: texts), mock.patch.object(edits, "print", create=True):
             found = edits.judged(iter(drawn), count, judge)
         return {drawn.index(edit): stage for edit, stage in found.items()}, tried
 
@@ -128,7 +123,7 @@ class RandomEdits(helper.Check):
         told = {0: "refused, as it must be: src/lib.rt:20:5: error: not proved", 1: "BAD EDIT: it did not reach the prover",
                 2: "NOT REFUSED: it is still proved"}
         places = {"TOP": Path(self.here), "FOLDER": Path(self.place("edits")), "may_be_seen": lambda edit: False}
-        with mock.patch.multiple(edits, **places), mock.patch.object(stamps, "TOP", self.here):
+        with mock.patch.multiple(edits, **places), mock.patch.object(bodies, "TOP", Path(self.here)):
             self.assertEqual(self.judged(3, told), ({0: "proof", 2: "alive", 3: "?"}, [0, 1, 2, 3]))
             with open(self.place("kept"), "a", encoding="utf-8") as kept:
                 kept.write('\n{"sum": "half of a li')

@@ -1,7 +1,7 @@
 #!/usr/bin/env python3
-"""The statement in one file, docs/STATEMENT.antt.txt: it is what docs/statement.py generates from the definitions of this tree, a change of
-a text in it makes it stale, and it contains everything that its definitions name, of which little in its first part; docs/STATEMENT.md
-names nothing else.
+"""The statement in one file, docs/STATEMENT.antt.txt: it is what tools/statement.py generates from the definitions of this tree, a change
+of a text in it makes it stale, and it contains everything that its definitions name, of which little in its first part;
+docs/STATEMENT.md names nothing else.
 Use: statement.py PROGRAM"""
 import os
 import re
@@ -12,7 +12,7 @@ import sys
 sys.path[0] += "/../lib"
 import helper  # noqa: E402
 
-SCRIPT, STATEMENT, READING = "docs/statement.py", "docs/STATEMENT.antt.txt", "docs/STATEMENT.md"
+SCRIPT, STATEMENT, READING = "tools/statement.py", "docs/STATEMENT.antt.txt", "docs/STATEMENT.md"
 # The names in docs/STATEMENT.md besides definitions: the program, and the commands of its example.
 EXAMPLE = {"exec", "ocfexec", "register", "web"}
 KEY = re.compile(r"^(?:abbrev|unfoldable|record|data) ([^\s:({]+)", re.MULTILINE)
@@ -77,7 +77,7 @@ def parts():
 class Statement(helper.Check):
     def copied(self):
         """A copy of the files from which the statement is generated."""
-        for folder in ("docs", "crates"):
+        for folder in ("docs", "tools", "crates"):
             left_out = shutil.ignore_patterns("out", "proofs", "must-fail")
             shutil.copytree(os.path.join(helper.TOP, folder), self.place(folder), ignore=left_out)
         self.assertEqual(check(self.here), (0, ""))

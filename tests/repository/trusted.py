@@ -1,5 +1,5 @@
 #!/usr/bin/env python3
-"""The trusted places, docs/TRUSTED.txt: it is what docs/trusted.py generates from this tree, and a place more or less, or a longer file,
+"""The trusted places, docs/TRUSTED.txt: it is what tools/trusted.py generates from this tree, and a place more or less, or a longer file,
 makes it old. It names each file of the program's edge that has no contract. One file makes the calls about agents' processes, with a
 sentence on each.
 Use: trusted.py PROGRAM"""
@@ -13,10 +13,10 @@ import sys
 sys.path[0] += "/../lib"
 import helper  # noqa: E402
 
-SCRIPT, HOST = "docs/trusted.py", "crates/ocfexec/src/host.rt"
+SCRIPT, HOST = "tools/trusted.py", "crates/ocfexec/src/host.rt"
 # The crates at the system's edge.
 EDGE = ["ocfexec", "exec_lines"]
-OLD = (1, "docs/TRUSTED.txt is old: docs/trusted.py writes it\n")
+OLD = (1, "docs/TRUSTED.txt is old: tools/trusted.py writes it\n")
 # The file with the calls about agents' processes, and the calls of the library that spawn, poll and signal processes; the shell that sends
 # signals is a process of its own.
 AGENTS, SHELL = "crates/process_ends/src/system_agents.rt", ["crates/process_ends/src/killer.rt", "crates/process_ends/src/patience.rt"]
@@ -31,12 +31,12 @@ def check(top):
 
 class Trusted(helper.Check):
     def test_fresh(self):
-        """docs/TRUSTED.txt is what docs/trusted.py writes"""
+        """docs/TRUSTED.txt is what tools/trusted.py writes"""
         self.assertEqual(check(helper.TOP), (0, ""))
 
     def test_changed(self):
         """a removed place, a changed text, and another line make it old"""
-        for folder in ("docs", "crates", "launcher"):
+        for folder in ("docs", "tools", "crates", "launcher"):
             left_out = shutil.ignore_patterns("out", "proofs", "must-fail")
             shutil.copytree(os.path.join(helper.TOP, folder), self.place(folder), ignore=left_out)
         self.assertEqual(check(self.here), (0, ""))

@@ -4,39 +4,30 @@ An edit that does not compile is replaced by the next one of the seed, so a seed
 
 What becomes of each: the proof of its crate refuses it; or, where it changes what other crates see, the proof of a crate that names its
 crate; or, with --tests, a check of `make check FAST=1` of the program compiled with it; or it is alive. Edits of one crate are tried
-together, by try.sh. mutants/out/random has the edits, and in its file `kept` what became of each, with the sum of the crates' texts that
-this rests on, so an interrupted run goes on. The table is over the edits of this call.
+together. mutants/out/random has the edits, and in its file `kept` what became of each, with the sum of the crates' texts that this rests
+on, so an interrupted run goes on. The table is over the edits of this call.
 
-Use: random.py [--seed N] [--count M] [--tests] [-j CRATES] [CRATE..]"""
-import os
+Use: random_edits.py [--seed N] [--count M] [--tests] [-j CRATES] [CRATE..]"""
+import argparse
+import collections
+import contextlib
+import functools
+import hashlib
+import itertools
+import json
+import random
+import re
+import signal
 import sys
+import time
+from collections.abc import Iterable, Iterator
+from dataclasses import dataclass
+from pathlib import Path
 
-sys.dont_write_bytecode = True
-# comes last, since this file has the name of a module of Python
-sys.path.sort(key=os.path.dirname(os.path.abspath(__file__)).__eq__)
+import wrong_bodies as bodies
+from wrong_bodies import MUTANTS, TOP, called
 
-import argparse  # noqa: E402
-import collections  # noqa: E402
-import contextlib  # noqa: E402
-import functools  # noqa: E402
-import hashlib  # noqa: E402
-import itertools  # noqa: E402
-import json  # noqa: E402
-import random  # noqa: E402
-import re  # noqa: E402
-import shutil  # noqa: E402
-import signal  # noqa: E402
-import subprocess  # noqa: E402
-import tempfile  # noqa: E402
-import time  # noqa: E402
-from collections.abc import Iterable, Iterator  # noqa: E402
-from dataclasses import dataclass  # noqa: E402
-from pathlib import Path  # noqa: E402
-
-import goals  # noqa: E402
-import stamps  # noqa: E402
-
-TOP, FOLDER = Path(stamps.TOP), Path(stamps.RANDOM)
+FOLDER = MUTANTS / "out/random"
 NO_CODE = re.compile(r'//[^\n]*|/\*.*?\*/|\bb?r(#*)".*?"\1|"(?:\\.|[^"\\])*"|\'(?:\\(?:x\w\w|u\{\w+\}|.)|[^\\\'\n])\'', re.DOTALL)
 NO_BODY = re.compile(r"\bghost use [^;]*;|#!?(?=\[)|\b(?:requires|ensures)(?: \*)?(?:\s+\w+)?\s*(?=\{)|\bghost\s+\w+\s*[:=]\s*(?=\{)")
 CONSTANT = re.compile(r"^ *(?:pub(?:\([a-z]+\))? )?const \w+: [^=;\n]*=([^;\n]*);", re.MULTILINE)
@@ -69,8 +60,17 @@ class Edit:
     @property
     def function(self) -> str | None:
         """The function that it changes; none for a constant."""
-        text = goals.read(TOP / "crates" / self.crate / self.path)
-        return None if CONSTANT.match(code_of(self.old)) else goals.function_at(text, text.find(self.old))
+        text = self.source.read_text(encoding="utf-8")
+        return None if CONSTANT.match(code_of(self.old)) else bodies.function_at(text, text.find(self.old))
+
+    @property
+    def source(self) -> Path:
+        return TOP / "crates" / self.crate / self.path
+
+    @property
+    def file(self) -> bodies.Edit:
+        """The edit as a file, once it is written."""
+        return bodies.Edit(FOLDER / f"{self.name}.edit")
 
     def __str__(self) -> str:
         place = f"{self.crate}/{self.path}:{self.number} {self.function or '-'}"
@@ -114,7 +114,7 @@ def body_at(code: str, place: int) -> tuple[int, int] | None:
 
 def regions(code: str) -> Iterator[tuple[int, int, str]]:
     """The bodies of functions, each with the type that it gives, and the values of constants."""
-    for found in goals.FUNCTION.finditer(code):
+    for found in bodies.FUNCTION.finditer(code):
         if body := body_at(code, found.end()):
             given = re.search(r"\) -> ([^{]*)", code[found.end():body[0]])
             yield *body, " ".join(given[1].split()) if given else ""
@@ -216,14 +216,14 @@ def edits_of(crate: str, path: str, text: str) -> list[list[Edit]]:
     return [line for line in found if line]
 
 
-def product(texts: stamps.Texts) -> list[str]:
+def product(texts: bodies.Texts) -> list[str]:
     """The crates of the product: no tests, and no laws, which are functions that do nothing."""
     return [crate for crate in texts.words if not crate.startswith("test_") and not crate.endswith("_laws")]
 
 
 def all_edits(crates: list[str]) -> list[list[Edit]]:
     return [edits for crate in sorted(crates) for path in sorted((TOP / "crates" / crate).glob("src/**/*.rt"))
-            for edits in edits_of(crate, str(path.relative_to(TOP / "crates" / crate)), goals.read(path))]
+            for edits in edits_of(crate, str(path.relative_to(TOP / "crates" / crate)), path.read_text(encoding="utf-8"))]
 
 
 def drawn(lines: list[list[Edit]], seed: int) -> Iterator[Edit]:
@@ -256,35 +256,17 @@ class Kept:
             file.write("\n" + json.dumps({"sum": total, "edit": str(edit), "fate": fate, "seconds": round(seconds)}))
 
 
-def copied(one: str, other: str) -> None:
-    """Copies a file, by a link if it was built, since such a file is replaced and never changed."""
-    if "/out/" in one:
-        with contextlib.suppress(OSError):
-            return os.link(one, other)
-    shutil.copy2(one, other)
-
-
 @contextlib.contextmanager
 def edited(edit: Edit | None) -> Iterator[Path]:
-    """A copy of the repository with an edit, or with none, and with the libraries as they were built here."""
-    with tempfile.TemporaryDirectory() as room:
-        copy = Path(room) / "top"
-        shutil.copytree(TOP, copy, symlinks=True, copy_function=copied,
-                        ignore=lambda at, _: {".git", "incremental"} | ({"out"} if Path(at).parent.name != "crates" else set()))
+    """A copy of the repository with an edit, or with none."""
+    with bodies.copied() as copy:
         if edit:
-            path = copy / "crates" / edit.crate / edit.path
-            path.write_text(goals.read(path).replace(edit.old, edit.new), encoding="utf-8")
-        subprocess.run(["git", "init", "-q", copy], check=True)
+            path = copy / edit.source.relative_to(TOP)
+            path.write_text(path.read_text(encoding="utf-8").replace(edit.old, edit.new), encoding="utf-8")
         yield copy
 
 
-def called(where: Path, *words: str) -> tuple[int, str]:
-    how = {"stdin": subprocess.DEVNULL, "stdout": subprocess.PIPE, "stderr": subprocess.STDOUT, "errors": "replace"}
-    done = subprocess.run(words, cwd=where, check=False, **how)
-    return done.returncode, done.stdout
-
-
-def fate_above(edit: Edit, texts: stamps.Texts) -> str:
+def fate_above(edit: Edit, texts: bodies.Texts) -> str:
     """What the crates that name the edit's crate say of it, if its library has another interface: the first one that refuses it."""
     own, library = Path("crates", edit.crate), Path("crates", edit.crate, "out", "rlib", f"{edit.crate}.rlib", "interface", "lang")
     with edited(edit) as copy:
@@ -305,7 +287,7 @@ def fate_above(edit: Edit, texts: stamps.Texts) -> str:
 def failing(edit: Edit | None) -> frozenset[str] | None:
     """The checks of `make check FAST=1` that fail with a program that was compiled with this edit, or with none; none where it was not."""
     with edited(edit) as copy:
-        folder = copy / "crates" / stamps.PROGRAM / "out"
+        folder = copy / "crates" / bodies.PROGRAM / "out"
         # (tests/check.sh builds it anew)
         (copy / "crates/ocf_agents/out/ocf_agents").unlink(missing_ok=True)
         if called(copy, "package/program.sh", str(folder))[0]:
@@ -322,13 +304,13 @@ def fate_of_tests(edit: Edit) -> str:
 
 def may_be_seen(edit: Edit) -> bool:
     """Whether an edit changes more than a body, which no other crate sees: a constant, or a function that is computed in types."""
-    return not edit.function or f"const fn {edit.function}" in goals.read(TOP / "crates" / edit.crate / edit.path)
+    return not edit.function or f"const fn {edit.function}" in edit.source.read_text(encoding="utf-8")
 
 
 @dataclass
 class Judge:
     """Says of each edit what became of it, and has those tried of which nothing is kept."""
-    texts: stamps.Texts
+    texts: bodies.Texts
     kept: Kept
     with_tests: bool
     lanes: int
@@ -345,8 +327,8 @@ class Judge:
 
     def stages(self, edit: Edit) -> Iterator[tuple[str, str]]:
         """The stages of an edit, each with the sum of what its answer rests on."""
-        yield "proof", self.texts.sum_of_edit(edit.name)
-        whole = self.texts.sum_of_edit(edit.name, stamps.PROGRAM)
+        yield "proof", self.texts.sum_of(edit.file)
+        whole = self.texts.sum_of(edit.file, bodies.PROGRAM)
         if may_be_seen(edit):
             yield "above", f"above {whole}"
         if self.with_tests:
@@ -357,17 +339,17 @@ class Judge:
             self.kept.keep(self.stage(edit)[1], edit, fate, seconds)
         print(f"  {edit}\n    {fate[:200]}", flush=True)
 
-    def prove(self, crate: str, edits: dict[str, Edit], running: set) -> None:
+    def prove(self, crate: str, edits: dict[str, Edit]) -> None:
         """Tries edits of one crate by its proof."""
         began = time.monotonic()
-        told, said = stamps.fates(crate, [name.split("/")[1] for name in edits], running)
-        seconds, after = time.monotonic() - began, stamps.Texts()
-        print(f"{crate}: {len(edits)} tried in {seconds:.0f} s", *([] if told else said.splitlines()[-20:]), sep="\n", flush=True)
+        fates, printed = bodies.judged(crate, [edit.file for edit in edits.values()])
+        seconds, after = time.monotonic() - began, bodies.Texts()
+        print(f"{crate}: {len(edits)} tried in {seconds:.0f} s", *([] if fates else printed.splitlines()[-20:]), sep="\n", flush=True)
         for name, edit in edits.items():
-            fate = told.get(name, "NOT TRIED: nothing was said of it")
-            if after.sum_of_edit(name) != self.texts.sum_of_edit(name):
+            fate = fates.get(name, "NOT TRIED: nothing was printed of it")
+            if after.sum_of(edit.file) != self.texts.sum_of(edit.file):
                 fate = "NOT TRIED: a file that it rests on changed meanwhile"
-            by = goals.goal(stamps.crate_of(name), fate) if fate.startswith("refused") else None
+            by = bodies.goal(crate, fate) if fate.startswith("refused") else None
             self.note(edit, f"{fate} [goal of {by}]" if by else fate, seconds / len(edits))
 
     def try_all(self, edits: Iterable[Edit]) -> None:
@@ -382,14 +364,13 @@ class Judge:
             fate = fate_above(edit, self.texts) if stage == "above" else fate_of_tests(edit)
             self.note(edit, fate, time.monotonic() - began)
         if by_crate:
-            stamps.in_lanes(by_crate, self.lanes, self.prove)
+            collections.deque(bodies.in_lanes(by_crate, self.lanes, self.prove), maxlen=0)
 
 
 def written(edit: Edit) -> Edit:
-    """Writes an edit where try.sh finds it."""
-    path = FOLDER / f"{edit.name}.edit"
-    path.parent.mkdir(parents=True, exist_ok=True)
-    path.write_text(edit.text, encoding="utf-8")
+    """Writes an edit as a file."""
+    edit.file.path.parent.mkdir(parents=True, exist_ok=True)
+    edit.file.path.write_text(edit.text, encoding="utf-8")
     return edit
 
 
@@ -427,12 +408,12 @@ def main() -> int:
     asked.add_argument("--tests", action="store_true", help="whether `make check FAST=1` sees what no proof refuses")
     asked.add_argument("-j", type=int, default=0, metavar="CRATES", help="how many crates are tried at a time")
     asked.add_argument("crates", nargs="*", metavar="CRATE", help="all of the product, if left out")
-    words, texts = asked.parse_args(), stamps.Texts()
+    words, texts = asked.parse_args(), bodies.Texts()
     signal.signal(signal.SIGTERM, lambda *_: sys.exit(143))
     FOLDER.mkdir(parents=True, exist_ok=True)
     lines = all_edits(words.crates or product(texts))
     if not lines:
-        sys.exit("random.py: these crates have no line to edit")
+        sys.exit("random_edits.py: these crates have no line to edit")
     found = judged(drawn(lines, words.seed), words.count, Judge(texts, Kept(FOLDER / "kept"), words.tests, words.j))
     print(table(found))
     return 1 if "?" in found.values() else 0

@@ -10,7 +10,7 @@ import sys
 
 TOP = os.path.dirname(os.path.dirname(os.path.abspath(__file__)))
 INTO = "docs/TRUSTED.txt"
-HEAD = "What is believed of the program and not proved, by what is believed. Written by docs/trusted.py.\n"
+HEAD = "What is believed of the program and not proved, by what is believed. Written by tools/trusted.py.\n"
 PLACE = re.compile(r"^\s*// TRUSTED: (.*)$")
 BY_HAND = "proved by hand"
 # It repeats the sentence of the place before it.
@@ -116,7 +116,7 @@ def places_in(name, lines):
     for function, sentence in UNMARKED.get(name, {}).items():
         begins = [at for at, line in enumerate(lines) if (found := FUNCTION.search(line)) and function in found.groups()]
         if not begins:
-            raise SystemExit(f"{name} has no function {function}, which docs/trusted.py names")
+            raise SystemExit(f"{name} has no function {function}, which tools/trusted.py names")
         yield begins[0] + 1, function, sentence, None
 
 
@@ -145,7 +145,7 @@ def main():
         with open(path, encoding="utf-8") as file:
             is_old = file.read() != text()
         if is_old:
-            print(f"{INTO} is old: docs/trusted.py writes it", file=sys.stderr)
+            print(f"{INTO} is old: tools/trusted.py writes it", file=sys.stderr)
         return int(is_old)
     with open(path, "w", encoding="utf-8") as file:
         file.write(text())
