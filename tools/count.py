@@ -45,22 +45,22 @@ def functions(of_tests):
 
 
 def edits():
-    """The wrong bodies that a proof has to refuse: those of each gate, those of mutants/gate, all others; and how many were not seen
-    refused."""
+    """The wrong bodies that a proof has to refuse: those of each gate, those of mutants/gate, all others; and how many of mutants have a
+    stamp, over these texts or earlier ones."""
     others = [path for path in files("mutants/*/*.edit") if path.parent.name != "tests"]
-    untried = (TOP / "mutants/untried").read_text(encoding="utf-8").split()
-    return len(files("crates/*/must-fail/*.edit")), len(files("mutants/gate/*/*.edit")), len(others), len(untried)
+    stamps = (TOP / "mutants/tried").read_text(encoding="utf-8").splitlines()
+    return len(files("crates/*/must-fail/*.edit")), len(files("mutants/gate/*/*.edit")), len(others), len(stamps)
 
 
 def kinds():
-    each, gate, others, untried = edits()
+    each, gate, others, stamps = edits()
     scenarios, modelled = count("tests/scenarios/data/*.scenario", SCENARIO), count("tests/scenarios/data/random-*.scenario", SCENARIO)
     return [("functions of the program's crates, with those that a trait declares", functions(False), "`crates`"),
             ("the same of the crates of tests", functions(True), "`crates/test_*`"),
             ("wrong bodies that a proof has to refuse, tried by each gate", each, "`crates/NAME/must-fail`"),
             ("the same, tried by a gate where their stamp is missing or old", gate, "`mutants/gate`"),
             ("the same, tried by hand", others, "`mutants/NAME`"),
-            ("of these three: not seen refused since their crates changed", untried, "`mutants/untried`"),
+            ("of the last two and the next: seen refused, with a stamp", stamps, "`mutants/tried`"),
             ("wrong bodies that a test has to refuse", len(files("mutants/tests/*.edit")), "`mutants/tests`"),
             ("tests that are proved before they run", count("crates/test_*/src/**/*.rt", TEST), "`crates/test_disks`, `crates/test_edges`"),
             (f"scenarios; of these by an independent model: {modelled}", scenarios, "`tests/scenarios/data`"),

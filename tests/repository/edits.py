@@ -118,12 +118,10 @@ class Edits(helper.Check):
             is_tried = found[crate, name].parent.name == "must-fail" or found[crate, name].parts[-3] == "gate"
             self.assertEqual(star, is_tried, f"{crate}/{name}: a star, and not tried for each commit, or the other way round")
 
-    def test_untried(self):
-        """mutants/untried names existing edits, each once and in order"""
-        names = read(TOP / "mutants/untried").split()
-        self.assertEqual(names, sorted(set(names)), "mutants/untried: not in order, or not once")
-        found = {f"{crate}/{name}" for crate, name in edits()} | {f"tests/{path.stem}" for path in TOP.glob("mutants/tests/*.edit")}
-        self.assertEqual(set(names) - found, set(), "mutants/untried: there are no such edits")
+    def test_users(self):
+        """each edit but those that every gate tries says in one line what would go wrong for a user"""
+        for path in TOP.glob("mutants/**/*.edit"):
+            self.assertEqual(len(re.findall(r"^# for a user: .{10,}", read(path), re.MULTILINE)), 1, f"{path.relative_to(TOP)}")
 
 
 if __name__ == "__main__":
