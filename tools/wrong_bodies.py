@@ -264,11 +264,13 @@ def judged(crate: str, edits: list[Edit]) -> tuple[dict[str, str], str]:
     return dict(FATE.findall(printed)), printed
 
 
-def passes(edit: Edit, copy: Path) -> bool | None:
-    """Whether the check that an edit of mutants/tests names passes in this copy; none if the program was not compiled."""
+def compiled(copy: Path) -> bool:
+    return called(copy, "package/program.sh", str(copy / "build"))[0] == 0
+
+
+def passes(edit: Edit, copy: Path) -> bool:
+    """Whether the check that an edit of mutants/tests names passes with the program of a copy."""
     script, sentence = CHECK.search(edit.text).groups()
-    if called(copy, "package/program.sh", str(copy / "build"))[0]:
-        return None
     environment = {**os.environ, "ONLY": sentence, "LIMIT": "6000"}
     printed = called(copy, str(copy / script), str(copy / "build/ocfexec"), env=environment)[1]
     return re.search(rf"^ok +[0-9.]+ s  \w+: {re.escape(sentence)}$", printed, re.MULTILINE) is not None
@@ -277,13 +279,15 @@ def passes(edit: Edit, copy: Path) -> bool | None:
 def judged_by_tests(edits: list[Edit]) -> tuple[dict[str, str], str]:
     """The fates of edits of mutants/tests."""
     fates = {}
-    for edit in edits:
-        with copied() as copy:
-            without = passes(edit, copy)
-            edit.applied(copy)
-            with_it = passes(edit, copy)
-        fates[edit.name] = ("NOT TRIED: its check does not pass without it" if not without else "NOT TRIED: it was not compiled"
-                            if with_it is None else "NOT REFUSED" if with_it else "refused")
+    with copied() as unedited:
+        if not compiled(unedited):
+            return {}, "the program was not compiled"
+        for edit in edits:
+            with copied() as copy:
+                edit.applied(copy)
+                fates[edit.name] = ("NOT TRIED: it was not compiled" if not compiled(copy) else
+                                    "NOT TRIED: its check does not pass without it" if not passes(edit, unedited) else
+                                    "NOT REFUSED" if passes(edit, copy) else "refused")
     return fates, ""
 
 
