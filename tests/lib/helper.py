@@ -60,6 +60,7 @@ def number(name, default):
 
 def slow(test):
     """Marks a test that --fast leaves out."""
+    test.is_slow = True
     return unittest.skipIf(os.environ.get("FAST"), "slow")(test)
 
 
