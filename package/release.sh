@@ -19,10 +19,10 @@ for earlier in "$(program_version HEAD)" $(releases HEAD); do
 done
 package/notes.sh Unreleased | grep -q '^- ' || refuse "the changelog has nothing under Unreleased"
 sed -i "s/^\(pub const VERSION: &str = \"\).*\(\";\)\$/\1$version\2/" crates/exec_options/src/texts.rt
-sed -i "s/^\(wrote \(--version\|-V\) \"ocfexec \).*\"\$/\1$version\"/" tests/cli/words.sh
+sed -i "s/^\(VERSION = \"\).*\"\$/\1$version\"/" tests/cli/words.py
 sed -i "s/^\(\.TH OCF[A-Z-]* 8 [0-9-]* \"ocfexec \)[^\"]*/\1$version/" docs/ocfexec.8 docs/ocfctl.8 docs/ocfexec-client.8
 sed -i "s/^## \[Unreleased\]\$/&\n\n## [$version] - $(date -u +%F)/" CHANGELOG.md
 sed -i "s/^\(__version__ = \"\).*\"\$/\1$version\"/" python/ocfexec/__init__.py
 git commit --quiet --message "Release $version" -- \
-    CHANGELOG.md crates/exec_options/src/texts.rt python/ocfexec/__init__.py tests/cli/words.sh docs/ocfexec.8 docs/ocfctl.8 docs/ocfexec-client.8
+    CHANGELOG.md crates/exec_options/src/texts.rt python/ocfexec/__init__.py tests/cli/words.py docs/ocfexec.8 docs/ocfctl.8 docs/ocfexec-client.8
 git tag --annotate --message "Release $version" "v$version"

@@ -51,12 +51,12 @@ change
 package/release.sh 99.0.10 > "$here/said" 2>&1 || differs "a release" "it is made" "$(cat "$here/said")"
 same "what it changes" \
     "CHANGELOG.md crates/exec_options/src/texts.rt docs/ocfctl.8 docs/ocfexec-client.8 docs/ocfexec.8 python/ocfexec/__init__.py"\
-" tests/cli/words.sh" \
+" tests/cli/words.py" \
     "$(git diff --name-only "$before" | xargs)"
-same "the lines that it changes" "9 7" "$(git diff --numstat "$before" | awk '{ added += $1; taken += $2 } END { print added, taken }')"
+same "the lines that it changes" "8 6" "$(git diff --numstat "$before" | awk '{ added += $1; taken += $2 } END { print added, taken }')"
 same "the version" 99.0.10 "$(program_version v99.0.10)"
 same "the manual's version" 99.0.10 "$(manual_version .)"
-same "the check's versions" "99.0.10 99.0.10" "$(sed -n 's/^wrote \(--version\|-V\) "ocfexec \(.*\)"$/\2/p' tests/cli/words.sh | xargs)"
+same "the check's version" "99.0.10" "$(sed -n 's/^VERSION = "\(.*\)"$/\1/p' tests/cli/words.py)"
 before=$(git rev-parse HEAD)
 refused 99.0.9 "99.0.9 is not above 99.0.10"
 refused 99.0.11 "the changelog has nothing under Unreleased"
