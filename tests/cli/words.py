@@ -114,10 +114,10 @@ class Words(helper.Check):
 class Requested(Words):
     def test_help(self) -> None:
         """the help of the program and of each subcommand is printed on request, in 80 columns"""
-        for words in ("--help", *(f"{name} --help" for name in SUBCOMMANDS)):
-            self.assertEqual([line for line in self.prints(*words.split()).splitlines() if len(line) > 80], [], words)
-        for words in ("show -h", "help run", "run --memory --help"):
-            self.assertIn("Usage: ocfexec ", self.prints(*words.split()), words)
+        for words in ("--help", *(f"{name} --help" for name in SUBCOMMANDS), "show -h", "help run", "run --memory --help"):
+            text = self.prints(*words.split())
+            self.assertIn("Usage: ocfexec ", text, words)
+            self.assertEqual([line for line in text.splitlines() if len(line) > 80], [], words)
 
     def test_parts(self) -> None:
         """the help has each operation, and the options of a subcommand with their defaults"""
