@@ -39,7 +39,7 @@ ids_of='command ocfexec show "${place[@]}" 2>/dev/null | sed -n "1s/.*\"resource
 agents_of='command find "$root/resource.d" -mindepth 2 -maxdepth 2 -perm -u+x ! -type d ! -name ".*" -printf "%P\n" 2>/dev/null | sort | tr / :'
 
 # The default root of the agents, by the help.
-root=$("$program" once --help | sed -n '/--root/,/default/s/.*\[default: \(.*\)\].*/\1/p')
+root=$("$program" once --help | sed -n '/--root </{/default:/!N;s/.*\[default: \(.*\)\].*/\1/p;q}')
 
 # The actions of an agent.
 actions='start stop monitor promote demote reload-agent validate-all meta-data'

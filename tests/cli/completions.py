@@ -2,6 +2,7 @@
 """The completions of the program's arguments, each requested in the shell itself: bash, and fish and zsh if they are installed.
 Use: completions.py PROGRAM"""
 import os
+import re
 import shutil
 import subprocess
 import sys
@@ -147,6 +148,13 @@ class Bash(Completions):
         """bash offers the agents below a root, after an agent or a resource its actions, and nothing after an action"""
         self.offers(AGENTS_IN_BASH)
 
+    def test_default_root(self) -> None:
+        """without --root the agents are looked for below the program's default root"""
+        usage = helper.run("once", "--help").stdout.decode()
+        default = re.search(r"--root <DIR>[^[]*\[default: ([^]]*)\]", usage)[1]
+        with open(self.script, encoding="utf-8") as script:
+            self.assertIn(f"    root=${{root:-{default}}}\n", script.readlines())
+
 
 @unittest.skipUnless(shutil.which("fish"), NO_FISH)
 class Fish(Completions):
@@ -165,7 +173,7 @@ class Fish(Completions):
 
     def test_agents(self) -> None:
         """fish offers the agents below a root, and their actions"""
-        self.offers(AGENTS_IN_FISH)
+        self.assertEqual(self.offers(AGENTS_IN_FISH), "")
 
     def test_ids(self) -> None:
         """fish offers the ids of the journal that is named"""
