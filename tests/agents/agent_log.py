@@ -11,12 +11,12 @@ import sys
 sys.path[0] += "/../lib"
 import helper  # noqa: E402
 
-# An agent that writes a line to each stream and fails. What its stop leaves behind writes once more as soon as it is told to; it ends, too,
-# when the check is over.
+# An agent that writes a line to each stream and fails. The process that its stop leaves writes once more as soon as there is a file, and
+# ends, too, when the check is over.
 TALKER = """echo "$1 of $OCF_RESOURCE_INSTANCE"
 echo "$1 fails: no such device" >&2
 case $1 in stop)
-    (until [ -e "$OCF_RESKEY_go" ] || [ ! -e "$0" ]; do sleep 0.05; done; echo "left behind: $?"; : > "$OCF_RESKEY_go.done") & ;;
+    (until [ -e "$OCF_RESKEY_go" ] || [ ! -e "$0" ]; do sleep 0.05; done; echo "left: $?"; : > "$OCF_RESKEY_go.done") & ;;
 esac
 exit 5
 """
@@ -88,13 +88,13 @@ class AgentLog(helper.Check):
         helper.run("run", "--memory", "--root", self.here, "--log", self.log, preexec_fn=lambda: os.closerange(1, 3))
         self.assertEqual(self.written(), WRITES)
 
-    def test_left_behind(self):
+    def test_left(self):
         """a process that an agent leaves in the background goes on writing once the executor has ended"""
         self.assertEqual(self.does("stop", "--log", self.log).returncode, 0)
-        self.assertNotIn("left behind", self.written())
+        self.assertNotIn("left", self.written())
         self.note("go", b"")
-        self.eventually("what is left behind writes", lambda: os.path.exists(self.place("go.done")))
-        self.assertEqual(self.written().splitlines()[-1], "left behind: 0")
+        self.eventually("what is left writes", lambda: os.path.exists(self.place("go.done")))
+        self.assertEqual(self.written().splitlines()[-1], "left: 0")
 
     def test_show(self):
         """show, which starts nothing, takes no log, and makes none"""

@@ -8,7 +8,7 @@ sys.path[0] += "/../lib"
 import helper  # noqa: E402
 
 # An agent that notes its environment under the name of its action, but what the shell itself sets.
-TELLER = """env | LC_ALL=C sort | grep -v -e '^PWD=' -e '^SHLVL=' -e '^_=' > "$OCF_RESKEY_told.$1"
+TELLER = """env | LC_ALL=C sort | grep -v -e '^PWD=' -e '^SHLVL=' -e '^_=' > "$OCF_RESKEY_to.$1"
 """
 # The variables of each call of this agent, besides its root and its parameter, and those of its monitor.
 ALWAYS = {"OCF_RA_VERSION_MAJOR": "1", "OCF_RA_VERSION_MINOR": "1", "OCF_RESOURCE_INSTANCE": "r1", "OCF_RESOURCE_PROVIDER": "test",
@@ -26,27 +26,34 @@ class MetaVariables(helper.Check):
         super().setUp()
         self.agent("Teller", TELLER)
 
-    def told(self, action):
-        with open(self.place(f"told.{action}"), encoding="utf-8") as file:
+    def environment(self, action):
+        """What an agent found in this action."""
+        with open(self.place(f"noted.{action}"), encoding="utf-8") as file:
             return dict(line.split("=", 1) for line in file.read().splitlines())
 
-    def ended(self, run, action):
-        _, notice = run.awaits(lambda value: helper.is_notice(value, action=action))
-        self.assertEqual((notice["outcome"], notice["code"]), ("done", 0), run.state())
+    def ended(self, run, action, waits):
+        """Tells the run to wait, again and again, until this action has ended."""
+        def notice():
+            before = len(run.values())
+            run.tell(waits)
+            run.awaits(lambda value: "end" in value, after=before)
+            return [value for value in run.told() if value["action"] == action]
+        [found] = self.eventually(f"the end of {action}", notice)
+        self.assertEqual((found["outcome"], found["code"]), ("done", 0), run.state())
 
     def find(self, own, *words, **given):
         """A start and a recurring monitor with these parameters find these variables of Pacemaker, and no others but those of each
         agent."""
-        run = self.heard("serve", "--memory", "--root", self.here, *words)
+        run = self.heard("run", "--memory", "--root", self.here, *words)
         params = {f"CRM_meta_{name}": value for name, value in given.items()}
-        run.tell(helper.register("r1", "Teller", told=self.place("told"), **params), helper.action("r1", "start", timeout=4321))
-        self.ended(run, "start")
+        run.tell(helper.register("r1", "Teller", to=self.place("noted"), **params), helper.action("r1", "start", timeout=4321))
+        self.ended(run, "start", {"op": "drain"})
         run.tell({"op": "recur", "id": "r1", "interval": 12000, "timeout": 5000, "level": 10})
-        self.ended(run, "monitor")
+        self.ended(run, "monitor", {"op": "watch", "limit": 300})
         self.assertEqual(run.ends(), 0)
         for action, more in (("start", {}), ("monitor", LEVEL)):
-            wanted = {**ALWAYS, "OCF_ROOT": self.here, "OCF_RESKEY_told": self.place("told"), **more}
-            self.assertEqual(self.told(action), {**wanted, **{META + name: value for name, value in own[action].items()}}, action)
+            wanted = {**ALWAYS, "OCF_ROOT": self.here, "OCF_RESKEY_to": self.place("noted"), **more}
+            self.assertEqual(self.environment(action), {**wanted, **{META + name: value for name, value in own[action].items()}}, action)
 
     def test_without(self):
         """without --meta-variables an agent finds none of Pacemaker's variables"""

@@ -131,12 +131,12 @@ class Spawned(helper.Check):
         self.assertEqual(err.splitlines(), [f"ocfexec: {what} was not started: {cause}" for what, cause in asked + runs if cause])
 
     def test_not_started(self):
-        """agents that cannot be started are told so, each with its code"""
+        """agents that cannot be started are reported, each with its code"""
         self.place_agents()
         self.not_started(NOT_STARTED)
 
     def test_not_started_by_itself(self):
-        """agents that cannot be started are told so without groups, too, and also those that the launcher would have started"""
+        """without groups agents that cannot be started are reported, too, and also those that the launcher would have started"""
         self.place_agents()
         self.not_started(NOT_STARTED + BY_ITSELF, "--no-groups")
 
