@@ -349,7 +349,7 @@ def main() -> int:
     asked.add_argument("what", choices=["check", "all", "show"])
     asked.add_argument("names", nargs="*", metavar="NAME", help="gate, every, a crate, tests, or CRATE/EDIT")
     asked.add_argument("-j", type=int, default=0, metavar="CRATES", help="how many crates are tried at a time; 3 if left out")
-    words, texts, stamps = asked.parse_args(), Texts(), Stamps()
+    words, texts, stamps = asked.parse_intermixed_args(), Texts(), Stamps()
     signal.signal(signal.SIGTERM, lambda *_: sys.exit(143))
     edits = chosen(words.names, all_edits())
     sums = {edit: texts.sum_of(edit) for edit in edits}
