@@ -185,9 +185,13 @@ class Stamps:
 
     def __init__(self) -> None:
         self.kit = output("rt", "version").split()[0]
-        text = TRIED.read_text(encoding="utf-8") if TRIED.exists() else ""
-        self.lines = {edit: rest for edit, *rest in map(str.split, text.splitlines()) if rest}
+        self.lines = self.read()
         self.found = dict(self.lines)
+
+    @staticmethod
+    def read() -> dict[str, list[str]]:
+        text = TRIED.read_text(encoding="utf-8") if TRIED.exists() else ""
+        return {edit: rest for edit, *rest in map(str.split, text.splitlines()) if rest}
 
     def has(self, edit: Edit, total: str) -> bool:
         return self.lines.get(edit.name, [""])[0] == total
@@ -195,7 +199,8 @@ class Stamps:
     def settle(self, fates: dict[Edit, str | None], sums: dict[Edit, str]) -> None:
         """Notes the edits that were refused, removes the lines of others, and of edits that are gone, and writes the file."""
         today = datetime.date.today().isoformat()
-        self.lines |= {edit.name: [sums[edit], today, self.kit] for edit, fault in fates.items() if fault is None}
+        # (another call may have written meanwhile)
+        self.lines = self.read() | {edit.name: [sums[edit], today, self.kit] for edit, fault in fates.items() if fault is None}
         others = {edit.name for edit, fault in fates.items() if fault and not fault.startswith("NOT TRIED")}
         self.lines = {name: rest for name, rest in self.lines.items() if name not in others and name in all_edits()}
         new = TRIED.with_suffix(".new")
