@@ -322,7 +322,7 @@ class Judge:
             if fate is None:
                 return stage, total
             if not fate.startswith("NOT REFUSED"):
-                return "bad" if fate.startswith("BAD EDIT") else "weak" if "(only b" in fate else stage, ""
+                return "bad" if fate.startswith("BAD EDIT") else "weak" if fate.startswith("ONLY BY A NAME") else stage, ""
         return "alive", ""
 
     def stages(self, edit: Edit) -> Iterator[tuple[str, str]]:
@@ -391,7 +391,7 @@ def judged(edits: Iterator[Edit], count: int, judge: Judge) -> dict[Edit, str]:
 
 def table(found: dict[Edit, str]) -> str:
     """The numbers by kind, and the edits that are alive."""
-    columns = {"edits": None, "refused by the crate": "proof", "only by a limit or a name": "weak", "above it": "above",
+    columns = {"edits": None, "refused by the crate": "proof", "only by a name": "weak", "above it": "above",
                "by a test": "test", "alive": "alive", "not tried": "?"}
     lines = [f"{'':24}  {'  '.join(columns)}"]
     for kind in [*KINDS, "all"]:
@@ -406,7 +406,7 @@ def main() -> int:
     asked.add_argument("--seed", type=int, default=1)
     asked.add_argument("--count", type=int, default=20)
     asked.add_argument("--tests", action="store_true", help="whether `make check FAST=1` sees what no proof refuses")
-    asked.add_argument("-j", type=int, default=0, metavar="CRATES", help="how many crates are tried at a time")
+    asked.add_argument("-j", type=int, default=2, metavar="CRATES", help="how many crates are tried at a time; 2 if left out")
     asked.add_argument("crates", nargs="*", metavar="CRATE", help="all of the product, if left out")
     words, texts = asked.parse_args(), bodies.Texts()
     signal.signal(signal.SIGTERM, lambda *_: sys.exit(143))

@@ -2,15 +2,13 @@
 """Tries wrong bodies: edits of the sources that the proof of their crate, or a check of the built program, has to refuse; see
 mutants/README.md.
 
-An edit counts as refused if the first goal that is refused belongs to a function that the edit names in `# refused by:`. One of
-mutants/tests counts if the check that it names passes without it and fails with it. `mutants/tried` has a line, the stamp, for each edit
-that was seen refused: its sum, the date and the kit. The sum is over the edit without its comments, and over src/, specs/ and proofs/ of
-its crate and of all crates below, or, for mutants/tests, of all crates of the program. `check` tries the edits whose stamp is missing or
-old, `all` tries every one, and `show` tries none and lists those that `check` would try.
+An edit counts as refused if a refused goal belongs to a function that it names in `# refused by:`; one of mutants/tests if the check that it
+names passes without it and fails with it. `mutants/tried` has the stamp of each edit that was seen refused: the sum of its change and of the
+texts that its proof rests on, the date and the kit. `check` tries the edits whose stamp is missing or old, `all` every one, and `show` lists
+those that `check` would try. NAME is `gate` for mutants/gate (where there is none), `every`, a crate, `tests`, or CRATE/EDIT.
 
-NAME is `gate` for the edits of mutants/gate (where there is none), `every` for all edits, a crate or `tests` for those of one directory, or
-CRATE/EDIT. What edits of one crate begin with are the libraries below it as the work tree's last check left them, which are proved first
-where they are not there. The last line counts.
+A crate is checked first in the work tree; its edits begin with what that check keeps. Edits that touch and name different functions are
+tried by one check: none changes a contract, so each of them fails by itself or not at all. The last line counts.
 
 Use: wrong_bodies.py check|all|show [-j CRATES] [NAME..]"""
 import argparse
@@ -30,24 +28,20 @@ import time
 from collections.abc import Callable, Iterator
 from dataclasses import dataclass
 from pathlib import Path
-from typing import TypeVar
 
 TOP = Path(__file__).resolve().parents[1]
 MUTANTS = TOP / "mutants"
 TRIED = MUTANTS / "tried"
-# the directory of the edits that a test refuses, and the crate of the program that they are tried with
-TESTS, PROGRAM = "tests", "ocfexec"
+# the directory of the edits that a test refuses, and the crate and the build of the program that they are tried with
+TESTS, PROGRAM, BUILD = "tests", "ocfexec", ("package/program.sh", "build")
 FUNCTION = re.compile(r"^[ \t]*(?:pub(?:\([a-z ]+\))?[ \t]+)?(?:(?:const|unsafe)[ \t]+)*fn[ \t]+(\w+)", re.MULTILINE)
 # A place in what the kit prints. A function's own proofs are in a file proofs/MODULE/FUNCTION/NAME.antt; the crate's lemmas are in files
 # and directories whose names begin with a capital.
 PLACE, PROOF = re.compile(r"(?:^|[\s:])(?:\./)?((?:src|proofs)/[^\s:]+):(\d+):\d+:"), re.compile(r"proofs/(?:.*/)?([a-z]\w*)/\w+\.antt")
-FATE = re.compile(r"^rt: must-fail ([\w.-]+/[\w.-]+)\.edit: (.*)", re.MULTILINE)
+# a refused goal, and one that is refused since a name in a proof file is gone, so that no contract was tried
+GOAL = re.compile(r"^(?:note: )?(?:\./)?\S+:\d+:\d+: .*", re.MULTILINE)
+GONE = re.compile(r"(?:\./)?proofs/.*(?:has no field|is not in scope|has no `|was not admitted)")
 NAMED, CHECK = re.compile(r"^# refused by: (.+)$", re.MULTILINE), re.compile(r"^refused by: ([^,\n]+), (.+)$", re.MULTILINE)
-# What the kit prints if a name in a proof file is gone, so that no contract was tried.
-ONLY_NAMES = "only because a proof file names what the edit took away"
-# how much memory the check of a crate may take, in KiB
-CHECK_KIB = 3_500_000
-Result = TypeVar("Result")
 
 
 def begin(text: str, place: int) -> int:
@@ -97,7 +91,7 @@ class Edit:
 
     @property
     def crate(self) -> str:
-        return self.path.parts[-3] if self.path.parent.name == "must-fail" else self.path.parent.name
+        return self.path.parent.name
 
     @property
     def name(self) -> str:
@@ -112,37 +106,51 @@ class Edit:
         """Its text without comments."""
         return "".join(line for line in self.text.splitlines(keepends=True) if not line.startswith("#"))
 
-    def applied(self, top: Path) -> None:
-        """Applies an edit of mutants/tests to the files below this directory."""
-        path = None
+    @property
+    def pairs(self) -> Iterator[tuple[str, str, str]]:
+        """What it replaces: a file, a text that stands in it once, and the text in its place."""
+        file = old = ""
         for line in self.change.splitlines():
-            key, _, text = line.partition(": ")
+            key, _, text = line.partition(":")
             if key == "file":
-                path = top / text
+                file = text.strip()
             elif key == "old":
-                old = text
-            elif key == "new" and path:
-                body = path.read_text(encoding="utf-8")
-                if body.count(old) != 1:
-                    raise ValueError(f"its file has this text {body.count(old)} times: {old}")
-                path.write_text(body.replace(old, text), encoding="utf-8")
+                old = text.removeprefix(" ")
+            elif key == "new":
+                yield file, old, text.removeprefix(" ")
+
+    @property
+    def wanted(self) -> set[str]:
+        """The functions of which one must refuse it: those that it names, or else those that it changes."""
+        return {function for function, _ in named(self.text)} or {name for name in self.touched if name}
+
+    @property
+    def touched(self) -> set[str | None]:
+        """The functions that it changes; none stands for a text outside of functions."""
+        texts = [((TOP / "crates" / self.crate / file).read_text(encoding="utf-8"), old) for file, old, _ in self.pairs]
+        return {function_at(text, text.find(old)) for text, old in texts}
+
+    def applied(self, top: Path) -> str | None:
+        """Applies it to the files below this directory. Returns why it cannot be applied, if it cannot."""
+        for file, old, new in self.pairs:
+            text = (top / file).read_text(encoding="utf-8")
+            if text.count(old) != 1:
+                return f"BAD EDIT: {file} has its text {text.count(old)} times, and not once: {old}"
+            (top / file).write_text(text.replace(old, new), encoding="utf-8")
+        return None
 
     def fault(self, fate: str) -> str | None:
         """Why it does not count with this fate, if it does not. A goal that belongs to no function counts."""
-        if not fate.startswith("refused") or ONLY_NAMES in fate:
+        if not fate.startswith("refused"):
             return fate
-        wanted, found = {function for function, _ in named(self.text)}, goal(self.crate, fate) if self.crate != TESTS else None
-        return None if found is None or found in wanted else f"REFUSED ELSEWHERE, in {found}, not {' or '.join(sorted(wanted))}: {fate}"
+        found = goal(self.crate, fate) if self.crate != TESTS else None
+        elsewhere = found is not None and found not in self.wanted
+        return f"REFUSED ELSEWHERE, in {found}, not {' or '.join(sorted(self.wanted))}: {fate}" if elsewhere else None
 
 
 def all_edits() -> dict[str, Edit]:
     """The edits of mutants, by their names."""
-    found = [Edit(path) for folder in ("gate/*", "*") for path in sorted(MUTANTS.glob(f"{folder}/*.edit"))]
-    return {edit.name: edit for edit in found if (TOP / "crates" / edit.crate).is_dir() or edit.crate == TESTS}
-
-
-def in_gate(edit: Edit) -> bool:
-    return edit.path.parent.parent.name == "gate"
+    return {edit.name: edit for folder in ("gate/*", "*") for edit in map(Edit, MUTANTS.glob(f"{folder}/*.edit"))}
 
 
 class Texts:
@@ -220,7 +228,6 @@ def called(where: Path, *words: str, **how) -> tuple[int, str]:
         running.discard(started)
 
 
-# the commands that run now
 running: set[subprocess.Popen] = set()
 
 
@@ -232,7 +239,7 @@ def output(*words: str) -> str:
 def copied(crates: list[str] | None = None) -> Iterator[Path]:
     """A copy of the repository, or only of these crates, with the libraries as they were built here."""
     def passed_over(at: str, names: list[str]) -> set[str]:
-        others = set(names) - set(crates) if crates and Path(at) == TOP / "crates" else set()
+        others = set(names) - {*crates} if crates and Path(at) == TOP / "crates" else set()
         return others | {".git", "incremental", "must-fail"} | ({"out"} if Path(at).parent != TOP / "crates" else set())
 
     def linked(one: str, other: str) -> None:
@@ -243,34 +250,52 @@ def copied(crates: list[str] | None = None) -> Iterator[Path]:
 
     with tempfile.TemporaryDirectory() as room:
         copy = Path(room, "top")
-        for part in ("crates",) if crates else (".",):
-            shutil.copytree(TOP / part, copy / part, symlinks=True, copy_function=linked, ignore=passed_over)
-        for file in ("crates.txt", "HANDLES"):
-            shutil.copy2(TOP / file, copy / file)
+        shutil.copytree(TOP, copy, symlinks=True, copy_function=linked, ignore=passed_over)
         if crates:
-            lines = (copy / "crates.txt").read_text(encoding="utf-8").splitlines()
-            kept = [line for line in lines if line.split("#")[0].partition(":")[0].split()[:1] in [[crate] for crate in crates]]
+            lines = (TOP / "crates.txt").read_text(encoding="utf-8").splitlines()
+            kept = [line for line in lines if line.partition(":")[0].split()[:1] in [[crate] for crate in crates]]
             (copy / "crates.txt").write_text("\n".join(kept) + "\n", encoding="utf-8")
         output("git", "init", "-q", str(copy))
         yield copy
 
 
+def tried(crate: str, edits: list[Edit]) -> dict[str, str]:
+    """The fates of edits of one crate by one check. Of several edits, those that are not among the refused goals are then tried alone."""
+    with copied(Texts().at_or_below(crate)) as copy:
+        shutil.copytree(TOP / "crates" / crate / "out/incremental", copy / "crates" / crate / "out/incremental")
+        bad = {edit.name: why for edit in edits if (why := edit.applied(copy / "crates" / crate))}
+        status, printed = called(copy / "crates" / crate, "rt", "check")
+    found = GOAL.findall(printed) if "\nlogic=not-proved" in printed else []
+    goals = [line for line in found if not GONE.match(line)]
+    fates = {edit.name: f"refused: {line[:200]}" for edit in edits for line in goals[::-1] if goal(crate, line) in edit.wanted} | bad
+    left = [edit for edit in edits if edit.name not in fates]
+    if len(edits) > 1:
+        return {name: fate for edit in left for name, fate in tried(crate, [edit]).items()} | fates
+    fate = (f"refused: {goals[0][:200]}" if goals else f"ONLY BY A NAME in a proof file that is gone: {found[0][:200]}" if found else
+            f"BAD EDIT: {printed[-300:]}" if status else "NOT REFUSED: the crate is still proved")
+    return {edit.name: fate for edit in left} | fates
+
+
+def apart(edits: list[Edit]) -> list[list[Edit]]:
+    """Groups of edits which touch and name different functions."""
+    groups: list[tuple[list[Edit], set[str | None]]] = []
+    for edit in edits:
+        taken = edit.touched | edit.wanted
+        group = next((group for group in groups if not group[1] & taken), None)
+        if group is None:
+            group = ([], set())
+            groups.append(group)
+        group[0].append(edit)
+        group[1].update(taken)
+    return [group for group, _ in groups]
+
+
 def judged(crate: str, edits: list[Edit]) -> tuple[dict[str, str], str]:
-    """The fates of edits of one crate by their names, and all that the kit printed."""
-    status, printed = called(TOP / "crates" / crate, "rt", "check", "--only", "")
+    """The fates of edits of one crate by their names, and what was printed if the crate itself is not proved."""
+    status, printed = called(TOP / "crates" / crate, "rt", "check")
     if status:
         return {}, printed
-    with copied(Texts().at_or_below(crate)) as copy:
-        folder = copy / "crates" / crate / "must-fail"
-        folder.mkdir()
-        for edit in edits:
-            shutil.copy2(edit.path, folder)
-        printed = called(copy, "rt", "must-fail", crate)[1]
-    return dict(FATE.findall(printed)), printed
-
-
-def compiled(copy: Path) -> bool:
-    return called(copy, "package/program.sh", str(copy / "build"))[0] == 0
+    return {name: fate for group in apart(edits) for name, fate in tried(crate, group).items()}, ""
 
 
 def passes(edit: Edit, copy: Path) -> bool:
@@ -282,17 +307,16 @@ def passes(edit: Edit, copy: Path) -> bool:
 
 
 def judged_by_tests(edits: list[Edit]) -> tuple[dict[str, str], str]:
-    """The fates of edits of mutants/tests."""
     fates = {}
     with copied() as unedited:
-        if not compiled(unedited):
+        if called(unedited, *BUILD)[0]:
             return {}, "the program was not compiled"
         for edit in edits:
             with copied() as copy:
-                edit.applied(copy)
-                fates[edit.name] = ("NOT TRIED: it was not compiled" if not compiled(copy) else
-                                    "NOT TRIED: its check does not pass without it" if not passes(edit, unedited) else
-                                    "NOT REFUSED" if passes(edit, copy) else "refused")
+                fates[edit.name] = (edit.applied(copy) or
+                                    "NOT TRIED: it was not compiled" * bool(called(copy, *BUILD)[0]) or
+                                    "NOT TRIED: its check does not pass without it" * (not passes(edit, unedited)) or
+                                    "NOT REFUSED" * passes(edit, copy) or "refused")
     return fates, ""
 
 
@@ -309,16 +333,10 @@ def try_crate(crate: str, sums: dict[Edit, str]) -> tuple[dict[Edit, str | None]
     return found, "\n".join([f"{crate}: {len(sums)} tried in {time.monotonic() - began:.0f} s", *lines, *more])
 
 
-def memory() -> int:
-    """The memory in KiB that programs may take now."""
-    return int(re.search(r"MemAvailable:\s*(\d+)", Path("/proc/meminfo").read_text(encoding="ascii"))[1])
-
-
-def in_lanes(by_crate: dict[str, dict[Edit, str]], lanes: int, call: Callable[[str, dict[Edit, str]], Result]) -> Iterator[Result]:
+def in_lanes(by_crate: dict[str, dict], lanes: int, call: Callable) -> Iterator:
     """The results of a call for each crate with its edits, several at a time, as they come; the crates with the most edits begin first."""
-    lanes = max(1, min(lanes or 3, len(os.sched_getaffinity(0)), memory() // CHECK_KIB, len(by_crate)))
     order = sorted(by_crate.items(), key=lambda pair: -len(pair[1]))
-    with concurrent.futures.ThreadPoolExecutor(lanes) as pool:
+    with concurrent.futures.ThreadPoolExecutor(max(lanes, 1)) as pool:
         calls = [pool.submit(call, crate, edits) for crate, edits in order]
         try:
             yield from (call.result() for call in concurrent.futures.as_completed(calls))
@@ -334,7 +352,7 @@ def chosen(names: list[str], known: dict[str, Edit]) -> list[Edit]:
     found = {}
     for name in names or ["gate"]:
         of_name = {edit.name: edit for edit in known.values()
-                   if name in ("every", edit.crate, edit.name) or name == "gate" and in_gate(edit)}
+                   if name in ("every", edit.crate, edit.name, edit.path.parts[-3])}
         if not of_name and name != "gate":
             sys.exit(f"wrong_bodies.py: mutants has no edit of this name: {name}")
         found |= of_name
@@ -353,7 +371,7 @@ def main() -> int:
     asked = argparse.ArgumentParser(description=__doc__.split("\n", maxsplit=1)[0])
     asked.add_argument("what", choices=["check", "all", "show"])
     asked.add_argument("names", nargs="*", metavar="NAME", help="gate, every, a crate, tests, or CRATE/EDIT")
-    asked.add_argument("-j", type=int, default=0, metavar="CRATES", help="how many crates are tried at a time; 3 if left out")
+    asked.add_argument("-j", type=int, default=2, metavar="CRATES", help="how many crates are tried at a time; 2 if left out")
     words, texts, stamps = asked.parse_intermixed_args(), Texts(), Stamps()
     signal.signal(signal.SIGTERM, lambda *_: sys.exit(143))
     edits = chosen(words.names, all_edits())

@@ -1,6 +1,6 @@
 #!/usr/bin/env python3
 """What tries wrong bodies, tools/wrong_bodies.py, with a repository of three small crates and a stand-in for the kit's `rt`: it refuses
-each edit whose old text exists, except those that are marked as harmless, and notes which edits it got.
+each function that has the word WRONG, and notes in which crates it was called, beside which others.
 Use: wrong_bodies.py PROGRAM"""
 import datetime
 import os
@@ -8,29 +8,24 @@ import re
 import shutil
 import subprocess
 import sys
-import time
+from pathlib import Path
 
 sys.path[0] += "/../lib"
 import helper  # noqa: E402
 
 RT = r"""#!/usr/bin/env -S python3 -IS
-import glob, os, sys
+import os, re, sys
 here = os.path.dirname(os.path.abspath(__file__))
 if sys.argv[1] == "version":
     print(open(here + "/kit").read())
-if sys.argv[1] == "must-fail":
+if sys.argv[1] == "check":
+    crate, text = os.path.basename(os.getcwd()), open("src/lib.rt").read()
     with open(here + "/there", "a") as log:
-        print(*sorted(os.listdir("crates")), file=log)
-    for path in sorted(glob.glob(f"crates/{sys.argv[2]}/must-fail/*.edit")):
-        name = path.split("/")[1] + "/" + os.path.basename(path)
-        with open(here + "/tried", "a") as log:
-            print(name[:-5], file=log)
-        lines = dict(line.rstrip("\n").split(": ", 1) for line in open(path))
-        text = open(f"crates/{sys.argv[2]}/{lines['file']}").read()
-        goal = f"{lines['file']}:{text.count(chr(10), 0, text.find(lines['old'])) + 1}:5: error: the ensures is not proved"
-        fate = ("BAD EDIT: an 'old:' text is not there once" if text.count(lines["old"]) != 1 else
-                "NOT REFUSED: the crate is still proved" if "harmless" in lines["new"] else "refused, as it must be: " + goal)
-        print(f"rt: must-fail {name}: {fate}")
+        print(crate, *sorted(os.listdir("..")), file=log)
+    os.makedirs("out/incremental", exist_ok=True)
+    lines = [number for number, line in enumerate(text.splitlines(), 1) if "WRONG" in line]
+    print("\n".join([f"note: src/lib.rt:{number}:5: it is not proved" for number in lines] + [f"logic={'not-' * bool(lines)}proved"]))
+    sys.exit(bool(lines))
 """
 CRATES = {"low": "", "high": "low", "beside": ""}
 BODIES = {"first": "n + 1", "second": "first(n)"}
@@ -53,13 +48,13 @@ class WrongBodies(helper.Check):
             self.write(f"top/crates/{name}/src/lib.rt", SOURCE)
         for edit in EVERY:
             self.edit(edit)
+        self.edit("high/two", old="first(n)", named="second")
 
     def write(self, name, text):
-        os.makedirs(os.path.dirname(self.place(name)), exist_ok=True)
-        with open(self.place(name), "w", encoding="utf-8") as file:
-            file.write(text)
+        Path(self.place(name)).parent.mkdir(parents=True, exist_ok=True)
+        Path(self.place(name)).write_text(text, encoding="utf-8")
 
-    def edit(self, name, old="n + 1", new="n + 2", folder="mutants/gate", named="first, result"):
+    def edit(self, name, old="n + 1", new="WRONG", folder="mutants/gate", named="first, result"):
         self.write(f"top/{folder}/{name}.edit", f"file: src/lib.rt\nold: {old}\nnew: {new}\n# refused by: {named}\n")
 
     def lines(self):
@@ -72,12 +67,10 @@ class WrongBodies(helper.Check):
         return [*begin, self.place(f"top/{script}"), *words], {**os.environ, "PATH": self.place("bin") + ":" + os.environ["PATH"]}
 
     def called(self, *words, **how):
-        """The output of a call, its status, and the edits that were tried meanwhile."""
-        self.write("bin/tried", "")
+        """The output of a call, its status, and the edits that were tried."""
         command, environment = self.command(*words, **how)
         done = subprocess.run(command, stdout=subprocess.PIPE, stderr=subprocess.STDOUT, text=True, env=environment, check=False)
-        with open(self.place("bin/tried"), encoding="utf-8") as file:
-            return done.stdout, done.returncode, sorted(file.read().split())
+        return done.stdout, done.returncode, sorted(re.findall(r"^  (?:refused|FAILED ) +(\S+):", done.stdout, re.MULTILINE))
 
     def tries(self, wanted, passed, failed, *words):
         """A call tries exactly these edits, and counts this many. Returns its output."""
@@ -87,37 +80,37 @@ class WrongBodies(helper.Check):
         return text
 
     def test_all(self):
-        """each edit without a stamp is tried on a copy of its crate and those below, and no edit with one is tried again"""
+        """each edit without a stamp is tried on a copy of its crate and those below, two of different functions by one check"""
         self.tries(EVERY, 4, 0)
         self.assertEqual(self.lines()["low/one"][1:], [datetime.date.today().isoformat(), "kit-one"])
+        whole = [f"{crate} beside high low" for crate in CRATES]
         with open(self.place("bin/there"), encoding="utf-8") as file:
-            self.assertEqual(sorted(file.read().splitlines()), ["beside", "high low", "low"])
+            self.assertEqual(sorted(file.read().splitlines()), sorted(["beside beside", "high high low", "low low", *whole]))
         self.tries([], 4, 0)
-        self.tries(EVERY, 4, 0, "all", "-j", "2")
+        self.tries(EVERY, 4, 0, "all", "-j", "1")
 
     def test_names(self):
         """a crate's name chooses all its edits, every chooses all, an edit's own name one; show lists those without a stamp"""
         self.edit("high/more", folder="mutants")
         self.tries(["high/more", "high/one", "high/two"], 3, 0, "all", "high")
-        self.edit("high/more", folder="mutants", new="n + 7")
+        self.edit("high/more", folder="mutants", new="WRONG, too")
         wanted = ["beside/one: never seen refused", f"high/more: last seen refused {datetime.date.today()} kit-one",
                   "low/one: never seen refused", "2 of 5 wrong bodies as mutants/tried has them"]
         text, status, tried = self.called("show", "every")
         self.assertEqual((text.splitlines(), status, tried), (wanted, 0, []))
         self.tries(["high/two"], 1, 0, "all", "high/two")
-        self.tries(["beside/one", "high/more", "low/one"], 5, 0, "check", "every", "-j", "1")
+        self.tries(["beside/one", "high/more", "low/one"], 5, 0, "check", "every")
         self.assertEqual(self.called("show", "every")[0], "all 5 wrong bodies as mutants/tried has them\n")
         self.assertEqual(self.called("all", "none")[:2], ("wrong_bodies.py: mutants has no edit of this name: none\n", 1))
 
     def test_texts(self):
         """a change of an edit, or of a file at or below its crate, makes its stamp old; a comment, or another kit, does not"""
         self.tries(EVERY, 4, 0)
-        found = self.lines()
         self.write("bin/kit", "kit-two logic 2")
         self.edit("low/one", named="second; first")
         self.write("top/crates/high/must-fail/more.edit", "")
         self.tries([], 4, 0)
-        self.edit("high/two", new="n + 3")
+        self.edit("high/two", old="first(n)", new="WRONG, too", named="second")
         self.tries(["high/two"], 4, 0)
         self.write("top/crates/low/specs/Low.antt", "-- a definition\n")
         self.tries(["high/one", "high/two", "low/one"], 4, 0)
@@ -125,44 +118,53 @@ class WrongBodies(helper.Check):
         self.tries(["high/one", "high/two", "low/one"], 4, 0)
         self.write("top/crates.txt", "low:\nhigh: low arrayvec\nbeside:\n")
         self.tries(["high/one", "high/two"], 4, 0)
-        self.assertEqual(self.lines()["beside/one"], found["beside/one"])
         self.write("top/mutants/tried", "high/two 0123\n")
         self.tries(EVERY, 4, 0)
 
     def test_not_refused(self):
         """an edit that is not refused, does not apply, or is refused in a function that it does not name fails, and has no stamp"""
         self.tries(EVERY, 4, 0)
-        for change, what in (({"new": "n + 1 /* harmless */"}, "NOT REFUSED"), ({"old": "n - 1"}, "BAD EDIT"),
-                             ({"old": "first(n)", "new": "n"}, "REFUSED ELSEWHERE, in second, not first")):
+        for change, what in (({"new": "n + 2"}, "NOT REFUSED"), ({"old": "n - 1"}, "BAD EDIT"),
+                             ({"old": "first(n)"}, "REFUSED ELSEWHERE, in second, not first")):
             self.edit("low/one", **change)
             for _ in range(2):
                 self.assertIn(f"FAILED   low/one: {what}", self.tries(["low/one"], 3, 1))
                 self.assertEqual(sorted(self.lines()), EVERY[:3])
-        self.edit("low/one", old="first(n)", new="n", named="first; second, result")
+        self.edit("low/one", old="first(n)", named="first; second, result")
         self.tries(["low/one"], 4, 0)
 
+    def test_together(self):
+        """of edits that are tried by one check, only those count whose own functions are refused"""
+        self.edit("high/one", new="n + 2")
+        self.assertIn("FAILED   high/one: NOT REFUSED", self.tries(EVERY, 3, 1))
+        self.assertEqual(sorted(self.lines()), ["beside/one", "high/two", "low/one"])
+
     def test_not_tried(self):
-        """an edit of which the kit prints nothing fails, and keeps the stamp that it had; one that is gone loses it"""
+        """edits of a crate that is not proved fail, and keep the stamps that they had; one that is gone loses it"""
         self.tries(EVERY, 4, 0)
-        self.write("bin/rt", RT.replace('print(f"rt: must-fail', 'print(f"rt: nothing of'))
+        self.write("bin/rt", RT.replace("lines = [", "lines = [1] or ["))
         self.assertEqual(self.tries(EVERY, 0, 4, "all").count("NOT TRIED"), 4)
         os.remove(self.place("top/mutants/gate/beside/one.edit"))
-        self.edit("low/one", new="n + 9")
+        self.edit("low/one", new="WRONG, too")
         self.write("bin/rt", RT)
         self.tries(["low/one"], 3, 0)
         self.assertEqual(sorted(self.lines()), EVERY[1:])
+        # (what a name in a proof file refuses does not count)
+        gone = "./proofs/lib/first/Answers.antt:3:5: error: `returns`: record has no field `x`"
+        self.write("bin/rt", RT.replace("note: src/lib.rt:{number}:5: it is not proved", gone))
+        self.assertIn("ONLY BY A NAME", self.tries(["low/one"], 0, 1, "all", "low"))
 
     def test_changed_meanwhile(self):
         """an edit counts only if no file that it rests on changed while it was tried"""
         change = f"open({self.place('top/crates/low/src/lib.rt')!r}, 'a').write('// more')"
-        self.write("bin/rt", RT.replace('if sys.argv[1] == "must-fail":\n', f'if sys.argv[1] == "must-fail":\n    {change}\n'))
+        self.write("bin/rt", RT.replace('if sys.argv[1] == "check":\n', f'if sys.argv[1] == "check":\n    {change}\n'))
         self.assertEqual(self.tries(EVERY, 1, 3, "check", "-j", "1").count("changed meanwhile"), 3)
         self.assertEqual(sorted(self.lines()), ["beside/one"])
 
     def test_ended(self):
         """a call that is ended leaves no process, and the stamps as they were"""
         waits = "    print(os.getpid(), file=open(here + '/pid', 'w'))\n    import time; time.sleep(600)\n"
-        self.write("bin/rt", RT.replace("    for path", waits + "    for path"))
+        self.write("bin/rt", RT.replace("    crate, text", waits + "    crate, text"))
         command, environment = self.command("all", "-j", "1")
         with subprocess.Popen(command, stdout=subprocess.DEVNULL, env=environment) as call:
             pid, = self.numbers_in(self.place("bin/pid"))
@@ -180,19 +182,17 @@ class WrongBodies(helper.Check):
         for script in ("package/program.sh", "tests/cli/adds.sh"):
             os.chmod(self.place(f"top/{script}"), 0o755)
         edit = "file: crates/low/src/lib.rt\nold: n + 1\nnew: n + {}\nrefused by: tests/cli/adds.sh, it adds\n"
-        self.write("top/mutants/tests/adds_two.edit", edit.format(2))
-        self.tries([], 1, 0, "all", "tests")
-        self.write("top/mutants/tests/adds_two.edit", edit.format(1))
-        self.assertIn("NOT REFUSED", self.tries([], 0, 1, "check", "tests"))
-        self.write("top/mutants/tests/adds_two.edit", edit.format(2).replace("it adds", "it adds up"))
-        self.assertIn("does not pass without it", self.tries([], 0, 1, "check", "tests"))
+        for text, counts, what in ((edit.format(2), (1, 0), "refused"), (edit.format(1), (0, 1), "NOT REFUSED"),
+                                   (edit.format(2).replace("it adds", "it adds up"), (0, 1), "does not pass without it")):
+            self.write("top/mutants/tests/adds_two.edit", text)
+            self.assertIn(what, self.tries(["tests/adds_two"], *counts, "check", "tests"))
 
     def test_gate(self):
         """the last line of the gate counts proofs, wrong bodies and checks; a wrong body that is not refused fails it"""
         self.write("top/tests/check.sh", "#!/bin/sh\necho '7 passed, 0 failed'\n")
         os.chmod(self.place("top/tests/check.sh"), 0o755)
         self.write("bin/rt", RT + "if sys.argv[1] == 'ci':\n    print('== low\\nrt: low proved\\n5 passed, 0 failed')\n")
-        for new, count, status in (("n + 2", "16 passed, 0 failed", 0), ("n + 1 /* harmless */", "15 passed, 1 failed", 1)):
+        for new, count, status in (("WRONG", "16 passed, 0 failed", 0), ("n + 2", "15 passed, 1 failed", 1)):
             self.edit("low/one", new=new)
             text, ended, _ = self.called(script="tools/gate.sh")
             self.assertEqual((text.splitlines()[-1], ended), (count, status), text)
