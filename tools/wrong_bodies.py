@@ -39,7 +39,7 @@ FUNCTION = re.compile(r"^[ \t]*(?:pub(?:\([a-z ]+\))?[ \t]+)?(?:(?:const|unsafe)
 # and directories whose names begin with a capital.
 PLACE, PROOF = re.compile(r"(?:^|[\s:])(?:\./)?((?:src|proofs)/[^\s:]+):(\d+):\d+:"), re.compile(r"proofs/(?:.*/)?([a-z]\w*)/\w+\.antt")
 # a refused goal, and one that is refused since a name in a proof file is gone, so that no contract was tried
-GOAL = re.compile(r"^(?:note: )?(?:\./)?\S+:\d+:\d+: .*", re.MULTILINE)
+GOAL = re.compile(r"^(?:note: \S+:\d+:\d+: |\S+:\d+:\d+: error: ).*", re.MULTILINE)
 GONE = re.compile(r"(?:\./)?proofs/.*(?:has no field|is not in scope|has no `|was not admitted)")
 NAMED, CHECK = re.compile(r"^# refused by: (.+)$", re.MULTILINE), re.compile(r"^refused by: ([^,\n]+), (.+)$", re.MULTILINE)
 
