@@ -12,7 +12,6 @@ use Rattle.exec_commands.specs.Blame.{about_line, unknown_key}
 use Rattle.exec_commands.specs.Lines.{served_line_of, value_of}
 use Rattle.exec_commands.specs.Tags.{is_mistagged}
 use Rattle.exec_commands.specs.Twice.{HasKeyTwice}
-use Rattle.exec_commands.specs.declared.direct.Direct.TheVariants.{Refused}
 use Rattle.exec_commands.specs.declared.line.Line.{Line}
 use Rattle.exec_commands.specs.declared.line.Served.{Served}
 use Rattle.exec_commands.specs.declared.line.Line.TheVariants as line
@@ -22,12 +21,12 @@ abbrev pub is_service_line : Line → Bool
 is_service_line line.Leave = true
 is_service_line line.Version = true
 is_service_line line.Status = true
-is_service_line (line.Direct direct) = true
+is_service_line (line.Refused refusal) = true
 is_service_line _ = false
 
 -- a line that is refused
 abbrev pub refused_line : Refusal → About → Line
-refused_line why what = line.Direct (Refused (record { why = why; about = what }))
+refused_line why what = line.Refused (record { why = why; about = what })
 
 -- this line, or its refusal if its key `tag` holds no tag
 abbrev pub tagged_line : Data → Line → Line

@@ -3,7 +3,6 @@
 
 mod blame;
 mod commands;
-mod direct;
 mod key;
 mod keys;
 mod line;
@@ -20,7 +19,6 @@ mod tag;
 mod texts;
 mod values;
 
-pub use direct::Direct;
 pub use key::Key;
 pub use line::{Line, Served};
 pub use message::message_of;

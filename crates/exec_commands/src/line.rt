@@ -1,5 +1,5 @@
 //! The request of a line.
-use crate::direct::Direct;
+use crate::refused::LineRefusal;
 use crate::tag::Tag;
 use ocf_types::{AgentType, Provider, Request};
 
@@ -28,8 +28,8 @@ pub enum Line {
         agent: AgentType,
         limit: Option<u32>,
     },
-    /// A line whose reply depends on the line alone, not on the executor. In a `serve` session only.
-    Direct(Direct),
+    /// A line that is refused for its content. In a `serve` session only.
+    Refused(LineRefusal),
 }
 
 /// A line of a `serve` session, with its tag.

@@ -6,7 +6,6 @@ ghost use Rattle.exec_commands.specs.Lines.{served_line_of, served_meta_in};
 ghost use Rattle.exec_commands.specs.Served.{known_line, refused_line, served_line, tagged_line};
 
 use crate::blame::{about_line, unknown_key};
-use crate::direct::Direct;
 use crate::key::Key;
 use crate::keys::{number_or, text_at};
 use crate::line::Line;
@@ -56,7 +55,7 @@ fn served_line_of(alloc: Global, value: &Value) -> Result<Line, Refusal>
 pub fn refused_line(why: Refusal, about: About) -> Line
     ensures { result ≡ refused_line why about }
 {
-    Line::Direct(Direct::Refused(LineRefusal { why, about }))
+    Line::Refused(LineRefusal { why, about })
 }
 
 // This line, or its refusal if its key `tag` holds no tag.

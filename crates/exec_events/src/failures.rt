@@ -38,7 +38,7 @@ fn is_undone(reply: &LineReply) -> bool
         LineReply::Drain(end) => !matches!(end, DrainEnd::Idle | DrainEnd::Limit),
         LineReply::Tidy(end) => !matches!(end, TidyEnd::Done),
         LineReply::Meta(metadata) => metadata.is_err(),
-        LineReply::Direct(_) | LineReply::Version | LineReply::Status(_) => true,
+        LineReply::Refused(_) | LineReply::Version | LineReply::Status(_) => true,
         LineReply::Trouble(_) | LineReply::Left | LineReply::Ready(_) => false,
     }
 }

@@ -29,7 +29,6 @@ use Rattle.ocf_env.specs.Keys.{key_text}
 use Rattle.exec_commands.specs.Messages.{about_key, message_of}
 use Rattle.exec_commands.specs.declared.refused.About.TheVariants.{Whole}
 use Rattle.exec_commands.specs.declared.refused.LineRefusal.{LineRefusal}
-use Rattle.exec_commands.specs.declared.direct.Direct.TheVariants.{Refused}
 use Rattle.exec_replies.specs.Objects.{object_from, natural_data, array_from, param_members}
 use Rattle.exec_replies.specs.Service.{metadata_data, ready_data, statuses_data, text_or_null, version_data}
 use Rattle.json.specs.Token.{Token}
@@ -245,7 +244,7 @@ run_data (line.Tidy end) = end_data (tidy_word end)
 run_data line.Left = end_data (codes "left")
 run_data (line.Meta (Ok metadata)) = length_data metadata.items
 run_data (line.Meta (Err why)) = fault_data why
-run_data (line.Direct (Refused refused)) = refused_data refused
+run_data (line.Refused refusal) = refused_data refusal
 run_data line.Version = refusal_data UnknownOp
 run_data (line.Status statuses) = refusal_data UnknownOp
 run_data (line.Ready counts) = refusal_data UnknownOp

@@ -17,7 +17,7 @@ use crate::refused::{put_refusal, put_refused};
 use crate::results::put_results;
 use crate::service::{Counts, Service, put_metadata, put_ready, put_version};
 use crate::statuses::Statuses;
-use exec_commands::{About, Direct, LineRefusal};
+use exec_commands::{About, LineRefusal};
 use growth::Refused;
 use ocf_types::{CallId, Ended, MetaFault, OpKey, Refusal, Reply, RscId, TidyEnd, TurnEnd};
 
@@ -36,8 +36,8 @@ pub enum LineReply {
     Left,
     /// The metadata of an agent, or why it has none.
     Meta(Result<Vec<u8>, MetaFault>),
-    /// A reply that depends on the line alone.
-    Direct(Direct),
+    /// The refusal of a line for its content.
+    Refused(LineRefusal),
     /// The version of the program. This reply and those below are of `serve` sessions alone.
     Version,
     /// The status of all resources.
@@ -176,7 +176,7 @@ pub fn put_run_reply(line: &mut LineTokens, marks: Marks, reply: &LineReply) -> 
         LineReply::Left => put_end(line, marks, "left"),
         LineReply::Meta(Ok(metadata)) => put_length(line, marks, metadata.as_slice()),
         LineReply::Meta(Err(fault)) => put_fault(line, marks, *fault),
-        LineReply::Direct(Direct::Refused(refusal)) => put_refused(line, marks, refusal),
+        LineReply::Refused(refusal) => put_refused(line, marks, refusal),
         LineReply::Version | LineReply::Status(_) | LineReply::Ready(_) => {
             put_refusal(line, marks, Refusal::UnknownOp)
         }

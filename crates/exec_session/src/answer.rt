@@ -22,7 +22,7 @@ use crate::room::{make_room, tidy_timed};
 use crate::session::Session;
 use child_model::Children;
 use exec_client::Message;
-use exec_commands::{Direct, Line};
+use exec_commands::Line;
 use exec_replies::{DrainEnd, LineReply};
 use executor::On;
 use ocf_types::{AgentType, Provider, Refusal, Reply, Request, TidyEnd, TurnEnd};
@@ -195,7 +195,7 @@ impl<E: Edge + Drop> Session<E> {
                     limit,
                 },
             ) => self.answer_meta(&provider, &agent, limit),
-            Ok(Line::Direct(direct)) => self.answer_plainly(&LineReply::Direct(direct)),
+            Ok(Line::Refused(refusal)) => self.answer_plainly(&LineReply::Refused(refusal)),
             Err(refusal) => self.answer_plainly(&refused(refusal)),
         }
     }

@@ -195,5 +195,5 @@ served_as_named bytes (Ok line.Leave) served = tt
 served_as_named bytes (Ok line.Version) served = tt
 served_as_named bytes (Ok line.Status) served = tt
 served_as_named bytes (Ok (line.Meta provider agent limit)) served = tt
-served_as_named bytes (Ok (line.Direct direct)) served = tt
+served_as_named bytes (Ok (line.Refused refusal)) served = tt
 served_as_named bytes (Err why) served = tt

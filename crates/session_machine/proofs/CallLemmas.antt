@@ -55,7 +55,7 @@ closed_plain x (Ok line.Leave) given is = is_plain x given _ is (refl, tt)
 closed_plain x (Ok line.Version) given is = is_plain x given _ is (refl, tt)
 closed_plain x (Ok line.Status) given is = is_plain x given _ is (refl, tt)
 closed_plain x (Ok (line.Request request)) given is = is_plain x given _ is (refl, tt)
-closed_plain x (Ok (line.Direct direct)) given is = is_plain x given _ is (refl, tt)
+closed_plain x (Ok (line.Refused refusal)) given is = is_plain x given _ is (refl, tt)
 closed_plain x (Err why) given is = is_plain x given _ is (refl, tt)
 
 status_plain : {S : Type 0} (x : ExecutorView S) (given : LineReply) → x.is_open ≡ true → IsStatusReply x given → Plain x given
@@ -71,7 +71,7 @@ open_plain : {S : Type 0} (mode : Mode) (x : ExecutorView S) (found : Result Lin
 open_plain mode x (Ok line.Leave) given is_open is = leave_plain mode x given is
 open_plain mode x (Ok line.Version) given is_open is = is_plain x given _ is (refl, tt)
 open_plain mode x (Ok line.Status) given is_open is = status_plain x given is_open is
-open_plain mode x (Ok (line.Direct direct)) given is_open is = is_plain x given _ is (refl, tt)
+open_plain mode x (Ok (line.Refused refusal)) given is_open is = is_plain x given _ is (refl, tt)
 open_plain mode x (Err why) given is_open is = is_plain x given _ is (refl, tt)
 open_plain mode x (Ok (line.Meta provider agent limit)) given is_open is = absurd is
 open_plain mode x (Ok (line.Drain limit)) given is_open is = absurd is

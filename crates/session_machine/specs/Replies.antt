@@ -69,7 +69,7 @@ abbrev pub IsOpenReply : {S : Type 0} → Mode → ExecutorView S → Result Lin
 IsOpenReply mode x (Ok line.Leave) reply = IsLeaveReply mode x reply
 IsOpenReply mode x (Ok line.Version) reply = reply ≡ answer.Version
 IsOpenReply mode x (Ok line.Status) reply = IsStatusReply x reply
-IsOpenReply mode x (Ok (line.Direct direct)) reply = reply ≡ answer.Direct direct
+IsOpenReply mode x (Ok (line.Refused why)) reply = reply ≡ answer.Refused why
 IsOpenReply mode x (Err why) reply = reply ≡ refused why
 IsOpenReply mode x _ reply = ⊥
 
