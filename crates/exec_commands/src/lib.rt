@@ -21,7 +21,7 @@ mod values;
 
 pub use key::Key;
 pub use line::{Line, Served};
-pub use message::message_of;
+pub use message::add_message;
 pub use range::{LONGEST_LIMIT, Range};
 pub use read::read_command;
 pub use refused::{About, LineRefusal, about_key};

@@ -1,13 +1,12 @@
 //! The message of a refusal.
-ghost use Rattle.std.specs.Prelude.{◌≡◌, ◌++◌, codes, IfOk, OnOk, string_bytes};
+ghost use Rattle.std.specs.Prelude.{◌≡◌, ◌++◌, codes, OnOk, string_bytes};
 ghost use Rattle.exec_commands.specs.LineKeys.{key_word, range_of, range_text};
 ghost use Rattle.exec_commands.specs.Messages.{hint_text, key_text, message_of, operation_text, refusal_text};
 
 use crate::key::Key;
 use crate::refused::About;
-use growth::{Refused, push_text, text_of};
+use growth::{Refused, push_text};
 use ocf_types::{Action, Refusal};
-use std::alloc::Global;
 
 // The messages of refusals that are about no single key, each by the name of its refusal.
 pub const SYNTAX: &str = "a line must be one JSON object of at most 131072 bytes";
@@ -101,15 +100,6 @@ fn add_key(text: &mut String, key: Key) -> Result<(), Refused>
     key.range().add_to(text)
 }
 
-// The message that says what a key may hold.
-fn key_text(alloc: Global, key: Key) -> Result<String, Refused>
-    ensures text { IfOk result (λ t. string_bytes t ≡ key_text key) }
-{
-    let mut text = String::new(alloc);
-    add_key(&mut text, key)?;
-    Ok(text)
-}
-
 // Appends what to write in place of a word that names no operation: an action is the value of another key.
 fn add_hint(text: &mut String, word: &str) -> Result<(), Refused>
     ensures text { OnOk result (string_bytes text.new ≡ string_bytes text.old ++ hint_text word.now) }
@@ -124,25 +114,25 @@ fn add_hint(text: &mut String, word: &str) -> Result<(), Refused>
     }
 }
 
-// The message that a word names no operation.
-fn operation_text(alloc: Global, word: &str) -> Result<String, Refused>
-    ensures text { IfOk result (λ t. string_bytes t ≡ operation_text word.now) }
+// Appends that a word names no operation.
+fn add_operation(text: &mut String, word: &str) -> Result<(), Refused>
+    ensures text { OnOk result (string_bytes text.new ≡ string_bytes text.old ++ operation_text word.now) }
 {
-    let mut text = text_of(alloc, NO_OPERATION)?;
-    push_text(&mut text, word)?;
-    add_hint(&mut text, word)?;
-    Ok(text)
+    push_text(text, NO_OPERATION)?;
+    push_text(text, word)?;
+    add_hint(text, word)
 }
 
-/// The message of a refusal: what the key at fault may hold, or else a message for the kind of refusal.
-pub fn message_of(alloc: Global, why: Refusal, about: &About) -> Result<String, Refused>
-    ensures text { IfOk result (λ t. string_bytes t ≡ message_of why about.now) }
+/// Appends the message of a refusal: what the key at fault may hold, or else a message for the kind of refusal. After an error a part of
+/// it may have been appended.
+pub fn add_message(text: &mut String, why: Refusal, about: &About) -> Result<(), Refused>
+    ensures text { OnOk result (string_bytes text.new ≡ string_bytes text.old ++ message_of why about.now) }
 {
     match about {
-        About::Whole => text_of(alloc, refusal_text(why)),
-        About::Twice => text_of(alloc, KEY_TWICE),
-        About::Key(key) => key_text(alloc, *key),
-        About::Unknown(_) => text_of(alloc, NO_SUCH_KEY),
-        About::Operation(word) => operation_text(alloc, word.as_str()),
+        About::Whole => push_text(text, refusal_text(why)),
+        About::Twice => push_text(text, KEY_TWICE),
+        About::Key(key) => add_key(text, *key),
+        About::Unknown(_) => push_text(text, NO_SUCH_KEY),
+        About::Operation(word) => add_operation(text, word.as_str()),
     }
 }

@@ -8,6 +8,7 @@ ghost use Rattle.exec_replies.specs.declared.reply.LineReply.TheVariants.{Reques
 ghost use Rattle.exec_lines.specs.Prefixes.{AppendsPrefix};
 ghost use Rattle.exec_lines.specs.declared.io_fault.IoFault.TheVariants.{InputOrOutput, Memory};
 
+use crate::line_buffer::LineBuffer;
 use crate::notice::{NoticeForm, Origin};
 use crate::reply::LineReply;
 use crate::tagged::Tagged;
@@ -17,34 +18,34 @@ use growth::Grows;
 use ocf_types::{Notice, Reply};
 use std::alloc::Global;
 
-/// A writer, and the buffer in which each of its lines is made.
+/// A writer, and the buffers in which each of its lines is made.
 #[derive(Drop)]
 pub struct JsonLines<W> {
     pub writer: W,
-    line: Vec<u8>,
+    buffer: LineBuffer,
 }
 
 impl<W: Output> JsonLines<W> {
-    /// Nothing is written yet. The buffer takes no memory before the first line.
+    /// Nothing is written yet. The buffers take no memory before the first line.
     pub fn new(alloc: Global, writer: W) -> Self
         ensures { result.writer ≡ writer }
     {
         JsonLines {
             writer,
-            line: Vec::new(alloc),
+            buffer: LineBuffer::new(alloc),
         }
     }
 
     // Writes the line in the buffer. If the writer fails, a prefix of the line was written.
     fn put_line(&mut self) -> Result<(), IoFault>
         ensures sent { OnOk result
-            (Appends (W.contents self.old.writer) (W.contents self.new.writer) self.old.line.items) }
+            (Appends (W.contents self.old.writer) (W.contents self.new.writer) self.old.buffer.line.items) }
         ensures prefix { OnErr result
-            (AppendsPrefix (W.contents self.old.writer) (W.contents self.new.writer) self.old.line.items) }
+            (AppendsPrefix (W.contents self.old.writer) (W.contents self.new.writer) self.old.buffer.line.items) }
         ensures only { IfErr result (λ f. f ≢ Memory) }
         ensures output { IfErr result (λ f. f ≡ InputOrOutput → IsTrue (W.broke self.new.writer)) }
     {
-        put_bytes(&mut self.writer, self.line.as_slice())?;
+        put_bytes(&mut self.writer, self.buffer.line.as_slice())?;
         Ok(())
     }
 
@@ -59,7 +60,7 @@ impl<W: Output> JsonLines<W> {
         ensures output { IfErr result (λ f. f ≡ InputOrOutput → IsTrue (W.broke self.new.writer)) }
         ensures memory { IfErr result (λ f. f ≡ Memory → IsTrue ⟦<Global as Grows>⟧.refuses) }
     {
-        write_reply(&mut self.line, tagged, reply)?;
+        write_reply(&mut self.buffer, tagged, reply)?;
         self.put_line()
     }
 
@@ -74,7 +75,7 @@ impl<W: Output> JsonLines<W> {
         ensures output { IfErr result (λ f. f ≡ InputOrOutput → IsTrue (W.broke self.new.writer)) }
         ensures memory { IfErr result (λ f. f ≡ Memory → IsTrue ⟦<Global as Grows>⟧.refuses) }
     {
-        write_answer(&mut self.line, tagged, reply)?;
+        write_answer(&mut self.buffer, tagged, reply)?;
         self.put_line()
     }
 
@@ -94,7 +95,7 @@ impl<W: Output> JsonLines<W> {
         ensures output { IfErr result (λ f. f ≡ InputOrOutput → IsTrue (W.broke self.new.writer)) }
         ensures memory { IfErr result (λ f. f ≡ Memory → IsTrue ⟦<Global as Grows>⟧.refuses) }
     {
-        write_notice(&mut self.line, tagged, notice, origin)?;
+        write_notice(&mut self.buffer, tagged, notice, origin)?;
         self.put_line()
     }
 

@@ -1,28 +1,25 @@
-//! A line that is written token by token, into a buffer that outlives it.
-ghost use Rattle.std.specs.Prelude.{◌≡◌, ◌++◌, ◌∷◌, [], decimal, IfOk, OnOk};
+//! A line that is written token by token, into buffers that outlive it.
+ghost use Rattle.std.specs.Prelude.{◌≡◌, ◌++◌, ◌∷◌, [], codes, decimal, IfOk, OnOk};
 ghost use Rattle.json.specs.Print.{IsPrintable, print};
 ghost use Rattle.json.specs.Reads.{token_of};
 ghost use Rattle.json.specs.Token.{begin_array, begin_object, boolean, end_array, end_object, key, null, number, string};
 ghost use Rattle.exec_replies.specs.Tokens.{array_member, flag_member, number_member, text_member, text_or_null_member};
+ghost use Rattle.exec_commands.specs.Messages.{message_of};
 ghost use Rattle.exec_replies.specs.Service.{lent};
 
-use growth::{Grows, Refused, granted, push};
+use crate::line_buffer::LineBuffer;
+use exec_commands::{About, add_message};
+use growth::{Refused, granted, push};
 use json::{Token, Writer};
-use std::alloc::Global;
+use ocf_types::Refusal;
 use std::marker::Model;
 use std::mem;
-
-/// The bytes that a buffer is given for a line before it is written: each bounded line fits.
-const FIRST_BYTES: usize = 1024;
-
-/// The most bytes that a buffer keeps for the next line.
-const KEPT_BYTES: usize = 65_536;
 
 /// A line as the JSON tokens that were written so far, without spaces.
 #[derive(Drop)]
 pub struct LineTokens {
-    alloc: Global,
     out: Writer,
+    message: String,
 }
 
 impl Model for LineTokens {
@@ -38,35 +35,16 @@ impl Model for LineTokens {
     ghost invariant = { λ t. t.out.before ≡ [] };
 }
 
-// The buffer without what it held, and with room for a line.
-fn emptied(buffer: &mut Vec<u8>) -> Result<Vec<u8>, Refused>
-    ensures items { IfOk result (λ b. b.items ≡ []) }
-{
-    let alloc = *buffer.allocator();
-    let mut room = mem::replace(buffer, Vec::new(alloc));
-    if room.capacity() > KEPT_BYTES {
-        room = Vec::new(alloc);
-    }
-    room.clear();
-    Global::reserve(&mut room, FIRST_BYTES)?;
-    Ok(room)
-}
-
 impl LineTokens {
     /// Begins a line in a buffer, which is empty until the line is put back into it.
-    pub fn within(buffer: &mut Vec<u8>) -> Result<Self, Refused>
+    pub fn within(buffer: &mut LineBuffer) -> Result<Self, Refused>
         ensures tokens { IfOk result (λ t. t ≡ []) }
     {
-        let room = emptied(buffer)?;
+        let line = buffer.take_line()?;
         Ok(LineTokens {
-            alloc: *buffer.allocator(),
-            out: Writer::new(room),
+            out: Writer::new(line),
+            message: buffer.take_message(),
         })
-    }
-
-    /// The allocator of the buffer.
-    pub fn alloc(&self) -> Global {
-        self.alloc
     }
 
     #[tactic(auto, using(growth::specs::Refused::refuses))]
@@ -172,13 +150,26 @@ impl LineTokens {
         }
     }
 
-    /// The text of the line, and a newline.
-    pub fn into_line(self) -> Result<Vec<u8>, Refused>
-        ensures line { IfOk result (λ b. b.items ≡ print self ++ 10 ∷ []) }
+    /// Writes the member `message` of a refusal.
+    pub fn message(&mut self, why: Refusal, about: &About) -> Result<(), Refused>
+        ensures ok { OnOk result (self.new ≡ self.old ++ text_member (codes "message") (message_of why about.now)) }
     {
-        let LineTokens { out, .. } = self;
-        let mut bytes = out.into_inner();
-        push(&mut bytes, b'\n')?;
-        Ok(bytes)
+        let alloc = *self.message.allocator();
+        let mut message = mem::replace(&mut self.message, String::new(alloc));
+        message.clear();
+        add_message(&mut message, why, about)?;
+        self.text("message", message.as_str())?;
+        self.message = message;
+        Ok(())
+    }
+
+    /// The text of the line, and a newline.
+    pub fn into_line(self) -> Result<LineBuffer, Refused>
+        ensures line { IfOk result (λ b. b.line.items ≡ print self ++ 10 ∷ []) }
+    {
+        let LineTokens { out, message } = self;
+        let mut line = out.into_inner();
+        push(&mut line, b'\n')?;
+        Ok(LineBuffer { line, message })
     }
 }

@@ -1,5 +1,6 @@
 //! Refusals: their words, numbers and messages.
 ghost use Rattle.std.specs.Prelude.{◌≡◌, ◌++◌, OnOk};
+ghost use Rattle.exec_commands.specs.Messages.{message_of};
 ghost use Rattle.exec_replies.specs.Errors.{error_tokens, message_tokens};
 ghost use Rattle.exec_replies.specs.Replies.{refusal_data, refused_data};
 ghost use Rattle.exec_replies.specs.Service.{lent};
@@ -7,7 +8,7 @@ ghost use Rattle.exec_replies.specs.Tags.{marked_tokens};
 
 use crate::line_tokens::LineTokens;
 use crate::marks::Marks;
-use exec_commands::{LineRefusal, about_key, message_of};
+use exec_commands::{About, LineRefusal, about_key};
 use growth::Refused;
 use ocf_types::Refusal;
 
@@ -41,12 +42,12 @@ fn put_message(
     line: &mut LineTokens,
     marks: Marks,
     why: Refusal,
-    message: &str,
+    about: &About,
 ) -> Result<(), Refused>
-    ensures ok { OnOk result (line.new ≡ line.old ++ message_tokens marks.entry why message.now) }
+    ensures ok { OnOk result (line.new ≡ line.old ++ message_tokens marks.entry why (message_of why about.now)) }
 {
     marks.put_kind(line)?;
-    line.text("message", message)?;
+    line.message(why, about)?;
     line.number("number", u64::from(why.number()))?;
     marks.put_tag(line)?;
     line.end_object()
@@ -60,7 +61,6 @@ pub fn put_refused(
 ) -> Result<(), Refused>
     ensures ok { OnOk result (line.new ≡ line.old ++ marked_tokens marks.entry (refused_data refusal.now)) }
 {
-    let message = message_of(line.alloc(), refusal.why, &refusal.about)?;
     put_error(line, refusal.why, about_key(refusal.why, &refusal.about))?;
-    put_message(line, marks, refusal.why, message.as_str())
+    put_message(line, marks, refusal.why, &refusal.about)
 }

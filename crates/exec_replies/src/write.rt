@@ -8,6 +8,7 @@ ghost use Rattle.exec_replies.specs.declared.reply.LineReply.TheVariants as answ
 ghost use Rattle.exec_replies.specs.declared.statuses.Statuses.{Statuses as AllStatuses};
 
 use crate::kind::LineKind;
+use crate::line_buffer::LineBuffer;
 use crate::line_tokens::LineTokens;
 use crate::marks::{Marks, marks_of};
 use crate::notice::{NoticeForm, Origin, put_notice};
@@ -32,48 +33,52 @@ fn push_after(bytes: &mut Vec<u8>, reply: &LineReply) -> Result<(), Refused>
 }
 
 #[tactic(auto, using(crate::proofs::WriteLemmas::line_text))]
-fn write_run_reply(line: &mut Vec<u8>, reply: &LineReply) -> Result<(), Refused>
-    ensures line { OnOk result (line.new.items ≡ reply_line Short None reply.now) }
+fn write_run_reply(buffer: &mut LineBuffer, reply: &LineReply) -> Result<(), Refused>
+    ensures line { OnOk result (buffer.new.line.items ≡ reply_line Short None reply.now) }
 {
     let plain = Marks {
         kind: None,
         tag: None,
     };
-    let mut tokens = LineTokens::within(line)?;
+    let mut tokens = LineTokens::within(buffer)?;
     put_run_reply(&mut tokens, plain, reply)?;
-    *line = tokens.into_line()?;
-    push_after(line, reply)
+    *buffer = tokens.into_line()?;
+    push_after(&mut buffer.line, reply)
 }
 
 #[tactic(auto, using(crate::proofs::WriteLemmas::line_text))]
 fn write_serve_reply(
-    line: &mut Vec<u8>,
+    buffer: &mut LineBuffer,
     service: Service,
     tag: Option<&str>,
     reply: &LineReply,
 ) -> Result<(), Refused>
     requires bounded { (statuses : AllStatuses) → reply.now ≢ answer.Status statuses }
-    ensures line { OnOk result (line.new.items ≡ reply_line (Timed service.entry) (lent tag.entry) reply.now) }
+    ensures line { OnOk result (buffer.new.line.items ≡ reply_line (Timed service.entry) (lent tag.entry) reply.now) }
 {
     let marks = Marks {
         kind: Some(kind_of(reply)),
         tag,
     };
-    let mut tokens = LineTokens::within(line)?;
+    let mut tokens = LineTokens::within(buffer)?;
     put_serve_reply(&mut tokens, marks, service, reply)?;
-    *line = tokens.into_line()?;
+    *buffer = tokens.into_line()?;
     Ok(())
 }
 
-fn write_status(line: &mut Vec<u8>, tag: Option<&str>, statuses: &Statuses) -> Result<(), Refused>
-    ensures line { OnOk result (line.new.items ≡ status_line (lent tag.entry) statuses.now) }
+fn write_status(
+    buffer: &mut LineBuffer,
+    tag: Option<&str>,
+    statuses: &Statuses,
+) -> Result<(), Refused>
+    ensures line { OnOk result (buffer.new.line.items ≡ status_line (lent tag.entry) statuses.now) }
 {
     let marks = Marks {
         kind: Some(LineKind::Reply),
         tag,
     };
-    let alloc = *line.allocator();
-    *line = status_line(alloc, marks, statuses)?;
+    let alloc = *buffer.line.allocator();
+    buffer.line = status_line(alloc, marks, statuses)?;
     Ok(())
 }
 
@@ -82,15 +87,19 @@ fn write_status(line: &mut Vec<u8>, tag: Option<&str>, statuses: &Statuses) -> R
 ///
 /// The line is the compact text of its JSON value, keys ascending by their bytes, and a newline: RFC 8259. After an error the buffer holds
 /// no line.
-pub fn write_reply(line: &mut Vec<u8>, tagged: Tagged, reply: &LineReply) -> Result<(), Refused>
-    ensures line { OnOk result (line.new.items ≡ reply_line tagged.entry.form (written_tag tagged.entry) reply.now) }
+pub fn write_reply(
+    buffer: &mut LineBuffer,
+    tagged: Tagged,
+    reply: &LineReply,
+) -> Result<(), Refused>
+    ensures line { OnOk result (buffer.new.line.items ≡ reply_line tagged.entry.form (written_tag tagged.entry) reply.now) }
 {
     match (tagged.form, reply) {
-        (NoticeForm::Short, _) => write_run_reply(line, reply),
+        (NoticeForm::Short, _) => write_run_reply(buffer, reply),
         (NoticeForm::Timed(_), LineReply::Status(statuses)) => {
-            write_status(line, tagged.tag, statuses)
+            write_status(buffer, tagged.tag, statuses)
         }
-        (NoticeForm::Timed(service), _) => write_serve_reply(line, service, tagged.tag, reply),
+        (NoticeForm::Timed(service), _) => write_serve_reply(buffer, service, tagged.tag, reply),
     }
 }
 
@@ -107,29 +116,29 @@ fn put_answer(line: &mut LineTokens, tagged: Tagged, reply: &Reply) -> Result<()
 
 /// Writes the line of a reply to a request into a buffer.
 #[tactic(auto, using(crate::proofs::WriteLemmas::line_text))]
-pub fn write_answer(line: &mut Vec<u8>, tagged: Tagged, reply: &Reply) -> Result<(), Refused>
+pub fn write_answer(buffer: &mut LineBuffer, tagged: Tagged, reply: &Reply) -> Result<(), Refused>
     ensures line { OnOk result
-        (line.new.items ≡ reply_line tagged.entry.form (written_tag tagged.entry) (answer.Request reply.now)) }
+        (buffer.new.line.items ≡ reply_line tagged.entry.form (written_tag tagged.entry) (answer.Request reply.now)) }
 {
-    let mut tokens = LineTokens::within(line)?;
+    let mut tokens = LineTokens::within(buffer)?;
     put_answer(&mut tokens, tagged, reply)?;
-    *line = tokens.into_line()?;
+    *buffer = tokens.into_line()?;
     Ok(())
 }
 
 /// Writes the line of a notice into a buffer. In a `serve` session the line has a kind, the tag of its call, and the reason of its agent.
 #[tactic(auto, using(crate::proofs::WriteLemmas::line_text))]
 pub fn write_notice(
-    line: &mut Vec<u8>,
+    buffer: &mut LineBuffer,
     tagged: Tagged,
     notice: &Notice,
     origin: Origin,
 ) -> Result<(), Refused>
-    ensures line { OnOk result (line.new.items
+    ensures line { OnOk result (buffer.new.line.items
         ≡ notice_line tagged.entry.form (written_reason tagged.entry) (written_tag tagged.entry) origin notice.now) }
 {
-    let mut tokens = LineTokens::within(line)?;
+    let mut tokens = LineTokens::within(buffer)?;
     put_notice(&mut tokens, tagged, notice, origin)?;
-    *line = tokens.into_line()?;
+    *buffer = tokens.into_line()?;
     Ok(())
 }

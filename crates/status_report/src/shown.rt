@@ -14,7 +14,7 @@ use disk_model::Disk;
 use exec_faults::Fault;
 use exec_journal::Journal;
 use exec_lines::{IoFault, write_flushed};
-use exec_replies::{LineReply, NoticeForm, Tagged, write_reply};
+use exec_replies::{LineBuffer, LineReply, NoticeForm, Tagged, write_reply};
 use exec_state::State;
 use growth::Grows;
 use ocf_types::{Question, Refusal, Reply, RscId};
@@ -36,9 +36,9 @@ pub(crate) fn send_plain<W: Write>(
         tag: None,
         reason: None,
     };
-    let mut line = Vec::new(alloc);
-    write_reply(&mut line, tagged, reply)?;
-    write_flushed(writer, line.as_slice())?;
+    let mut buffer = LineBuffer::new(alloc);
+    write_reply(&mut buffer, tagged, reply)?;
+    write_flushed(writer, buffer.line.as_slice())?;
     Ok(())
 }
 

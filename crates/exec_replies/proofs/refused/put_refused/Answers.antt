@@ -13,11 +13,10 @@ returns c = record {
       let marks = c.args.marks in
       let why = c.args.refusal.now.why in
       let about = c.args.refusal.now.about in
-      let message = c.as_str.result.now in
+      let message = message_of why about in
       let whole =
       ap (λ k. error_tokens why k ++ message_tokens marks why message) c.about_key.ensures
-      ∙ ap (λ m. error_tokens why (about_key why about) ++ message_tokens marks why m) (c.as_str.ensures.value ∙ c.in_ok-message.ensures.text)
-      ∙ refused_whole marks.kind (lent marks.tag) (about_key why about) why (message_of why about)
+      ∙ refused_whole marks.kind (lent marks.tag) (about_key why about) why message
       in
       on_ok_weaker c.put_message.result
       (λ last. added _ _ _ _ whole

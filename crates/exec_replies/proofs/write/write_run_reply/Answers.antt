@@ -8,7 +8,7 @@ pub returns : goal.returns
 returns c = record {
   line =
       on_ok_weaker c.push_after.result
-      (λ whole. line_and_more (run_data c.args.reply.now) _ _ c.in_ok-line.field-0.items (following Short c.args.reply.now) _ c.in_ok-tokens.ensures.tokens
-      c.in_ok-put_run_reply.ensures.ok c.in_ok-line.ensures.line whole)
+      (λ whole. line_and_more (run_data c.args.reply.now) _ _ c.in_ok-buffer.field-0.line.items (following Short c.args.reply.now) _ c.in_ok-tokens.ensures.tokens
+      c.in_ok-put_run_reply.ensures.ok c.in_ok-buffer.ensures.line whole)
       c.push_after.ensures.value;
 }
