@@ -1,6 +1,8 @@
 -- The lines of messages.
-use Rattle.std.proofs.Common.{◌≡◌, ℕ, ◌+◌, ◌<◌, ◌≤◌, ◌∙◌, List, [], ◌∷◌, ◌++◌, map, drop, get_or, length, Option, None, Result, OnErr, OnOk, refl, sym, ap, subst}
-use Rattle.std.specs.Io.KnownBytes.{Appends}
+use Rattle.std.proofs.Common.{◌≡◌, ℕ, ◌+◌, ◌<◌, ◌≤◌, ◌∙◌, List, [], ◌∷◌, ◌++◌, map, drop, get_or, length, Option, None, Result, Ok, Err, OnErr, OnOk, refl, sym, ap, subst}
+use Rattle.std.proofs.KnownBytes.{Appends-kept}
+use Rattle.std.proofs.lemmas.List.{append-nil}
+use Rattle.std.specs.Io.KnownBytes.{Appends, Keeps}
 use Rattle.std.specs.List.{flat_map}
 use Rattle.exec_lines.specs.Prefixes.{AppendsPrefix}
 use Rattle.ocf_types.specs.Kinds.{Reply}
@@ -30,6 +32,13 @@ ok_same r a b l m same written = subst (λ (t : List ℕ). OnOk r (Appends a b t
 pub err_same : {T E : Type 0} (r : Result T E) (a b : Option (List ℕ)) (l m : List ℕ) → m ≡ l → OnErr r (AppendsPrefix a b l)
     → OnErr r (AppendsPrefix a b m)
 err_same r a b l m same part = subst (λ (t : List ℕ). OnErr r (AppendsPrefix a b t)) (sym same) part
+
+-- bytes that were appended, and then kept, are a prefix of themselves
+pub kept_prefix : {T E : Type 0} (r : Result T E) (a b c : Option (List ℕ)) (l : List ℕ) → Appends a b l → Keeps b c
+    → OnErr r (AppendsPrefix a c l)
+kept_prefix (Ok done) a b c l written kept = tt
+kept_prefix (Err fault) a b c l written kept =
+    record { prefix = l; rest = []; parts = sym (append-nil l); written = Appends-kept a b c l written kept }
 
 -- the lines of a report have no tags
 pub report_lines : (form : NoticeForm) (reasons : List RunReason) (ns : List Notice)
