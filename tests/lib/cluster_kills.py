@@ -1,11 +1,11 @@
-#!/usr/bin/env python3
 """Runs the cluster of examples/cluster, of three nodes over three members of etcd, through random kills: of a service, an executor, a
 manager, a member, a node, and a node's link to the network if it has one. Wanted: no service is ever up twice, by its own count and by the
 list of processes; after each series of kills every service is up again within its bound; each manager's record of results has each run of
 its journal exactly once, and equals the histories; and without fencing, nothing of a lost node is taken over. It ends everything that it
 started by process id.
-Use: cluster_kills.py PROGRAM yes|no, by cluster.sh: whether it is in namespaces of its own; with KILLS and SEED in the environment. With
-up to 30 kills it ends after 115 seconds, with the kills that were made by then."""
+Use: cluster_kills.py PROGRAM DIRECTORY kills COUNT SEED yes|no, or without-fencing yes|no, by tests/system/cluster.py; the last word says
+whether it is in namespaces of its own. With up to 30 kills it ends after 115 seconds, with the kills that were made by then."""
+import contextlib
 import json
 import os
 import random
@@ -139,53 +139,52 @@ def run_kills(lab, count):
     return done, took
 
 
-class Cluster(helper.Check):
-    def compare_record(self, lab, node):
-        """The results that a manager has seen: each run from the first to the last once, and those of the histories as they are there."""
-        entries = [json.loads(line) for line in (lab.folder / node / "record").read_text().splitlines()]
-        runs = sorted(entry["run"] for entry in entries if entry["run"])
-        self.assertEqual(runs, list(range(1, len(runs) + 1)), f"each run of {node} once")
+def compare_record(lab, node):
+    """The results that a manager has seen: each run from the first to the last once, and those of the histories as they are there."""
+    entries = [json.loads(line) for line in (lab.folder / node / "record").read_text().splitlines()]
+    runs = sorted(entry["run"] for entry in entries if entry["run"])
+    wanted(runs == list(range(1, len(runs) + 1)), f"each run of {node} once, not {runs}")
 
-        def key(result):
-            return result["call"], result["run"]
+    def key(result):
+        return result["call"], result["run"]
 
-        for name, results in helper.results(str(lab.folder / node / "journal")).items():
-            self.assertTrue(results, f"a history of {name}")
-            seen = [helper.result_of(entry) for entry in entries if entry["id"] == name]
-            seen = sorted(seen, key=lambda entry: entry["at"])[-len(results):]
-            self.assertEqual(sorted(seen, key=key), sorted(results, key=key), f"{name} of {node}")
-        return entries
+    for name, results in helper.results(str(lab.folder / node / "journal")).items():
+        wanted(results, f"a history of {name}")
+        seen = [helper.result_of(entry) for entry in entries if entry["id"] == name]
+        seen = sorted(sorted(seen, key=lambda entry: entry["at"])[-len(results):], key=key)
+        wanted(seen == sorted(results, key=key), f"{name} of {node} as in its history, {results}, not {seen}")
+    return entries
 
-    def lab(self, name, namespaces, **more):
-        os.mkdir(self.place(name))
-        lab = Lab(self.place(name), PROGRAM, namespaces, **more)
-        self.addCleanup(lab.close)
-        return lab
 
-    def test_kills(self):
-        """services through random kills"""
-        dice.seed(helper.number("SEED", 20261124))
-        lab = self.lab("fenced", sys.argv[-1] == "yes", lease=LEASE, slow=0.3)
+def end_all(lab):
+    """Stops all services, and returns the results that the managers have seen."""
+    for name in SERVICES:
+        lab.place(name, [])
+    waits("all services down", lambda: not any(lab.up.values()), 30)
+    time.sleep(2)
+    entries = [entry for node in lab.nodes for entry in compare_record(lab, node)]
+    wanted(not lab.twice and max(lab.counts()) == 1, f"one of a service at a time, not {lab.twice} {lab.counts()}")
+    return entries
+
+
+def kills(folder, namespaces, count, seed):
+    """Services through random kills."""
+    dice.seed(int(seed))
+    with contextlib.closing(Lab(folder, PROGRAM, namespaces, lease=LEASE, slow=0.3)) as lab:
         lab.start(SERVICES)
-        done, took = run_kills(lab, helper.number("KILLS", 20))
-        for name in SERVICES:
-            lab.place(name, [])
-        waits("all services down", lambda: not any(lab.up.values()), 30)
-        time.sleep(2)
-        entries = [entry for node in lab.nodes for entry in self.compare_record(lab, node)]
-        self.assertFalse(lab.twice, "one of a service at a time")
-        self.assertEqual(max(lab.counts()), 1, "one of a service at a time")
+        done, took = run_kills(lab, int(count))
+        entries = end_all(lab)
         words = sorted({entry["outcome"] for entry in entries})
         print(f"cluster_kills: {done} kills, {len(lab.counts())} starts, {len(lab.fenced)} fencings, {len(entries)} results: "
               + ", ".join(f"{sum(entry['outcome'] == word for entry in entries)} {word}" for word in words))
         for kind, seconds in sorted(took.items()):
-            print(f"cluster_kills: rows with {kind}: {len(seconds)}, up again after {statistics.median(seconds):.1f} s, "
+            print(f"cluster_kills: series with {kind}: {len(seconds)}, up again after {statistics.median(seconds):.1f} s, "
                   f"at most {max(seconds):.1f} s of {BOUNDS[kind]} s", flush=True)
 
-    def test_without_fencing(self):
-        """without fencing, nothing of a lost node is taken over"""
-        lab = self.lab("alone", False, lease=5, fences=False, slow=0)
 
+def without_fencing(folder, namespaces):
+    """Without fencing, nothing of a lost node is taken over."""
+    with contextlib.closing(Lab(folder, PROGRAM, namespaces, lease=5, fences=False, slow=0)) as lab:
         def on_first():
             return [node for node, _ in lab.up.get("web", [])] == ["n1"] and lab.etcd.view()["/active/web"].value == "n1"
 
@@ -194,14 +193,18 @@ class Cluster(helper.Check):
         lab.off("n1")
         waits("the end of its lease", lambda: "/nodes/n1" not in lab.etcd.view(), 20)
         time.sleep(5)
-        self.assertFalse(lab.up.get("web"), "nothing taken over without fencing")
-        self.assertEqual(lab.etcd.view()["/active/web"].value, "n1")
+        wanted(not lab.up.get("web"), f"nothing taken over without fencing, not {lab.up}")
+        wanted(lab.etcd.view()["/active/web"].value == "n1", "web still active on n1")
         lab.boot("n1")
         waits("web up where it was", on_first, 30)
+
+
+def main():
+    _, folder, part, *words, namespaces = sys.argv[1:]
+    {"kills": kills, "without-fencing": without_fencing}[part](folder, namespaces == "yes", *words)
 
 
 if __name__ == "__main__":
     for number in (signal.SIGTERM, signal.SIGINT, signal.SIGHUP):
         signal.signal(number, lambda *_: sys.exit(1))
-    helper.CALL[:] = ["tests/system/cluster.sh", PROGRAM]
-    helper.main(failfast=True)
+    main()
