@@ -110,7 +110,7 @@ source:
 
 # Tests the first hour on this machine: builds the package, installs it, runs each command of docs/GUIDE.md, and removes the package.
 guide:
-	@tests/system/guide.sh $(PROGRAM) /
+	@tests/system/guide.py $(PROGRAM) /
 
 $(PROGRAM): $(shell find crates -name out -prune -o -name README.md -o -type f -print)
 	cd crates/ocfexec && rt run -- --help > /dev/null

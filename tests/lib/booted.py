@@ -75,7 +75,7 @@ class Package(helper.Check):
     @helper.slow
     def test_guide(self):
         """the guide's commands with the package, by systemctl and journalctl themselves"""
-        self.does(f"{helper.TOP}/tests/system/guide.sh", PROGRAM, "/")
+        self.assertNotIn("\nskipped ", f"\n{self.does(f'{helper.TOP}/tests/system/guide.py', PROGRAM, '/')}")
 
     @helper.slow
     def test_removed(self):
