@@ -22,7 +22,7 @@ def why_none() -> str:
 def output(*words: str, **how: object) -> str:
     """What a command prints, which ends well, without the last newline."""
     done = subprocess.run(words, stdin=subprocess.DEVNULL, stdout=subprocess.PIPE, stderr=subprocess.PIPE, text=True,
-                          timeout=helper.WHOLE, check=False, **{"env": VARIABLES, **how})
+                          check=False, **{"env": VARIABLES, **how})
     assert done.returncode == 0, f"{' '.join(words)}: it ended with {done.returncode}:\n{done.stdout}{done.stderr}"
     return done.stdout.rstrip("\n")
 
