@@ -11,6 +11,7 @@ import shutil
 import subprocess
 import sys
 import tempfile
+import textwrap
 import unittest
 from pathlib import Path
 
@@ -86,7 +87,7 @@ class Booted(helper.Check):
         word, why = found.get(self._testMethodName, ("failed", ""))
         if word == "skipped":
             self.skipTest(why)
-        self.assertEqual(word, "ok", output)
+        self.assertEqual(word, "ok", textwrap.indent(output, "  "))
 
     def test_guide(self) -> None:
         """the guide's commands with the package, by systemctl and journalctl themselves"""
