@@ -1,6 +1,6 @@
-/* What an agent says to its own process group, through Pacemaker's client library: while a start of `neighbour` waits, a monitor of `says`
+/* What an agent does to its own process group, through Pacemaker's client library: while a start of `neighbour` waits, a monitor of `acts`
    does what the parameter of that name is. Prints how that monitor ended, and then how the start ended, which is let go on after it.
-   Use: groups PROVIDER SAYS TIMEOUT DIRECTORY, with the timeout of the monitor in milliseconds, and the directory that the agents see */
+   Use: groups PROVIDER ACTS TIMEOUT DIRECTORY, with the timeout of the monitor in milliseconds, and the directory that the agents see */
 #include <crm/crm.h>
 #include <crm/common/logging.h>
 #include <crm/lrmd.h>
@@ -14,7 +14,7 @@
 
 static int ended;
 
-static void heard(lrmd_event_data_t *event) {
+static void receives(lrmd_event_data_t *event) {
     if (event->type == lrmd_event_disconnect) {
         printf("the executor is gone\n");
         exit(1);
@@ -55,9 +55,9 @@ int main(int argc, char **argv) {
     lrmd_t *executor = lrmd_api_new();
     crm_log_preinit("groups", argc, argv);
     crm_log_init("groups", LOG_ERR, FALSE, FALSE, argc, argv, TRUE);
-    executor->cmds->set_callback(executor, heard);
+    executor->cmds->set_callback(executor, receives);
     if (argc < 5 || executor->cmds->connect(executor, "groups", &channel) != pcmk_ok ||
-        executor->cmds->register_rsc(executor, "says", "ocf", argv[1], "Says", lrmd_opt_none) != pcmk_ok ||
+        executor->cmds->register_rsc(executor, "acts", "ocf", argv[1], "Acts", lrmd_opt_none) != pcmk_ok ||
         executor->cmds->register_rsc(executor, "neighbour", "ocf", argv[1], "Waits", lrmd_opt_none) != pcmk_ok) {
         fprintf(stderr, "groups: no executor answers\n");
         return 2;
@@ -66,13 +66,13 @@ int main(int argc, char **argv) {
     snprintf(path, sizeof path, "%s/begun", argv[4]);
     for (int n = 0; n < PATIENCE / 100 && access(path, F_OK); n++)
         usleep(100000);
-    if (!awaits(executor, channel, begins(executor, "says", "monitor", "says", argv[2], atoi(argv[3]))))
+    if (!awaits(executor, channel, begins(executor, "acts", "monitor", "acts", argv[2], atoi(argv[3]))))
         return 1;
     snprintf(path, sizeof path, "%s/go", argv[4]);
     fclose(fopen(path, "w"));
     if (!awaits(executor, channel, start))
         return 1;
-    lrmd_rsc_info_t *found = executor->cmds->get_rsc_info(executor, "says", lrmd_opt_none);
+    lrmd_rsc_info_t *found = executor->cmds->get_rsc_info(executor, "acts", lrmd_opt_none);
     printf("the executor %s\n", found ? "answers" : "does not answer");
     executor->cmds->disconnect(executor);
     return found ? 0 : 1;
