@@ -96,7 +96,7 @@ class Streams(helper.Check):
 
 class Memory(helper.Check):
     def ends(self, limit: int) -> str:
-        """How a run in this address space ends: answered, refused, or otherwise."""
+        """How a run in this address space ends: answered, refused, amid its replies, or otherwise."""
         def have() -> None:
             resource.setrlimit(resource.RLIMIT_AS, (limit << 10, limit << 10))
             resource.setrlimit(resource.RLIMIT_CORE, (0, 0))
@@ -112,12 +112,15 @@ class Memory(helper.Check):
             return "refused"
         if done.returncode == 7:
             self.assertEqual(err, LINE, limit)
+            return "amid its replies"
         return "otherwise"
 
     def test_memory(self) -> None:
-        """from little memory to enough, a run is refused with 4 and its line, or answered, or the system ends it before it begins"""
-        found = {self.ends(limit) for limit in LIMITS}
-        self.assertLessEqual({"answered", "refused"}, found)
+        """from little memory to enough, the system ends a run before it begins, and then it is refused with 4 and its line, or answered"""
+        found = {limit: self.ends(limit) for limit in LIMITS}
+        self.assertLessEqual({"answered", "refused"}, set(found.values()))
+        begins = min(limit for limit, end in found.items() if end == "refused")
+        self.assertEqual([limit for limit, end in found.items() if limit > begins and end == "otherwise"], [], "KiB")
 
 
 if __name__ == "__main__":

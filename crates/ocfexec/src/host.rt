@@ -30,8 +30,8 @@ use ocf_env::Site;
 use ocf_types::{Moment, Orphan};
 use process_ends::{System, SystemAgents};
 use std::alloc::{AllocError, Global};
-use std::io::{self, Eprint, StdinLock};
-use std::rt::Stdout;
+use std::io::{self, Eprint};
+use std::rt::{Stdin, Stdout};
 
 // How many bytes of the input are read at once.
 const READ_SIZE: usize = 65_536;
@@ -79,7 +79,7 @@ impl<'a> Host for SystemHost<'a> {
 
     type Source = SiteMetadata<'a>;
 
-    type Reader = LineInput<ReadAhead<Noted<'a, StdinLock<'a>>>>;
+    type Reader = LineInput<ReadAhead<Noted<'a, Stdin>>>;
 
     type Writer = Guarded<Patient<Noted<'a, Stdout>>>;
 
@@ -179,9 +179,10 @@ impl<'a> Host for SystemHost<'a> {
     }
 
     // TRUSTED: the reader is standard input; a read without input fails once the other end of standard output is closed.
-    fn reader(&mut self) -> Result<LineInput<ReadAhead<Noted<'a, StdinLock<'a>>>>, Refused> {
+    fn reader(&mut self) -> Result<LineInput<ReadAhead<Noted<'a, Stdin>>>, Refused> {
         self.stage = 3;
-        let input = self.unread.input(self.system.host().reader());
+        // (not the library's lock: that has a buffer of 8 KiB, which would be moved with the reader and never used)
+        let input = self.unread.input(self.system.host().stdin());
         let input = input.with_replies(libc::STDOUT_FILENO);
         let ahead = ReadAhead::new(self.alloc(), READ_SIZE, input)?;
         Ok(LineInput::new(ahead))
@@ -198,7 +199,7 @@ impl<'a> Host for SystemHost<'a> {
     // TRUSTED: after this call nothing is read from standard input, nobody sleeps, and no agent is asked for metadata.
     fn leave(
         &mut self,
-        reader: LineInput<ReadAhead<Noted<'a, StdinLock<'a>>>>,
+        reader: LineInput<ReadAhead<Noted<'a, Stdin>>>,
         ticker: ClockTicker<SessionClock<'a, HostRuntime>>,
         source: SiteMetadata<'a>,
     ) {

@@ -19,6 +19,7 @@ mod moment;
 mod once;
 mod question;
 mod reasons;
+mod stack;
 
 use arguments::{arguments_of, named_journal};
 use diagnostics::{FirstError, report, report_cause};
@@ -27,6 +28,7 @@ use exec_program::{Host, program};
 use growth::Grows;
 use host::SystemHost;
 use process_ends::System;
+use stack::grow_stack;
 use std::alloc::Global;
 use std::mem;
 use std::process::ExitCode;
@@ -42,8 +44,10 @@ fn main(rt: HostRuntime) -> ExitCode {
     code
 }
 
-// Does what the arguments of the command line ask for, and gives the exit status. The fault is that they cannot be read.
+// Does what the arguments of the command line ask for, and gives the exit status. The fault is that they cannot be read, or that the stack
+// finds no memory.
 fn start(system: &System<'_>) -> Result<ExitCode, Fault> {
+    grow_stack(system.host().alloc()).map_err(|_| Fault::Memory)?;
     let arguments = arguments_of(system.host())?;
     let named = named_journal(system.host())?;
     let named = match &named {
