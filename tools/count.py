@@ -24,8 +24,8 @@ FOLDERS = {"cli": "what a user or a client sees of the program", "journal": "the
            "repository": "documents, contracts, edits and scripts"}
 FUNCTION = re.compile(r"^ *(?:pub(?:\([a-z]+\))? )?(?:ghost )?fn \w", re.MULTILINE)
 TEST, SCENARIO, OK = re.compile(r"#\[test\]"), re.compile(r"^scenario ", re.MULTILINE), re.compile(r"^ok ", re.MULTILINE)
-# a check in a script of the shell, and the mark of a slow script
-SHELL, SLOW = re.compile(r"^ *(?:checked|finish) ", re.MULTILINE), re.compile(r"^# check: .*\bslow\b", re.MULTILINE)
+# the mark of a slow script
+SLOW = re.compile(r"^# check: .*\bslow\b", re.MULTILINE)
 
 
 def files(pattern):
@@ -75,12 +75,8 @@ def times():
     except OSError:
         return {}
     seconds = {path: float(took) for took, path in map(str.split, kept)}
-    scripts = {folder: [str(path.relative_to(TOP)) for path in checks(folder)] for folder in FOLDERS}
+    scripts = {folder: [str(path.relative_to(TOP)) for path in files(f"tests/{folder}/*.py")] for folder in FOLDERS}
     return {folder: round(sum(map(seconds.get, paths))) for folder, paths in scripts.items() if seconds.keys() >= set(paths)}
-
-
-def checks(folder):
-    return files(f"tests/{folder}/*.py") + files(f"tests/{folder}/*.sh")
 
 
 def cases(text):
@@ -92,10 +88,11 @@ def cases(text):
 
 def of_folder(folder):
     """How many scripts a directory has, how many checks, and how many of these are slow."""
-    found = collections.Counter(scripts=len(checks(folder)))
-    for path in checks(folder):
+    scripts = files(f"tests/{folder}/*.py")
+    found = collections.Counter(scripts=len(scripts))
+    for path in scripts:
         text = path.read_text(encoding="utf-8")
-        tests = cases(text) if path.suffix == ".py" else [[] for _ in SHELL.findall(text)]
+        tests = cases(text)
         is_slow = SLOW.search("\n".join(text.splitlines()[:5]))
         found += collections.Counter(checks=len(tests), slow=len(tests) if is_slow else sum("helper.slow" in one for one in tests))
     return found

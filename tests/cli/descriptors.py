@@ -9,6 +9,7 @@ import shutil
 import subprocess
 import sys
 import tempfile
+import unittest
 
 sys.path[0] += "/../lib"
 import helper  # noqa: E402
@@ -22,6 +23,7 @@ REFUSED = {word: rf"ocfexec: disk\n.*/part-[ab]: {re.escape(CAUSE)}\n" if word i
            else rf"ocfexec: disk: .*/part-[ab]: {re.escape(CAUSE)}\n" for word in ("serve", "run", "status", "log", "metrics", "show")}
 
 
+@unittest.skipUnless(shutil.which("prlimit"), "install the package util-linux")
 class Descriptors(helper.Check):
     def setUp(self):
         super().setUp()
@@ -137,8 +139,5 @@ class Descriptors(helper.Check):
 
 
 if __name__ == "__main__":
-    if not shutil.which("prlimit"):
-        print("skipped: needs prlimit (apt-get install util-linux)")
-        sys.exit(77)
     os.environ.pop("JOURNAL_STREAM", None)
     helper.main()

@@ -16,6 +16,7 @@ import subprocess
 import sys
 import threading
 import time
+import unittest
 
 sys.path[0] += "/../lib"
 import helper  # noqa: E402
@@ -103,6 +104,7 @@ def state(folder):
     return {name: values[1 + 2 * place:3 + 2 * place] for place, name in enumerate(values[0]["resources"])}
 
 
+@unittest.skipUnless(shutil.which("cc"), "install a C compiler")
 class Growths(helper.Check):
     def setUp(self):
         super().setUp()
@@ -517,7 +519,4 @@ class Growths(helper.Check):
 
 
 if __name__ == "__main__":
-    if not shutil.which("cc"):
-        print("growths.py: skipped: install a C compiler (apt-get install gcc)")
-        sys.exit(77)
     helper.main(in_memory=True, parts=3)

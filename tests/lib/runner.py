@@ -1,14 +1,13 @@
 #!/usr/bin/env python3
-"""Runs the checks of the built programs, tests/FOLDER/NAME.sh and NAME.py of the directories below, and counts them.
+"""Runs the checks of the built programs, tests/FOLDER/NAME.py of the directories below, and counts them.
 
-A script prints a line for each of its checks, `ok`, `failed` or `skipped`, with its time; a script that needs something the machine lacks
-ends with 77. A script that prints no line fails. Several scripts run at once, and the output of each is printed in one piece when it has
-ended. A line `# check: MARK..` near the top of a script marks it: `slow`, so that --fast leaves it out; `alone`, so that nothing runs
-beside it, as it measures time or load; or `trials` or `scenarios`, so that tests/trials/build.sh or tests/scenarios/build.sh has built that
-program before the script begins. In a Python script single tests may be slow (helper.slow). Two scripts run at once for each processor,
-since a script waits half of its time; the one that took longest in the last run begins first. A script that takes too long is ended; the
-limit is scaled up on a busy machine. The last lines list what was skipped and why, what took longest and what failed; the very last line
-counts the checks.
+A script prints a line for each of its checks, `ok`, `failed` or `skipped`, with its time. One that prints none fails. Several run at once,
+and the output of each is printed in one piece when it has ended. A line `# check: MARK..` near the top of a script marks it: `slow`, so
+that --fast leaves it out; `alone`, so that nothing runs beside it, as it measures time or load; or `trials` or `scenarios`, so that
+tests/trials/build.sh or tests/scenarios/build.sh has built that program before the script begins. Single tests of a script may be slow
+(helper.slow). Two scripts run at once for each processor, since a script waits half of its time; the one that took longest in the last run
+begins first. A script that takes too long is ended; the limit is scaled up on a busy machine. The last lines list what was skipped and why,
+what took longest and what failed; the very last line counts the checks.
 
 Use: runner.py [--fast] [--jobs N] [--limit SECONDS] [NAME..], with PROGRAM in the environment, and JOBS for --jobs; a NAME is that of a
 script or of a directory, and without names all scripts are run"""
@@ -31,8 +30,7 @@ PROGRAMS = {"trials", "scenarios"}
 MARKS, HEAD = {"slow", "alone"} | PROGRAMS, 5
 MARK = re.compile(r"# check: (.*)")
 CHECK = re.compile(r"^(ok|failed|skipped) +([0-9.]+) s  (.*)$", re.MULTILINE)
-WHY = re.compile(r"skipped: (.*)")
-SKIPPED, LATE, NOT_STARTED = 77, 124, 126
+LATE, NOT_STARTED = 124, 126
 # how many scripts run at once for each processor
 AT_ONCE = 2
 # the file with the seconds that each script took when it last ran, and with --fast; and the seconds of a script that is not in it: one
@@ -70,9 +68,7 @@ class Ended:
         self.script, self.output, self.seconds, self.fault = script, output, seconds, ""
         text = output.decode(errors="replace")
         self.checks = [(word, float(took), re.sub("^[a-z_]+: ", "", name)) for word, took, name in CHECK.findall(text)]
-        if status == SKIPPED:
-            self.checks.append(("skipped", 0.0, (WHY.findall(text) or ["it ended with 77"])[-1]))
-        elif status:
+        if status:
             self.fault = f"with status {status}" + (f", after {seconds:.0f} s" if status == LATE else "")
         elif not self.checks:
             self.fault = "without a line of a check"
@@ -248,8 +244,7 @@ def listed(what, names):
 
 def scripts():
     """All scripts, directory by directory."""
-    return [Script(path.relative_to(TOP)) for folder in FOLDERS for end in ("sh", "py")
-            for path in sorted((TOP / "tests" / folder).glob(f"*.{end}"))]
+    return [Script(path.relative_to(TOP)) for folder in FOLDERS for path in sorted((TOP / "tests" / folder).glob("*.py"))]
 
 
 def chosen(found, names):

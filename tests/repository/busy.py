@@ -1,24 +1,14 @@
 #!/usr/bin/env python3
-"""The bounds on time in the checks, tests/lib/helper.py and tests/lib/common.sh, with a report of the machine's pressure that stands in for
-the system's. Wanted: on a quiet machine each bound is kept to the letter; on one that is busy, or was for a moment, none fails a program
-that was only held back; and where the system reports nothing, a busy machine is told by its load.
+"""The bounds on time in the checks, tests/lib/helper.py, with a report of the machine's pressure in place of the system's. Wanted: on a
+quiet machine each bound is kept to the letter; on one that is busy, or was for a moment, none fails a program that was only held back; and
+where the system reports nothing, a busy machine is found by its load.
 Use: busy.py PROGRAM"""
 import os
-import subprocess
 import sys
 import unittest.mock
 
 sys.path[0] += "/../lib"
 import helper  # noqa: E402
-
-COMMON = os.path.join(helper.TOP, "tests/lib/common.sh")
-# a script of checks, with the system's report in another directory
-SCRIPT = """#!/bin/bash
-. /dev/fd/3 "$@"
-printf 'some avg10=%s avg60=0.00 avg300=0.00 total=%s\\n' "$2" "$3" > "$4/cpu"
-took_less 'what is timed' 1000 "$5"
-exit "$failed"
-"""
 
 
 class Busy(helper.Check):
@@ -98,24 +88,6 @@ class Busy(helper.Check):
         self.took_less(1.5, 12.9, "what is timed")
         self.fails(self.took_less, 1.5, 13.1)
         self.came_often(5, 0, "what is timed")
-
-    def shell(self, share, processor, took):
-        """Whether a script of checks lets this many milliseconds pass for less than a second."""
-        with open(COMMON, encoding="utf-8") as text, open(self.place("common.sh"), "w+", encoding="utf-8") as copy:
-            copy.write(text.read().replace("/proc/pressure", self.here))
-            copy.seek(0)
-            words = map(str, [os.path.join(helper.TOP, "tests/lib/check.sh"), "x", share, processor, self.here, took])
-            done = subprocess.run(["bash", "-c", f"exec 3< {copy.name}; {SCRIPT}", *words], capture_output=True,
-                                  env={**os.environ, "signals": "default"})
-        return done.returncode == 0
-
-    def test_shell(self):
-        """the same in a script of the shell"""
-        for share, processor, took, wanted in ((0, 1_000_000, 999, True), (0, 1_010_000, 1020, False), (0, 5_800_000, 5700, True),
-                                               (0, 5_800_000, 5900, False), (75, 1_000_000, 3900, True), (75, 1_000_000, 4100, False)):
-            with self.subTest(share=share, processor=processor, took=took):
-                self.reports(0, 1, 0)
-                self.assertEqual(self.shell(share, processor, took), wanted)
 
 
 if __name__ == "__main__":

@@ -1,6 +1,6 @@
 #!/usr/bin/env python3
-"""The runner of the checks, tests/lib/runner.py, with scripts that stand in for the checks: what it counts, what it prints at the end, what
-it leaves out, and what it runs at once; and the leftovers of a random test that failed.
+"""The runner of the checks, tests/lib/runner.py, with scripts that stand in for the checks, in the shell, which starts at once: what it
+counts, what it prints at the end, what it leaves out, and what it runs at once; and the leftovers of a random test that failed.
 Use: runner.py PROGRAM"""
 import os
 import re
@@ -20,7 +20,7 @@ GOOD = 'echo "ok         0.10 s  good: a check"\n'
 COUNTS = """cd {here}
 touch live/$$
 n=0; until [ "$(ls live | wc -l)" -gt 1 ] || [ $n -ge {wait} ]; do sleep 0.1; n=$((n+1)); done
-ls live | wc -l > counted.$$ && mv counted.$$ seen.$(basename "$0" .sh)
+ls live | wc -l > counted.$$ && mv counted.$$ seen.$(basename "$0" .py)
 n=0; until [ "$(echo seen.* | wc -w)" -gt 1 ] || [ $n -ge {wait} ]; do sleep 0.1; n=$((n+1)); done
 rm live/$$
 """
@@ -65,10 +65,10 @@ class Runner(helper.Check):
         outside = {key: value for key, value in os.environ.items() if not key.startswith("BUILT_")}
         self.environment = {**outside, "PROGRAM": helper.PROGRAM, "JOBS": "2", "FAST": "1"}
 
-    def script(self, name, body, mark="", mode=0o755):
-        with open(self.place(f"tests/{name}.sh"), "w", encoding="ascii") as file:
+    def script(self, name, body, mark="", mode=0o755, ending=".py"):
+        with open(self.place(f"tests/{name}{ending}"), "w", encoding="ascii") as file:
             file.write(f"#!/bin/sh\n{mark}{body}")
-        os.chmod(self.place(f"tests/{name}.sh"), mode)
+        os.chmod(self.place(f"tests/{name}{ending}"), mode)
 
     def ran(self, *words):
         """The status, and the lines of the output, without those about durations."""
@@ -89,9 +89,9 @@ class Runner(helper.Check):
         status, said = self.ran()
         good, at = "ok         0.10 s  good: a check", said.index("why")
         self.assertEqual(said[at - 2:at + 2], [good, "failed     0.20 s  bad: another check", "why",
-                                               "failed          tests/load/bad.sh, with status 1"])
+                                               "failed          tests/load/bad.py, with status 1"])
         self.assertEqual(said.count(good), 2)
-        self.assertEqual(said[-4:], ["failed 1:", "    tests/load/bad.sh: another check", "once more: tests/check.sh bad.sh",
+        self.assertEqual(said[-4:], ["failed 1:", "    tests/load/bad.py: another check", "once more: tests/check.sh bad.py",
                                      "2 passed, 1 failed"])
         self.assertEqual((status, self.ran("good")[0]), (1, 0))
 
@@ -105,8 +105,8 @@ class Runner(helper.Check):
         self.assertEqual((status, said[-1]), (1, "1 passed, 4 failed"))
         self.assertIn("begun", said)
         failed = said[said.index("failed 4:") + 1:-2]
-        wanted = ["hangs.sh: it ended with status 124, after N s", "mute.sh: it ended without a line of a check",
-                  "not_executable.sh: it ended with status 126", "status.sh: it ended with status 3"]
+        wanted = ["hangs.py: it ended with status 124, after N s", "mute.py: it ended without a line of a check",
+                  "not_executable.py: it ended with status 126", "status.py: it ended with status 3"]
         self.assertEqual(sorted(re.sub(r"after \d+ s$", "after N s", line) for line in failed),
                          ["    tests/cli/" + line for line in wanted])
         with open(self.place("pid"), encoding="ascii") as file:
@@ -115,7 +115,7 @@ class Runner(helper.Check):
     def build(self, name, body):
         """The build of a program that scripts need."""
         os.makedirs(self.place(f"tests/{name}"))
-        self.script(f"{name}/build", body)
+        self.script(f"{name}/build", body, ending=".sh")
 
     def test_built(self):
         """the programs that scripts need are built once before they begin, and everything else begins before"""
@@ -134,26 +134,26 @@ class Runner(helper.Check):
         for name, mark in (("needs", "# check: scenarios\n"), ("other", "")):
             self.script(f"cli/{name}", GOOD, mark=mark)
         status, said = self.ran()
-        self.assertEqual((status, said[-4:]), (1, ["failed 1:", "    tests/cli/needs.sh: it ended with status 3",
-                                                   "once more: tests/check.sh needs.sh", "1 passed, 1 failed"]))
+        self.assertEqual((status, said[-4:]), (1, ["failed 1:", "    tests/cli/needs.py: it ended with status 3",
+                                                   "once more: tests/check.sh needs.py", "1 passed, 1 failed"]))
         self.assertIn("no compiler", said)
 
     def test_skipped(self):
-        """each skipped script or check is named with its reason"""
-        self.script("system/all", 'echo "all.sh: skipped: no moon here"; exit 77\n')
+        """each skipped check is named with its reason"""
+        self.script("system/all", 'echo "skipped    0.00 s  all: the moon: it is not there"\n')
         self.script("system/part", GOOD + 'echo "skipped    0.00 s  part: the sun: it is not there"\n')
         status, said = self.ran()
         self.assertEqual((status, said[-1]), (0, "1 passed, 0 failed"))
         found = said[said.index("skipped 2:") + 1:][:2]
-        self.assertEqual(sorted(found), ["    tests/system/all.sh: no moon here", "    tests/system/part.sh: the sun: it is not there"])
+        self.assertEqual(sorted(found), [f"    tests/system/{name}: it is not there" for name in ("all.py: the moon", "part.py: the sun")])
 
     def test_chosen(self):
         """names of scripts and of directories choose, and --fast leaves out the ones marked slow"""
         for name in ("cli/one", "cli/two", "load/three"):
             self.script(name, GOOD, mark="# check: slow\n" if name == "cli/two" else "")
-        for words, count in (([], 3), (["cli"], 2), (["one", "load"], 2), (["two.sh"], 1), (["tests/cli/two.sh"], 1), (["--fast"], 2)):
+        for words, count in (([], 3), (["cli"], 2), (["one", "load"], 2), (["two.py"], 1), (["tests/cli/two.py"], 1), (["--fast"], 2)):
             self.assertEqual(self.ran(*words)[1][-1], f"{count} passed, 0 failed", words)
-        self.assertIn("    tests/cli/two.sh", self.ran("--fast")[1])
+        self.assertIn("    tests/cli/two.py", self.ran("--fast")[1])
         self.script("load/three", 'echo "ok         0.10 s  three: fast is \'$FAST\'"\n')
         for words, fast in (([], ""), (["--fast"], "1")):
             self.assertEqual(self.ran("three", *words)[1][0], f"ok         0.10 s  three: fast is '{fast}'")
@@ -171,10 +171,10 @@ class Runner(helper.Check):
             self.assertEqual(self.ran(*words)[0], 0)
         with open(times, encoding="ascii") as file:
             kept = {os.path.basename(name): float(took) for took, name in map(str.split, file)}
-        self.assertEqual([name for name, took in times_of.items() if kept[f"{name}.sh"] < took], [], kept)
+        self.assertEqual([name for name, took in times_of.items() if kept[f"{name}.py"] < took], [], kept)
         # (on a busy machine another one may take longest)
         with open(times, "w", encoding="ascii") as file:
-            file.write("".join(f"{took} tests/cli/{name}.sh\n" for name, took in times_of.items()))
+            file.write("".join(f"{took} tests/cli/{name}.py\n" for name, took in times_of.items()))
         for words in ([], ["--fast"]):
             self.assertEqual(self.ran(*words)[0], 0)
         with open(self.place("log"), encoding="ascii") as file:

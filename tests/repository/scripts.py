@@ -1,6 +1,5 @@
 #!/usr/bin/env python3
-"""The form of the checks themselves: each one in Python is a module of `unittest` whose tests have a sentence each, and each one in the
-shell prints the wanted and the found value if a condition does not hold.
+"""The form of the checks themselves: each script is a module of `unittest`, whose tests have a sentence each.
 Use: scripts.py PROGRAM"""
 import ast
 import collections
@@ -15,14 +14,10 @@ import helper  # noqa: E402
 TOP = Path(helper.TOP)
 FOLDERS = ("cli", "journal", "agents", "crash", "load", "system", "repository")
 GUARD = re.compile(r"if __name__ == '__main__':\n(?: .*\n)*    (?:helper\.)?main\(.*\)")
-# A condition, and what handles it: a branch on its line, or the end of a function whose status is used.
-CONDITION = re.compile(r"\bgrep -[a-zA-Z]*q|^\s*(\[\[?|test|cmp|diff|!)\s")
-ANSWERED = re.compile(r"\|\||&&|^\s*(if|elif|while|until)\s|\\$")
-END = re.compile(r"\s*[})]")
 
 
-def checks(ending):
-    return [path for folder in FOLDERS for path in sorted((TOP / "tests" / folder).glob(f"*.{ending}"))]
+def checks():
+    return [path for folder in FOLDERS for path in sorted((TOP / "tests" / folder).glob("*.py"))]
 
 
 def told(path, line, what):
@@ -30,7 +25,7 @@ def told(path, line, what):
 
 
 def modules():
-    return [(path, ast.parse(path.read_text(encoding="utf-8"))) for path in checks("py")]
+    return [(path, ast.parse(path.read_text(encoding="utf-8"))) for path in checks()]
 
 
 def cases(module):
@@ -39,19 +34,12 @@ def cases(module):
     return [node for case in found for node in case.body if isinstance(node, ast.FunctionDef) and node.name.startswith("test_")]
 
 
-def bare(path):
-    """The conditions of a shell script that are not handled."""
-    lines = path.read_text(encoding="utf-8").splitlines()
-    for number, (line, after) in enumerate(zip(lines, [*lines[1:], "}"]), 1):
-        if CONDITION.search(line) and not line.lstrip().startswith("#") and not ANSWERED.search(line) and not END.match(after):
-            yield told(path, number, line.strip())
-
-
 class Scripts(helper.Check):
     maxDiff = None
 
     def test_modules(self):
-        """each check in Python is a module of unittest, which runs its tests when it is called and not when it is imported"""
+        """each script of checks is a module of unittest, which runs its tests when it is called and not when it is imported"""
+        self.assertEqual([path for folder in FOLDERS for path in (TOP / "tests" / folder).glob("*.sh")], [])
         for path, module in modules():
             self.assertTrue(os.access(path, os.X_OK), told(path, 1, "it cannot be executed"))
             self.assertRegex(ast.unparse(module.body[-1]), GUARD, told(path, module.body[-1].lineno, "its end"))
@@ -76,20 +64,6 @@ class Scripts(helper.Check):
         calls = [(path, call) for path, module in modules() for call in ast.walk(module)
                  if isinstance(call, ast.Call) and isinstance(call.func, ast.Attribute) and call.func.attr in ("assertTrue", "assertFalse")]
         self.assertEqual([told(path, call.lineno, ast.unparse(call)) for path, call in calls if len(call.args) < 2], [])
-
-    def test_conditions(self):
-        """every condition in a shell script is handled"""
-        self.assertEqual([line for path in [*checks("sh"), TOP / "tests/lib/common.sh"] for line in bare(path)], [])
-
-    def test_bare(self):
-        """a condition that is not handled is found"""
-        script = Path(self.place("script.sh"))
-        for line in ("grep -q ok out", '[ -s "$here/out" ]', "tail -n 1 out | grep -qF ok", "! cmp -s a b"):
-            script.write_text(f"set -e\n{line}\nfinish it\n", encoding="ascii")
-            self.assertTrue([*bare(script)], line)
-        for text in ("grep -q ok out || differs", "if [ -s out ]; then", "is_there() {\n    grep -q ok out\n}"):
-            script.write_text(f"set -e\n{text}\nfinish it\n", encoding="ascii")
-            self.assertFalse([*bare(script)], text)
 
 
 if __name__ == "__main__":
