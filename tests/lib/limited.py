@@ -9,6 +9,9 @@ import helper
 STEP = 4096
 # How standard error begins with each status, if it goes to the system's journal.
 ENDS = {4: "ocfexec: memory\nFree memory ", 7: "ocfexec: input or output\nA reply or a notice found no memory."}
+# What the program goes on without, if memory lacks for it.
+LEFT_OUT = re.compile(r"^ocfexec: (cannot spawn the shell that ends processes|\S+/agents|run \d+ of \S+ was not started): [^\n]*\n",
+                      re.MULTILINE)
 
 
 def limited(room, words, told):
@@ -41,7 +44,6 @@ class Limited(helper.Check):
 
     def is_told(self, status, err, where):
         """Such a run ended well or for lack of memory, and its errors say so."""
-        # what the program goes on without, if memory lacks for it
-        err = re.sub(r"(?m)^ocfexec: (cannot spawn the shell that ends processes|\S+/agents): [^\n]*\n", "", err)
+        err = LEFT_OUT.sub("", err)
         self.assertIn(status, (0, *ENDS), f"{where}: {err}")
         self.assertTrue(err.startswith(ENDS[status]) if status else err == "", f"{where}: {err}")
