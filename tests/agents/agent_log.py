@@ -39,7 +39,7 @@ class AgentLog(helper.Check):
 
     def does(self, what, *words, journal=("--memory",), call=helper.run, **how):
         """One action, drained."""
-        return call("run", *journal, "--root", self.here, *words, told=self.command(what), timeout=helper.PATIENCE, **how)
+        return call("run", *journal, "--root", self.here, *words, sent=self.command(what), timeout=helper.PATIENCE, **how)
 
     def starts(self, *words, **how):
         """One start, drained, of a run that ends well; its standard error."""

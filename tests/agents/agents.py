@@ -56,7 +56,7 @@ class Agents(helper.Check):
 
     def played(self, *commands):
         """The ends of the actions of a run of these commands, which ends well."""
-        done = helper.run(*self.words(), told=helper.lines(*commands))
+        done = helper.run(*self.words(), sent=helper.lines(*commands))
         self.assertEqual(done.returncode, 0, done.stderr)
         return ends(helper.replies(done.stdout))
 
@@ -107,18 +107,18 @@ class Agents(helper.Check):
     def test_crowd(self):
         """256 agents run at once and are killed at their timeout, in at most 40 MB, and neither processes nor descriptors are left"""
         self.agent("Sleeps", SLEEPS)
-        run, names = self.heard(*self.words()), [f"r{number + 1}" for number in range(CROWD)]
-        run.tell({"op": "list"})
+        run, names = self.started(*self.words()), [f"r{number + 1}" for number in range(CROWD)]
+        run.send({"op": "list"})
         run.awaits(lambda value: "resources" in value)
         # (one process sends signals)
         pid, opened, first = run.run.pid, len(os.listdir(f"/proc/{run.run.pid}/fd")), children(run.run.pid)
-        run.tell(*[helper.register(name, "Sleeps") for name in names], *[start(name, LASTS) for name in names], DRAIN)
+        run.send(*[helper.register(name, "Sleeps") for name in names], *[start(name, LASTS) for name in names], DRAIN)
         most = self.most_at_once(run)
         self.idle(run, 1)
         # one more that lasts, so that the killed ones are waited for
-        run.tell(start("r1", SHORT), DRAIN, DRAIN, DRAIN)
+        run.send(start("r1", SHORT), DRAIN, DRAIN, DRAIN)
         self.idle(run, 4)
-        run.tell(DRAIN)
+        run.send(DRAIN)
         self.idle(run, 5)
         resident = helper.kib(pid, "VmHWM")
         print(f"agents: {most - first} at once, {resident} KiB resident")

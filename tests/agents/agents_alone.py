@@ -105,9 +105,9 @@ class AgentsAlone(helper.Check):
     def test_under_ocfexec(self):
         """Dummy under ocfexec: the same codes, and the metadata of Stateful"""
         actions = [command for action, _ in UNDER for command in (helper.action("r1", action), {"op": "drain"})]
-        told = helper.lines(helper.register("r1", "Dummy", "pacemaker", state=self.state), *actions,
+        sent = helper.lines(helper.register("r1", "Dummy", "pacemaker", state=self.state), *actions,
                             {"op": "meta", "provider": "pacemaker", "type": "Stateful"})
-        done = helper.run("run", "--memory", "--via", AGENTS, told=told)
+        done = helper.run("run", "--memory", "--via", AGENTS, sent=sent)
         self.assertEqual(done.returncode, 0, done.stderr)
         text, metadata = done.stdout.decode(), METADATA.format("Stateful")
         end = f'{{"meta":{len(metadata)}}}\n{metadata}\n'

@@ -87,7 +87,7 @@ class Endings(helper.Check):
         return helper.register(name, "Acts", up=self.up, **texts)
 
     def opened(self, way="serve", **how):
-        return self.heard(way, "--memory", "--root", self.here, err=self.err, **how)
+        return self.started(way, "--memory", "--root", self.here, err=self.err, **how)
 
     def said(self):
         with open(self.err, encoding="utf-8") as err:
@@ -97,9 +97,9 @@ class Endings(helper.Check):
         """Lets a start time out that leaves processes under these names; returns their numbers once the timeout was reported. A busy
         machine may hold the start back until then: so it has more time once more."""
         run = self.opened(way)
-        run.tell(self.register(does, **params), helper.action("r1", "start", timeout=timeout))
+        run.send(self.register(does, **params), helper.action("r1", "start", timeout=timeout))
         if way == "run":
-            run.tell({"op": "drain"})
+            run.send({"op": "drain"})
         _, notice = run.awaits(helper.is_notice)
         pids = [self.pid(name) for name in names]
         if not all(pids) and timeout < LONG:
@@ -119,11 +119,11 @@ class Endings(helper.Check):
         # the agent that comes up after the stop if only the agent is killed
         does = f"sh -c 'sleep 1.5; : > {self.up}/service'"
         run = self.opened(way)
-        run.tell(self.register(does), helper.action("r1", "start", timeout=400), helper.action("r1", "stop"))
+        run.send(self.register(does), helper.action("r1", "start", timeout=400), helper.action("r1", "stop"))
         if way == "run":
-            run.tell({"op": "drain"})
+            run.send({"op": "drain"})
         run.awaits(lambda value: helper.is_notice(value, action="stop"))
-        self.assertEqual([(end["action"], end["outcome"]) for end in run.told()], [("start", "timed-out"), ("stop", "done")])
+        self.assertEqual([(end["action"], end["outcome"]) for end in run.notices()], [("start", "timed-out"), ("stop", "done")])
         time.sleep(2)
         self.assertFalse(os.path.exists(os.path.join(self.up, "service")), "the service stays down")
 
@@ -188,9 +188,9 @@ class Endings(helper.Check):
     def test_earlier_service(self):
         """the service of an earlier start lives on after a monitor times out, also as a background job of that start"""
         run = self.opened()
-        run.tell(self.register("NOTE child & :", monitor="sh -c 'NOTE other; :'"), helper.action("r1", "start", timeout=5000))
+        run.send(self.register("NOTE child & :", monitor="sh -c 'NOTE other; :'"), helper.action("r1", "start", timeout=5000))
         run.awaits(lambda value: helper.is_notice(value, action="start"))
-        run.tell(helper.action("r1", "monitor", timeout=2000))
+        run.send(helper.action("r1", "monitor", timeout=2000))
         service, other = self.awaits_pid("child"), self.awaits_pid("other")
         _, notice = run.awaits(lambda value: helper.is_notice(value, action="monitor"))
         self.assertEqual(notice["outcome"], "timed-out")
@@ -200,9 +200,9 @@ class Endings(helper.Check):
     def test_other_resource(self):
         """processes of another resource live on"""
         run = self.opened()
-        run.tell(self.register("NOTE second; :", name="r2"), helper.action("r2", "start", timeout=60000))
+        run.send(self.register("NOTE second; :", name="r2"), helper.action("r2", "start", timeout=60000))
         second = self.awaits_pid("second")
-        run.tell(self.register("NOTE child; :"), helper.action("r1", "start", timeout=2000))
+        run.send(self.register("NOTE child; :"), helper.action("r1", "start", timeout=2000))
         child = self.awaits_pid("child")
         run.awaits(lambda value: helper.is_notice(value, id="r1"))
         self.ended([child])
@@ -211,7 +211,7 @@ class Endings(helper.Check):
     def test_end_of_input(self):
         """processes that an agent started end with the run's input"""
         run = self.opened()
-        run.tell(self.register("NOTE child; :"), helper.action("r1", "start", timeout=60000))
+        run.send(self.register("NOTE child; :"), helper.action("r1", "start", timeout=60000))
         child = self.awaits_pid("child")
         self.assertEqual(run.ends(), 0)
         self.ended([child])
@@ -220,15 +220,15 @@ class Endings(helper.Check):
         """256 timeouts in one turn, each agent with a child"""
         run = self.opened()
         for n in range(256):
-            run.tell(self.register(f"sleep 602.{MINE}{n:03}; :", name=f"r{n}"))
-        run.tell(*[helper.action(f"r{n}", "start", timeout=4000) for n in range(256)])
+            run.send(self.register(f"sleep 602.{MINE}{n:03}; :", name=f"r{n}"))
+        run.send(*[helper.action(f"r{n}", "start", timeout=4000) for n in range(256)])
         first, _ = run.awaits(helper.is_notice, 60)
-        self.eventually("256 notices", lambda: len(run.told()) >= 256)
-        self.assertEqual([end["outcome"] for end in run.told()], ["timed-out"] * 256)
+        self.eventually("256 notices", lambda: len(run.notices()) >= 256)
+        self.assertEqual([end["outcome"] for end in run.notices()], ["timed-out"] * 256)
         found = subprocess.run(["pgrep", "-f", f"^sleep 602[.]{MINE}"], capture_output=True, check=False).stdout.split()
         self.ended([int(pid) for pid in found])
         last = [moment for moment, line in run.lines if "outcome" in helper.value_of(line)][-1]
-        at = [end["at"] for end in run.told()]
+        at = [end["at"] for end in run.notices()]
         self.took_less(6, (max(at) - min(at)) / 1000 + last - first, "256 timeouts and their notices")
 
     @unittest.skipUnless(shutil.which("cc"), "install a C compiler")
@@ -239,20 +239,20 @@ class Endings(helper.Check):
         with open(stuck, "w", encoding="ascii"):
             pass
         run = self.opened(env={**os.environ, "LD_PRELOAD": shim, "STUCK": stuck})
-        run.tell(*[helper.register(f"r{n}", "Stuck") for n in range(60)], self.register(":", name="other"))
-        run.tell(*[helper.action(f"r{n}", "start", timeout=1500) for n in range(60)])
+        run.send(*[helper.register(f"r{n}", "Stuck") for n in range(60)], self.register(":", name="other"))
+        run.send(*[helper.action(f"r{n}", "start", timeout=1500) for n in range(60)])
         slowest = 0
-        while len(run.told()) < 60:
+        while len(run.notices()) < 60:
             before, began = len(run.values()), time.monotonic()
-            run.tell({"op": "list"})
+            run.send({"op": "list"})
             moment, _ = run.awaits(lambda value: "resources" in value, after=before)
             slowest = max(slowest, moment - began)
             self.took_less(5, moment - began, "a reply")
         self.took_less(helper.number("STUCK_MILLIS", 300) / 1000, slowest, "the latest reply")
-        run.tell(helper.action("r0", "monitor"), helper.action("r0", "stop"), helper.action("other", "start"))
+        run.send(helper.action("r0", "monitor"), helper.action("r0", "stop"), helper.action("other", "start"))
         run.awaits(lambda value: helper.is_notice(value, id="other", action="start", outcome="done"))
         before = len(run.values())
-        run.tell({"op": "info", "id": "r0"})
+        run.send({"op": "info", "id": "r0"})
         _, found = run.awaits(lambda value: "queued" in value, after=before)
         self.assertEqual((len(found["queued"]), found["running"]), (2, None), "its actions are neither begun nor answered")
         # (the kill is repeated each second, and is reported once)
@@ -263,7 +263,7 @@ class Endings(helper.Check):
             self.assertEqual((end["outcome"], end["code"]), ("done", 0))
         self.eventually("60 waits are over", lambda: self.said().count(" waits no longer: ") == 60)
 
-    def behind(self, mount):
+    def with_mount(self, mount):
         """A serving run with a mount of its own, with a copy of the shell to run agents."""
         shell = self.place("sh")
         shutil.copy("/bin/sh", shell)
@@ -272,8 +272,8 @@ class Endings(helper.Check):
             script.write(f"#!{shell}\n[ \"$1\" != start ] || {shell} {self.note} child\n:\n")
         os.chmod(self.place("resource.d/test/Direct"), 0o755)
         words = f"{mount} && exec {helper.PROGRAM} serve --memory --root {self.here}"
-        run = self.heard("-m", shell, "-c", words, err=self.err, program="unshare")
-        run.tell(helper.register("r1", "Direct", up=self.up), helper.action("r1", "start", timeout=2000))
+        run = self.started("-m", shell, "-c", words, err=self.err, program="unshare")
+        run.send(helper.register("r1", "Direct", up=self.up), helper.action("r1", "start", timeout=2000))
         child = self.awaits_pid("child")
         _, notice = run.awaits(helper.is_notice)
         self.assertEqual(notice["outcome"], "timed-out")
@@ -282,11 +282,11 @@ class Endings(helper.Check):
     @unittest.skipUnless(os.getuid() == 0 and can("unshare", "-m", "true"), "run as root, with unshare")
     def test_no_shell(self):
         """if no shell can be run, the agent itself is killed, and its resource is held as long as what it started lives"""
-        run, child = self.behind("mount --bind /dev/null /bin/sh")
+        run, child = self.with_mount("mount --bind /dev/null /bin/sh")
         self.assertRegex(self.said(), r"ocfexec: r1 waits for pid \d+ \(\w+\) of start, ")
-        run.tell(helper.action("r1", "stop"), helper.register("r2", "Direct", up=self.up), helper.action("r2", "monitor"))
+        run.send(helper.action("r1", "stop"), helper.register("r2", "Direct", up=self.up), helper.action("r2", "monitor"))
         run.awaits(lambda value: helper.is_notice(value, id="r2", outcome="done"))
-        self.assertEqual([end for end in run.told() if end["action"] == "stop"], [], "no stop beside the start")
+        self.assertEqual([end for end in run.notices() if end["action"] == "stop"], [], "no stop beside the start")
         self.assertTrue(helper.is_alive(child), "what the start began lives")
         os.kill(child, signal.SIGKILL)
         run.awaits(lambda value: helper.is_notice(value, id="r1", action="stop", outcome="done"))
@@ -294,7 +294,7 @@ class Endings(helper.Check):
     @unittest.skipUnless(os.getuid() == 0 and can("unshare", "-m", "true"), "run as root, with unshare")
     def test_no_proc(self):
         """if /proc lists nothing, the agent's group is killed, and a line says that other processes cannot be found"""
-        _, child = self.behind("mount -t tmpfs none /proc")
+        _, child = self.with_mount("mount -t tmpfs none /proc")
         self.eventually("its child ends", lambda: not helper.is_alive(child))
         self.assertIn("ocfexec: cannot find and stop all processes that a killed action started: ", self.said())
 

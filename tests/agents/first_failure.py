@@ -39,7 +39,7 @@ class FirstFailure(helper.Check):
 
     def does(self, *lines):
         done = helper.run("run", "--journal", self.journal, "--meta-variables", "--logs", self.logs,
-                          told="".join(json.dumps(line) + "\n" for line in lines).encode())
+                          sent="".join(json.dumps(line) + "\n" for line in lines).encode())
         self.assertEqual(done.returncode, 0, done.stderr)
 
     def registered(self, name, kind, **params):
@@ -85,9 +85,9 @@ class FirstFailure(helper.Check):
 
     def test_interrupted(self):
         """Whether a start was interrupted, and what came after it."""
-        run = self.heard("run", "--journal", self.journal, "--root", self.here)
+        run = self.started("run", "--journal", self.journal, "--root", self.here)
         self.agent("Slow", "sleep 1\n")
-        run.tell({"op": "register", "id": "slow", "provider": "test", "type": "Slow"}, helper.action("slow", "start"), {"op": "drain"})
+        run.send({"op": "register", "id": "slow", "provider": "test", "type": "Slow"}, helper.action("slow", "start"), {"op": "drain"})
         time.sleep(0.5)
         os.kill(run.run.pid, signal.SIGKILL)
         run.run.wait()

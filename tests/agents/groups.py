@@ -35,7 +35,7 @@ COMET = """#!/bin/sh
 echo flies >> {up}/flown
 {here}/comet &
 """
-# A service whose master stays in the group of its start, and makes workers when it is told to: each of them has lost its parent.
+# A service whose master stays in the group of its start, and makes workers when it is asked to: each of them has lost its parent.
 MASTER = """#!/bin/sh
 echo $$ > {up}/master
 until [ -e {up}/more ]; do sleep 0.05; done
@@ -51,7 +51,7 @@ exec sleep 600
 class Groups(acting.Acting):
     def neighbour(self, run):
         """Another resource whose start waits at the gate."""
-        run.tell(self.register("r2", start="echo r2 >> UP/begins; WAITS neighbour"), helper.action("r2", "start", timeout=600_000))
+        run.send(self.register("r2", start="echo r2 >> UP/begins; WAITS neighbour"), helper.action("r2", "start", timeout=600_000))
         return self.pid("neighbour")
 
     def is_untouched(self, run, pid):
@@ -68,9 +68,9 @@ class Groups(acting.Acting):
     def kills(self, says, way="serve"):
         outcome, number = SAYS[says]
         run = self.opened(way=way)
-        run.tell(self.register(monitor=says))
+        run.send(self.register(monitor=says))
         pid = self.neighbour(run) if way == "serve" else None
-        run.tell(helper.action("r1", "monitor", timeout=600_000 if number else 1000), *[{"op": "drain"}] * (way == "run"))
+        run.send(helper.action("r1", "monitor", timeout=600_000 if number else 1000), *[{"op": "drain"}] * (way == "run"))
         [end] = self.ends_of(run, "r1", "monitor")
         self.assertEqual((end["outcome"], end.get("signal")), (outcome, number if way == "serve" else None), self.seen())
         if pid:
@@ -102,16 +102,16 @@ class Groups(acting.Acting):
     def test_kill_again(self):
         """a recurring monitor that says kill -9 0 each time ends neither its executor nor a start beside it"""
         run = self.opened()
-        run.tell(self.register(monitor="echo r1 >> UP/monitors; kill -9 0"))
+        run.send(self.register(monitor="echo r1 >> UP/monitors; kill -9 0"))
         pid = self.neighbour(run)
-        run.tell({"op": "recur", "id": "r1", "interval": 50})
+        run.send({"op": "recur", "id": "r1", "interval": 50})
         monitors = os.path.join(self.up, "monitors")
         self.eventually("five monitors", lambda: run.is_over or os.path.exists(monitors) and os.path.getsize(monitors) >= 5 * len("r1\n"))
         self.assertIsNone(run.run.poll(), "the executor of all of them runs")
         self.is_untouched(run, pid)
 
     def test_kill_once(self):
-        """an agent that says kill 0 ends itself, and once tells its signal as its status"""
+        """an agent that says kill 0 ends itself, and once ends with its signal as its status"""
         for says, (_, number) in SAYS.items():
             with self.subTest(says):
                 done = helper.run("once", "--root", self.here, "--timeout", "20000" if number else "1000", "test:Acts", "monitor",
@@ -121,17 +121,17 @@ class Groups(acting.Acting):
     def test_kill_metadata(self):
         """metadata of an agent that says kill 0 are refused, and the executor goes on"""
         run = self.opened()
-        run.tell(helper.register("r1", "Acts"))
+        run.send(helper.register("r1", "Acts"))
         pid = self.neighbour(run)
-        self.agent("Tells", "kill 0\n")
-        reply = self.answered(run, {"op": "meta", "provider": "test", "type": "Tells"})
+        self.agent("Kills", "kill 0\n")
+        reply = self.answered(run, {"op": "meta", "provider": "test", "type": "Kills"})
         self.assertIn("end", reply, "no metadata")
         self.is_untouched(run, pid)
 
     def finds_itself(self, *words, program=None, **how):
         """What an agent notes of itself: its number, its parent, its group and its session."""
         run = self.opened(*words, program=program, **how)
-        run.tell(self.register(monitor=LEADER))
+        run.send(self.register(monitor=LEADER))
         end = self.done(run, "r1", "monitor")
         self.assertEqual((end["outcome"], end["code"]), ("done", 0), self.seen())
         with open(os.path.join(self.up, "leader"), encoding="ascii") as leader:
@@ -172,8 +172,8 @@ class Groups(acting.Acting):
         # (the file is hidden from then on)
         hides = hides.partition(" && ")[0]
         words = f"{hides} && exec {self.alone()} serve --memory --root {self.here}"
-        run = self.heard("-m", "sh", "-c", words, err=self.err, program="unshare", start_new_session=True)
-        run.tell(self.register(monitor=LEADER))
+        run = self.started("-m", "sh", "-c", words, err=self.err, program="unshare", start_new_session=True)
+        run.send(self.register(monitor=LEADER))
         end = self.done(run, "r1", "monitor")
         self.assertEqual((end["outcome"], end["code"]), ("done", 0), self.seen())
         with open(os.path.join(self.up, "leader"), encoding="ascii") as leader:
@@ -187,7 +187,7 @@ class Groups(acting.Acting):
         _, group, session, executor = self.finds_itself("--no-groups")
         self.assertEqual((group, session), (executor, executor))
         run = self.opened("--no-groups")
-        run.tell(self.register(start="HERE/waits child; :"))
+        run.send(self.register(start="HERE/waits child; :"))
         self.assertEqual(self.done(run, "r1", "start", timeout=4000)["outcome"], "timed-out")
         self.assertNotEqual(self.noted("child"), [], "it began")
         self.is_down(run)
@@ -197,7 +197,7 @@ class Groups(acting.Acting):
         found = {}
         for way, words, program in (("none", ["--no-groups"], None), ("launcher", [], None), ("setsid", [], self.alone())):
             run = self.opened(*words, program=program)
-            run.tell(self.register(monitor=FINDS))
+            run.send(self.register(monitor=FINDS))
             end = self.done(run, "r1", "monitor")
             self.assertEqual((end["outcome"], end["code"]), ("done", 0), self.seen())
             self.assertEqual(run.ends(), 0)
@@ -209,7 +209,7 @@ class Groups(acting.Acting):
         self.assertEqual(found["setsid"], found["none"])
 
     def test_not_run(self):
-        """an agent that is missing or may not be run is told as such, and one without a first line for the system is run by the shell"""
+        """an agent that is missing or may not be run is reported so, and one without a first line for the system is run by the shell"""
         for name, text, mode in (("Denied", "#!/bin/sh\n", 0o644), ("Plain", "exit 7\n", 0o755), ("Lost", "#!/nonexistent/sh\n", 0o755)):
             with open(self.place(f"resource.d/test/{name}"), "w", encoding="ascii") as file:
                 file.write(text)
@@ -218,7 +218,7 @@ class Groups(acting.Acting):
         wanted = {"Missing": ("not-started", 5), "Denied": ("not-started", 4), "Folder": ("not-started", 4), "Plain": ("done", 7),
                   "Lost": ("done", 127)}
         run = self.opened()
-        run.tell(*[helper.register(name, name) for name in wanted])
+        run.send(*[helper.register(name, name) for name in wanted])
         for name, (outcome, code) in wanted.items():
             end = self.done(run, name, "monitor")
             self.assertEqual((end["outcome"], end["code"]), (outcome, code), f"{name}: {self.seen()}")
@@ -233,7 +233,7 @@ class Groups(acting.Acting):
             fcntl.ioctl(terminal, termios.TIOCSCTTY, 0)
         run = self.opened("--journal", self.journal(), *words, start_new_session=False, preexec_fn=lead, pass_fds=[terminal])
         os.close(terminal)
-        run.tell(self.register(start="trap 'echo 2 > UP/got; exit 1' INT; WAITS child; :"), helper.action("r1", "start", timeout=600_000))
+        run.send(self.register(start="trap 'echo 2 > UP/got; exit 1' INT; WAITS child; :"), helper.action("r1", "start", timeout=600_000))
         child = self.pid("child")
         os.write(main, b"\x03")
         try:
@@ -263,9 +263,9 @@ class Groups(acting.Acting):
         go = os.path.join(self.up, "go")
         self.addCleanup(lambda: os.path.exists(go) and os.remove(go))
         run = self.opened()
-        run.tell(self.register(start=": > UP/go; n=0; while [ $n -lt 60 ]; do HERE/comet & n=$((n + 1)); done; wait; WAITS bomb"),
+        run.send(self.register(start=": > UP/go; n=0; while [ $n -lt 60 ]; do HERE/comet & n=$((n + 1)); done; wait; WAITS bomb"),
                  self.register("r2", monitor="echo r2 >> UP/monitors"))
-        run.tell({"op": "recur", "id": "r2", "interval": 100}, helper.action("r1", "start", timeout=4000))
+        run.send({"op": "recur", "id": "r2", "interval": 100}, helper.action("r1", "start", timeout=4000))
         [end] = self.ends_of(run, "r1", "start")
         self.assertEqual(end["outcome"], "timed-out", self.seen())
         # (a process that looks for them, on a busy machine, may not see one of them)
@@ -276,7 +276,7 @@ class Groups(acting.Acting):
                         os.path.getsize(monitors) >= before + 5 * len("r2\n"))
         # (the stop begins only when nothing of the start is known to live)
         self.assertEqual(self.done(run, "r1", "stop")["outcome"], "done")
-        self.assertTrue(os.path.exists(go), "the comets were not told to end")
+        self.assertTrue(os.path.exists(go), "the comets were not asked to end")
         self.assertEqual([(pid, acting.words_of(pid)) for pid in acting.with_word(self.place("comet"))], [], "nothing of it is left")
 
     def test_workers(self):
@@ -284,10 +284,10 @@ class Groups(acting.Acting):
         for name, text in (("master", MASTER), ("worker", WORKER)):
             self.script(name, text.format(up=self.up, here=self.here))
         run = self.opened()
-        run.tell(self.register(start="HERE/master < /dev/null > /dev/null 2>&1 & :", monitor="WAITS hung; :"))
+        run.send(self.register(start="HERE/master < /dev/null > /dev/null 2>&1 & :", monitor="WAITS hung; :"))
         self.assertEqual(self.done(run, "r1", "start")["code"], 0)
         master = self.pid("master")
-        run.tell(helper.action("r1", "monitor", timeout=4000))
+        run.send(helper.action("r1", "monitor", timeout=4000))
         hung = self.pid("hung")
         with open(os.path.join(self.up, "more"), "w", encoding="ascii"):
             pass
@@ -303,8 +303,8 @@ class Groups(acting.Acting):
     def test_group_of_its_start(self):
         """a service in the group of its start is ended by a timeout of that start"""
         run = self.opened()
-        run.tell(self.register(start="WAITS service1 & WAITS agent"))
-        run.tell(helper.action("r1", "start", timeout=4000))
+        run.send(self.register(start="WAITS service1 & WAITS agent"))
+        run.send(helper.action("r1", "start", timeout=4000))
         service = self.pid("service1")
         [end] = self.ends_of(run, "r1", "start")
         self.assertEqual(end["outcome"], "timed-out")
@@ -314,7 +314,7 @@ class Groups(acting.Acting):
     def beside(self, run, name, begins):
         """A start of this resource passes its timeout; what another executor begins meanwhile, with a process whose parent has ended,
         is not touched by that."""
-        run.tell(self.register(name, start=f"WAITS own-{name} & WAITS agent-{name}"), helper.action(name, "start", timeout=5000))
+        run.send(self.register(name, start=f"WAITS own-{name} & WAITS agent-{name}"), helper.action(name, "start", timeout=5000))
         own = self.pid(f"own-{name}")
         begins()
         pids = [self.pid("first"), self.pid("background")]
@@ -329,7 +329,7 @@ class Groups(acting.Acting):
         """two executors of one session, each with a resource of the same id, do not end each other's agents"""
         first = self.opened("--journal", self.journal("first"), start_new_session=False, err=self.place("first.err"))
         second = self.opened("--journal", self.journal("second"), start_new_session=False)
-        self.beside(second, "r1", lambda: first.tell(
+        self.beside(second, "r1", lambda: first.send(
             self.register(start="(WAITS background &); WAITS first"), helper.action("r1", "start", timeout=600_000)))
         [end] = self.ends_of(first, "r1", "start")
         self.assertEqual((end["outcome"], end["code"]), ("done", 0))
@@ -351,7 +351,7 @@ class Groups(acting.Acting):
         once = self.once("r1", "WAITS own & WAITS agent", 5000)
         own = self.pid("own")
         run = self.opened(start_new_session=False)
-        run.tell(self.register(start="(WAITS background &); WAITS first"), helper.action("r1", "start", timeout=600_000))
+        run.send(self.register(start="(WAITS background &); WAITS first"), helper.action("r1", "start", timeout=600_000))
         pids = [self.pid("first"), self.pid("background")]
         self.assertEqual(once.wait(4 * helper.PATIENCE), 124)
         self.assertFalse(helper.is_alive(own), "what once began has ended")

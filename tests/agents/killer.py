@@ -1,5 +1,5 @@
 #!/usr/bin/env python3
-"""What ends an action where that is hard. Wanted: a start past its timeout stays down behind its stop where no process can be made, in a
+"""What ends an action where that is hard. Wanted: a start past its timeout stays down after its stop where no process can be made, in a
 cgroup at its limit and for a user at its limit; where /proc shows nothing; and after the process that sends the signals was killed, or
 stopped. That process is in a session of its own, if setsid can be run, and ends with its executor. What it could not end is killed again
 each second. Two hundred and fifty agents with large environments that pass
@@ -52,7 +52,7 @@ def can_count():
 class Killer(acting.Acting):
     def begins(self, run, timeout=TIMEOUT, start=LATE):
         """A start under way that would come up late."""
-        run.tell(self.register(start=start), helper.action("r1", "start", timeout=timeout))
+        run.send(self.register(start=start), helper.action("r1", "start", timeout=timeout))
         return self.pid("child")
 
     def passes(self, run, child):
@@ -63,12 +63,12 @@ class Killer(acting.Acting):
 
     def makes_none(self, run):
         """No process can be made any more, so another resource's agent is not started; the start is under way."""
-        run.tell(self.register("r2", monitor=":"))
+        run.send(self.register("r2", monitor=":"))
         self.assertEqual(self.done(run, "r2", "monitor")["outcome"], "not-started", self.seen())
-        self.is_told_before(run)
+        self.has_no_result(run)
 
-    def is_told_before(self, run):
-        self.assertEqual([end["action"] for end in run.told() if end["id"] == "r1"], [], "prepared before the timeout")
+    def has_no_result(self, run):
+        self.assertEqual([end["action"] for end in run.notices() if end["id"] == "r1"], [], "prepared before the timeout")
 
     def written(self, path, text):
         with open(path, "w", encoding="ascii") as file:
@@ -91,11 +91,11 @@ class Killer(acting.Acting):
 
     @unittest.skipUnless(can_count(), "run as root, with a cgroup in which processes are counted")
     def test_no_process_in_cgroup(self):
-        """where a cgroup is at its limit of processes, a start past its timeout stays down behind its stop"""
+        """where a cgroup is at its limit of processes, a start past its timeout stays down after its stop"""
         folder = group_of_processes(f"ocfexec-{os.getpid()}-{time.monotonic_ns()}")
         self.addCleanup(self.removed, folder)
-        run = self.heard("-c", f'echo $$ > {folder}/cgroup.procs && exec "$@"', "sh", helper.PROGRAM, "serve", "--memory", "--root",
-                         self.here, err=self.err, program="/bin/sh", start_new_session=True)
+        run = self.started("-c", f'echo $$ > {folder}/cgroup.procs && exec "$@"', "sh", helper.PROGRAM, "serve", "--memory", "--root",
+                           self.here, err=self.err, program="/bin/sh", start_new_session=True)
         child = self.begins(run)
         self.written(os.path.join(folder, "pids.max"), str(self.counted(folder)))
         self.makes_none(run)
@@ -106,11 +106,11 @@ class Killer(acting.Acting):
     @unittest.skipUnless(os.getuid() == 0 and acting.can("setpriv", f"--reuid={USER}", "--clear-groups", "true") and acting.can("prlimit"),
                          "run as root, with setpriv and prlimit")
     def test_no_process_of_user(self):
-        """where a user is at its limit of processes, a start past its timeout stays down behind its stop"""
+        """where a user is at its limit of processes, a start past its timeout stays down after its stop"""
         # three processes: the executor, the one that sends signals, and one agent, which raises its own limit
-        run = self.heard("--nproc=3:", "setpriv", f"--reuid={USER}", "--regid=65534", "--clear-groups", helper.PROGRAM, "serve",
-                         "--memory", "--root", self.here, err=self.err, program="prlimit", start_new_session=True)
-        run.tell(self.register(start="exec prlimit --nproc=100 sh -c 'HERE/waits child; :'", stop=":"),
+        run = self.started("--nproc=3:", "setpriv", f"--reuid={USER}", "--regid=65534", "--clear-groups", helper.PROGRAM, "serve",
+                           "--memory", "--root", self.here, err=self.err, program="prlimit", start_new_session=True)
+        run.send(self.register(start="exec prlimit --nproc=100 sh -c 'HERE/waits child; :'", stop=":"),
                  helper.action("r1", "start", timeout=TIMEOUT))
         child = self.pid("child")
         self.makes_none(run)
@@ -121,9 +121,9 @@ class Killer(acting.Acting):
 
     @unittest.skipUnless(os.getuid() == 0 and acting.can("unshare", "-m", "true"), "run as root, with unshare")
     def test_no_proc(self):
-        """where /proc shows nothing, a start past its timeout stays down behind its stop"""
+        """where /proc shows nothing, a start past its timeout stays down after its stop"""
         words = f"mount -t tmpfs none /proc && exec {helper.PROGRAM} serve --memory --root {self.here}"
-        run = self.heard("-m", "sh", "-c", words, err=self.err, program="unshare", start_new_session=True)
+        run = self.started("-m", "sh", "-c", words, err=self.err, program="unshare", start_new_session=True)
         child = self.begins(run, timeout=4000)
         self.passes(run, child)
         self.is_down(run)
@@ -135,7 +135,7 @@ class Killer(acting.Acting):
         self.addCleanup(self.removed, folder)
         words = (f"echo $$ > {folder}/cgroup.procs && mount -t tmpfs none /proc && exec {helper.PROGRAM} serve --memory "
                  f"--root {self.here}")
-        run = self.heard("-m", "sh", "-c", words, err=self.err, program="unshare", start_new_session=True)
+        run = self.started("-m", "sh", "-c", words, err=self.err, program="unshare", start_new_session=True)
         child = self.begins(run)
         self.written(os.path.join(folder, "pids.max"), str(self.counted(folder)))
         self.makes_none(run)
@@ -181,7 +181,7 @@ class Killer(acting.Acting):
         pid = self.killer(run)
         child = self.begins(run)
         os.kill(pid, signal.SIGKILL)
-        self.is_told_before(run)
+        self.has_no_result(run)
         self.passes(run, child)
         self.is_down(run)
         # and there is one for the next start
@@ -193,14 +193,14 @@ class Killer(acting.Acting):
         self.assertFalse(helper.is_alive(child), "nothing of the second start is left")
 
     def begins_again(self, run):
-        run.tell(helper.action("r1", "start", timeout=4000))
+        run.send(helper.action("r1", "start", timeout=4000))
         return self.pid("child")
 
     def test_is_stopped(self):
         """a start past its timeout stays down, though the process that sends signals was stopped; another resource goes on"""
         run = self.opened()
         pid = self.killer(run)
-        run.tell(self.register("r2", monitor="exit 7"))
+        run.send(self.register("r2", monitor="exit 7"))
         os.kill(pid, signal.SIGSTOP)
         self.addCleanup(lambda: helper.is_alive(pid) and os.kill(pid, signal.SIGKILL))
         child = self.begins(run, timeout=4000)
@@ -209,7 +209,7 @@ class Killer(acting.Acting):
         self.is_down(run)
         self.assertEqual(self.done(run, "r2", "monitor")["code"], 7)
 
-    def behind(self, *mounts, kept=("--memory",)):
+    def with_mounts(self, *mounts, kept=("--memory",)):
         """An executor in a mount namespace of its own, in which these files lie over others; its agent's shell is no file of the system."""
         shell = self.place("sh")
         if not os.path.exists(shell):
@@ -220,17 +220,17 @@ class Killer(acting.Acting):
             self.script(name, text.replace("#!/bin/sh", f"#!{shell}", 1))
         words = " && ".join([*[f"mount --bind {over} {file}" for over, file in mounts],
                              f"exec {helper.PROGRAM} serve {' '.join(kept)} --root {self.here}"])
-        return self.heard("-m", shell, "-c", words, err=self.err, program="unshare", start_new_session=True)
+        return self.started("-m", shell, "-c", words, err=self.err, program="unshare", start_new_session=True)
 
     @unittest.skipUnless(os.getuid() == 0 and acting.can("unshare", "-m", "true") and shutil.which("setsid"), "run as root, with unshare")
     def test_no_setsid(self):
-        """where setsid is there and cannot be run, a start past its timeout stays down behind its stop"""
+        """where setsid is there and cannot be run, a start past its timeout stays down after its stop"""
         for what, mode in (("may not be run", 0o644), ("is no program", 0o755)):
             with self.subTest(what):
                 over = self.place(f"setsid-{mode:o}")
                 self.written(over, "\x7fELF, and nothing else\n")
                 os.chmod(over, mode)
-                run = self.behind((over, os.path.realpath(shutil.which("setsid"))))
+                run = self.with_mounts((over, os.path.realpath(shutil.which("setsid"))))
                 child = self.begins(run, timeout=4000)
                 self.passes(run, child)
                 self.is_down(run)
@@ -239,13 +239,13 @@ class Killer(acting.Acting):
 
     @unittest.skipUnless(os.getuid() == 0 and acting.can("unshare", "-m", "true") and shutil.which("nsenter"), "run as root, with unshare")
     def test_is_repeated(self):
-        """what could not be killed holds its resource, and is killed as soon as signals can be sent; its begin and its end are told once"""
+        """what could not be killed holds its resource, and is killed as soon as signals can be sent; begin and end of that are lines"""
         folder = self.journal()
-        run = self.behind(("/dev/null", "/bin/sh"), kept=("--journal", folder))
+        run = self.with_mounts(("/dev/null", "/bin/sh"), kept=("--journal", folder))
         child = self.begins(run, timeout=4000)
         [end] = self.ends_of(run, "r1", "start")
         self.assertEqual(end["outcome"], "timed-out")
-        run.tell(helper.action("r1", "stop"), self.register("r2", monitor="exit 7"))
+        run.send(helper.action("r1", "stop"), self.register("r2", monitor="exit 7"))
         # (while kills are repeated in vain)
         until = time.monotonic() + 3
         while time.monotonic() < until:
@@ -253,7 +253,7 @@ class Killer(acting.Acting):
         self.assertTrue(helper.is_alive(child), "it could not be killed")
         status = helper.run("status", "--journal", folder).stdout.decode()
         self.assertRegex(status, r"\bwaits for pid \d+ of start\b")
-        self.assertEqual([end for end in run.told() if end["action"] == "stop"], [], "no stop beside the start")
+        self.assertEqual([end for end in run.notices() if end["action"] == "stop"], [], "no stop beside the start")
         subprocess.run(["nsenter", "-t", str(run.run.pid), "-m", "umount", "/bin/sh"], check=True)
         [stop] = self.ends_of(run, "r1", "stop")
         self.assertEqual((stop["outcome"], stop["code"]), ("done", 0))
@@ -272,21 +272,21 @@ class Killer(acting.Acting):
             return [float(word) for word in text.read().split("\n")[:-1]]
 
     def latest(self, count):
-        """How late the latest of the monitors behind the first of these began."""
+        """How late the latest of the monitors after the first of these began."""
         found = self.stamps()[count:]
         return max(after - before for before, after in zip(found, found[1:])) - INTERVAL / 1000
 
     def passes_at_once(self, run):
         """How late the latest monitor of the other resource began while all agents passed their timeouts, and while they ran."""
-        told = len([end for end in run.told() if end["action"] == "start"])
-        run.tell(*[helper.action(f"r{n}", "start", timeout=20_000) for n in range(MANY)])
+        before_them = len([end for end in run.notices() if end["action"] == "start"])
+        run.send(*[helper.action(f"r{n}", "start", timeout=20_000) for n in range(MANY)])
         self.eventually("250 agents run", lambda: sum(one["running"] is not None for one in self.statuses(run)) >= MANY)
         before = len(self.stamps())
         self.eventually("monitors while they run", lambda: len(self.stamps()) >= before + 15)
         quiet = self.latest(before)
-        self.eventually("250 timeouts", lambda: len([end for end in run.told() if end["action"] == "start"]) >= told + MANY)
+        self.eventually("250 timeouts", lambda: len([end for end in run.notices() if end["action"] == "start"]) >= before_them + MANY)
         ended = len(self.stamps())
-        self.eventually("monitors behind them", lambda: len(self.stamps()) >= ended + 5)
+        self.eventually("monitors after them", lambda: len(self.stamps()) >= ended + 5)
         late = self.latest(before)
         print(f"killer: the latest monitor began {late:.2f} s late, and {quiet:.2f} s while all agents ran", flush=True)
         return late, quiet
@@ -295,10 +295,10 @@ class Killer(acting.Acting):
     def test_many(self):
         """while 250 agents with parameters of 15 KiB pass their timeouts at once, no monitor of another resource is late"""
         run = self.opened()
-        run.tell(self.register("other", monitor=STAMPS), {"op": "recur", "id": "other", "interval": INTERVAL})
+        run.send(self.register("other", monitor=STAMPS), {"op": "recur", "id": "other", "interval": INTERVAL})
         large = {f"large{n}": "x" * 1024 for n in range(LARGE // 1024)}
         for n in range(MANY):
-            run.tell(self.register(f"r{n}", start="exec sleep 601", **large))
+            run.send(self.register(f"r{n}", start="exec sleep 601", **large))
         self.eventually("250 resources", lambda: len(self.answered(run, {"op": "list"})["resources"]) == MANY + 1)
         # (a busy machine may be late once, and a program that looks at each environment for each agent is late each time)
         for _ in range(3):
@@ -307,7 +307,7 @@ class Killer(acting.Acting):
             if late < most:
                 break
         self.took_less(most, late, "a monitor's delay")
-        self.assertEqual({end["outcome"] for end in run.told() if end["action"] == "start"}, {"timed-out"})
+        self.assertEqual({end["outcome"] for end in run.notices() if end["action"] == "start"}, {"timed-out"})
 
     def statuses(self, run):
         return self.answered(run, {"op": "status"})["status"]

@@ -62,7 +62,7 @@ class Logs(WithLogs):
     def does(self, does, *words, name="web", timeout=20000):
         """A run with one start of an agent that does this; its log is in a directory if no other arguments are given."""
         words = words or ("--logs", self.logs)
-        return helper.run("run", "--memory", "--root", self.here, *words, told=helper.lines(
+        return helper.run("run", "--memory", "--root", self.here, *words, sent=helper.lines(
             helper.register(name, "Says", does=does), helper.action(name, "start", timeout=timeout), {"op": "drain"}))
 
     def test_begin_and_end(self):
@@ -122,7 +122,7 @@ class Logs(WithLogs):
 
     def test_missing(self):
         """an agent that is missing was not started"""
-        done = helper.run("run", "--memory", "--root", self.here, "--logs", self.logs, told=helper.lines(
+        done = helper.run("run", "--memory", "--root", self.here, "--logs", self.logs, sent=helper.lines(
             helper.register("web", "None"), helper.action("web", "start"), {"op": "drain"}))
         self.ends_with(done, outcome="not-started")
         self.assertEqual(without_moments(self.read()), "MOMENT call 1 begins as run 1: start, timeout 20000 ms\n"
@@ -130,8 +130,8 @@ class Logs(WithLogs):
 
     def test_end_of_input(self):
         """an agent that runs when the input ends was killed"""
-        run = self.heard("serve", "--memory", "--root", self.here, "--logs", self.logs)
-        run.tell(helper.register("web", "Says", does="exec sleep 60"), helper.action("web", "start"))
+        run = self.started("serve", "--memory", "--root", self.here, "--logs", self.logs)
+        run.send(helper.register("web", "Says", does="exec sleep 60"), helper.action("web", "start"))
         self.awaits_log("start fails: no such device\n")
         self.assertEqual(run.ends(), 0)
         self.assertRegex(self.read(), r"run 1 was killed after \d+ ms\n$")
@@ -146,16 +146,16 @@ class Logs(WithLogs):
 
     def test_rotated(self):
         """a renamed log gets the output of the running agent, and a new one has the next action"""
-        run = self.heard("serve", "--memory", "--root", self.here, "--logs", self.logs)
+        run = self.started("serve", "--memory", "--root", self.here, "--logs", self.logs)
         go = self.place("go")
-        run.tell(helper.register("web", "Says", does=f"while [ ! -e {go} ]; do sleep 0.05; done; echo went on"),
+        run.send(helper.register("web", "Says", does=f"while [ ! -e {go} ]; do sleep 0.05; done; echo went on"),
                  helper.action("web", "start"))
         self.awaits_log("start fails")
         os.rename(os.path.join(self.logs, "web.log"), os.path.join(self.logs, "web.log.1"))
         with open(go, "w", encoding="ascii"):
             pass
         run.awaits(lambda value: helper.is_notice(value, action="start", code=0))
-        run.tell(helper.action("web", "stop"))
+        run.send(helper.action("web", "stop"))
         run.awaits(lambda value: helper.is_notice(value, action="stop", code=0))
         self.assertEqual(run.ends(), 0)
         self.assertTrue(self.read("web.log.1").endswith("went on\n"), self.read("web.log.1"))
@@ -182,7 +182,7 @@ class Logs(WithLogs):
     def test_missing_directory(self):
         """a directory that is missing is named at the start, and its log once for two actions; both are done"""
         gone = self.place("gone")
-        done = helper.run("run", "--memory", "--root", self.here, "--logs", gone, told=helper.lines(
+        done = helper.run("run", "--memory", "--root", self.here, "--logs", gone, sent=helper.lines(
             helper.register("web", "Says"), helper.action("web", "start"), helper.action("web", "stop"), {"op": "drain"}))
         self.assertEqual([value["code"] for value in helper.replies(done.stdout) if helper.is_notice(value)], [0, 0])
         self.names(done, f"ocfexec: logs {gone}: No such file or directory (os error 2); the output of agents is lost until it is there",
@@ -251,7 +251,7 @@ class OfDebian(WithLogs):
     """The agents of Debian's package."""
 
     def start(self, kind, **params):
-        return helper.run("run", "--memory", "--meta-variables", "--logs", self.logs, told=helper.lines(
+        return helper.run("run", "--memory", "--meta-variables", "--logs", self.logs, sent=helper.lines(
             helper.register("web", kind, "heartbeat", **params), helper.action("web", "start", timeout=60000), {"op": "drain"}))
 
     def test_dummy(self):

@@ -8,11 +8,11 @@ sys.path[0] += "/../lib"
 import helper  # noqa: E402
 
 # An agent that notes its environment under the name of its action, but what the shell itself sets.
-TELLER = """env | LC_ALL=C sort | grep -v -e '^PWD=' -e '^SHLVL=' -e '^_=' > "$OCF_RESKEY_to.$1"
+NOTES = """env | LC_ALL=C sort | grep -v -e '^PWD=' -e '^SHLVL=' -e '^_=' > "$OCF_RESKEY_to.$1"
 """
 # The variables of each call of this agent, besides its root and its parameter, and those of its monitor.
 ALWAYS = {"OCF_RA_VERSION_MAJOR": "1", "OCF_RA_VERSION_MINOR": "1", "OCF_RESOURCE_INSTANCE": "r1", "OCF_RESOURCE_PROVIDER": "test",
-          "OCF_RESOURCE_TYPE": "Teller", "PATH": "/usr/sbin:/usr/bin:/sbin:/bin"}
+          "OCF_RESOURCE_TYPE": "Notes", "PATH": "/usr/sbin:/usr/bin:/sbin:/bin"}
 LEVEL = {"OCF_CHECK_LEVEL": "10"}
 # What begins the names of Pacemaker's variables, among those of parameters; and the variables of each action.
 META, OWN = "OCF_RESKEY_CRM_meta_", {"start": {"interval": "0", "name": "start", "timeout": "4321"},
@@ -24,7 +24,7 @@ GIVEN = {"interval": "77", "other": "x"}
 class MetaVariables(helper.Check):
     def setUp(self):
         super().setUp()
-        self.agent("Teller", TELLER)
+        self.agent("Notes", NOTES)
 
     def environment(self, action):
         """What an agent found in this action."""
@@ -32,23 +32,23 @@ class MetaVariables(helper.Check):
             return dict(line.split("=", 1) for line in file.read().splitlines())
 
     def ended(self, run, action, waits):
-        """Tells the run to wait, again and again, until this action has ended."""
+        """Lets the run wait, again and again, until this action has ended."""
         def notice():
             before = len(run.values())
-            run.tell(waits)
+            run.send(waits)
             run.awaits(lambda value: "end" in value, after=before)
-            return [value for value in run.told() if value["action"] == action]
+            return [value for value in run.notices() if value["action"] == action]
         [found] = self.eventually(f"the end of {action}", notice)
         self.assertEqual((found["outcome"], found["code"]), ("done", 0), run.state())
 
     def find(self, own, *words, **given):
         """A start and a recurring monitor with these parameters find these variables of Pacemaker, and no others but those of each
         agent."""
-        run = self.heard("run", "--memory", "--root", self.here, *words)
+        run = self.started("run", "--memory", "--root", self.here, *words)
         params = {f"CRM_meta_{name}": value for name, value in given.items()}
-        run.tell(helper.register("r1", "Teller", to=self.place("noted"), **params), helper.action("r1", "start", timeout=4321))
+        run.send(helper.register("r1", "Notes", to=self.place("noted"), **params), helper.action("r1", "start", timeout=4321))
         self.ended(run, "start", {"op": "drain"})
-        run.tell({"op": "recur", "id": "r1", "interval": 12000, "timeout": 5000, "level": 10})
+        run.send({"op": "recur", "id": "r1", "interval": 12000, "timeout": 5000, "level": 10})
         self.ended(run, "monitor", {"op": "watch", "limit": 300})
         self.assertEqual(run.ends(), 0)
         for action, more in (("start", {}), ("monitor", LEVEL)):

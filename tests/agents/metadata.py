@@ -47,13 +47,13 @@ class Metadata(helper.Check):
         with open(self.place("takes"), "w", encoding="ascii") as file:
             file.write(str(seconds))
 
-    def heard_with(self, *words):
-        return self.heard(*words, "--root", self.here)
+    def started_with(self, *words):
+        return self.started(*words, "--root", self.here)
 
     def monitored(self, word="serve", interval=100):
         # a run in which a monitor is due each n milliseconds, and another resource is registered
-        run = self.heard_with(word, "--memory")
-        run.tell(helper.register("m", "Works"), helper.register("s", "Works"), {"op": "recur", "id": "m", "interval": interval})
+        run = self.started_with(word, "--memory")
+        run.send(helper.register("m", "Works"), helper.register("s", "Works"), {"op": "recur", "id": "m", "interval": interval})
         run.awaits(lambda value: "key" in value)
         return run
 
@@ -84,7 +84,7 @@ class Metadata(helper.Check):
         """while an agent takes three seconds for its metadata monitors go on and a start times out; then both lines are answered"""
         run = self.monitored(interval=500)
         began = time.monotonic()
-        run.tell(action("s", "start", timeout=1000), meta("Slow"), LIST)
+        run.send(action("s", "start", timeout=1000), meta("Slow"), LIST)
         self.after(run, began, 0.9, 1.5, lambda value: helper.is_notice(value, id="s", outcome="timed-out"))
         at = self.after(run, began, 2.9, 4, lambda value: "metadata" in value)
         self.after(run, at, 0, 0.5, lambda value: "resources" in value)
@@ -96,7 +96,7 @@ class Metadata(helper.Check):
         """an agent that is past its limit is ended with its child, and monitors go on until then"""
         run = self.monitored()
         began = time.monotonic()
-        run.tell(meta("Slow", limit=1000), LIST)
+        run.send(meta("Slow", limit=1000), LIST)
         pids = self.pids()
         at = self.after(run, began, 1, 1.5, lambda value: value.get("end") == "limit")
         self.came_often(5, self.monitors(run, began, at), "monitors until the limit of a second")
@@ -125,8 +125,8 @@ class Metadata(helper.Check):
         # (longer than the end of the processes is awaited)
         self.takes(600)
         folder = self.journal()
-        run = self.heard_with("serve", "--journal", folder)
-        run.tell(meta("Slow"))
+        run = self.started_with("serve", "--journal", folder)
+        run.send(meta("Slow"))
         pids, began = self.pids(), time.monotonic()
         shutil.rmtree(folder)
         self.assertEqual(run.run.wait(helper.PATIENCE), 5)
@@ -137,7 +137,7 @@ class Metadata(helper.Check):
         """two questions one after the other are answered in that order, also if the input ends after them"""
         self.takes(1)
         began = time.monotonic()
-        done = helper.run("serve", "--memory", "--root", self.here, told=helper.lines(meta("Slow"), meta("Other"), LIST))
+        done = helper.run("serve", "--memory", "--root", self.here, sent=helper.lines(meta("Slow"), meta("Other"), LIST))
         took = time.monotonic() - began
         self.assertGreaterEqual(took, 2, "seconds of two agents, one after the other")
         self.took_less(4, took, "two agents, one after the other")
@@ -148,15 +148,15 @@ class Metadata(helper.Check):
         """run waits for its agent, and makes no turn"""
         run = self.monitored("run")
         began = time.monotonic()
-        run.tell(meta("Slow"), LIST)
+        run.send(meta("Slow"), LIST)
         at = self.after(run, began, 2.9, 4, lambda value: "meta" in value)
         self.after(run, at, 0, 0.5, lambda value: "resources" in value)
-        self.assertEqual(run.told(), [])
+        self.assertEqual(run.notices(), [])
         self.assertEqual(run.ends(), 0)
 
     def answers(self, word, *lines):
         """The answers of a run to these lines, in its own words."""
-        done = helper.run(word, "--memory", "--root", self.here, told=helper.lines(*lines))
+        done = helper.run(word, "--memory", "--root", self.here, sent=helper.lines(*lines))
         self.assertEqual(done.returncode, 0)
         return [line for line in done.stdout.decode().splitlines() if '"ready"' not in line]
 
@@ -164,10 +164,10 @@ class Metadata(helper.Check):
     def test_no_limit(self):
         """without a limit run waits as long as its agent takes, and serve half a minute"""
         self.takes(33)
-        run, serve = self.heard_with("run", "--memory"), self.heard_with("serve", "--memory")
+        run, serve = self.started_with("run", "--memory"), self.started_with("serve", "--memory")
         began = time.monotonic()
         for one in (run, serve):
-            one.tell(meta("Slow"))
+            one.send(meta("Slow"))
         self.after(serve, began, 29.5, 31.5, lambda value: value == {"end": "limit"})
         self.after(run, began, 32.5, 36, lambda value: value == {"meta": 13})
         self.assertEqual((run.ends(), serve.ends()), (0, 0))
@@ -196,8 +196,8 @@ class Metadata(helper.Check):
                  "Closes": "exec sleep 5 > /dev/null\n", "Leaves": "sleep 2 &\n", "Nothing": "exit 0\n", "Hangs": "exec sleep 5\n"}
         for kind, body in kinds.items():
             self.agent(kind, body)
-        told = helper.lines(*[meta(kind, limit=500 if kind in ("Closes", "Leaves", "Hangs") else 60_000) for kind in [*kinds, "None"]])
-        served, done = [helper.run(word, "--memory", "--root", self.here, told=told) for word in ("serve", "run")]
+        sent = helper.lines(*[meta(kind, limit=500 if kind in ("Closes", "Leaves", "Hangs") else 60_000) for kind in [*kinds, "None"]])
+        served, done = [helper.run(word, "--memory", "--root", self.here, sent=sent) for word in ("serve", "run")]
         long = b"123456789012345\n" * 4096
         ends = ['{"end":"too-long"}', '{"code":5,"end":"failed"}', '{"code":1,"end":"failed"}', '{"end":"limit"}', '{"end":"limit"}',
                 '{"meta":0}', "", '{"end":"limit"}', '{"end":"missing"}', ""]

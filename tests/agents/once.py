@@ -28,7 +28,7 @@ class Once(helper.Check):
     def test_output(self):
         """The agent's output is the program's output, each stream by itself, and the agent's input is empty."""
         self.agent("Talks", 'cat; echo out; echo "ocf-exit-reason:no" >&2; exit 6\n')
-        self.assertEqual(self.once("test:Talks", "start", told=b"unread"), (6, "out\n", "ocf-exit-reason:no\n"))
+        self.assertEqual(self.once("test:Talks", "start", sent=b"unread"), (6, "out\n", "ocf-exit-reason:no\n"))
         self.assertEqual(self.once("test:Talks", "meta-data"), (6, "out\n", "ocf-exit-reason:no\n"))
 
     def test_variables(self):
@@ -36,8 +36,8 @@ class Once(helper.Check):
         self.agent("Env", "echo \"$1\"; env -0 | tr '\\0' '\\n' | grep -v -e ^PWD= -e ^SHLVL= -e ^_= -e ^OLDPWD= | sort\n")
         own = [f"OCF_ROOT={self.here}", "OCF_RA_VERSION_MAJOR=1", "OCF_RA_VERSION_MINOR=1", "OCF_RESOURCE_PROVIDER=test",
                "OCF_RESOURCE_TYPE=Env", "PATH=/usr/bin:/bin"]
-        told = self.once("--path", "/usr/bin:/bin", "test:Env", "meta-data", "a=1")
-        self.assertEqual(told, (0, "\n".join(["meta-data", *sorted(own), ""]), ""))
+        found = self.once("--path", "/usr/bin:/bin", "test:Env", "meta-data", "a=1")
+        self.assertEqual(found, (0, "\n".join(["meta-data", *sorted(own), ""]), ""))
         named = ["OCF_RESKEY_a=2", "OCF_RESKEY_b=x=y", "OCF_RESOURCE_INSTANCE=web"]
         self.assertEqual(self.once("--path=/usr/bin:/bin", "--id", "web", "test:Env", "stop", "a=1", "b=x=y", "a=2"),
                          (0, "\n".join(["stop", *sorted(own + named), ""]), ""))
@@ -101,7 +101,7 @@ class OfAJournal(helper.Check):
         self.agent("Env", 'echo "$1 $OCF_RESOURCE_INSTANCE $OCF_RESKEY_a $OCF_CHECK_LEVEL"\n')
         self.agent("Waits", '[ "$1" != start ] || { echo $$ > "$OCF_RESKEY_pid"; exec sleep 60; }\n')
         commands = helper.lines(helper.register("web", "Env", a="b c"), helper.register("slow", "Waits", pid=self.place("pid")))
-        helper.run("run", "--root", self.here, "--journal", self.folder, told=commands)
+        helper.run("run", "--root", self.here, "--journal", self.folder, sent=commands)
 
     def once(self, *words, **how):
         done = helper.run("once", "--root", self.here, *words, **how)
@@ -126,8 +126,8 @@ class OfAJournal(helper.Check):
 
     def starts(self):
         """An executor of the journal that runs a start, and the number of its agent."""
-        server = self.heard("serve", "--root", self.here, "--journal", self.folder)
-        server.tell(helper.action("slow", "start", timeout=50000))
+        server = self.started("serve", "--root", self.here, "--journal", self.folder)
+        server.send(helper.action("slow", "start", timeout=50000))
         return server, self.numbers_in(self.place("pid"))[0]
 
     def test_busy(self):

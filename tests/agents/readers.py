@@ -66,7 +66,7 @@ class Readers(acting.Acting):
             self.assertEqual((end["outcome"], end["code"]), ("done", 0), f"{what}, {end}; {run.state()}")
 
     def strict(self, run, name="r1"):
-        run.tell(self.register(name, start=STRICT, stop=STRICT, monitor=STRICT))
+        run.send(self.register(name, start=STRICT, stop=STRICT, monitor=STRICT))
 
     def test_copied(self):
         """a reader gets the output of each action, with the lines of its begin and of its end, in their order"""
@@ -97,7 +97,7 @@ class Readers(acting.Acting):
     def test_goes_amid(self):
         """an agent that writes before and after the reader has gone ends as ever"""
         run = self.piped()
-        run.tell(self.register(start=f"{STRICT}; WAITS agent; {STRICT}", stop=STRICT), helper.action("r1", "start", timeout=600_000))
+        run.send(self.register(start=f"{STRICT}; WAITS agent; {STRICT}", stop=STRICT), helper.action("r1", "start", timeout=600_000))
         self.pid("agent")
         self.goes()
         self.goes_on()
@@ -109,14 +109,14 @@ class Readers(acting.Acting):
     def test_does_not_read(self):
         """an agent that writes more than a pipe holds does not wait for a reader that does not read, nor does the executor"""
         run = self.piped()
-        run.tell(self.register(start=LARGE, stop=LARGE, monitor=":"))
+        run.send(self.register(start=LARGE, stop=LARGE, monitor=":"))
         self.succeeds(run, "start", "stop", "monitor")
         self.assertEqual(self.answered(run, {"op": "list"}), {"ok": True, "resources": ["r1"]})
 
     def test_service(self):
         """a service that keeps its start's output open is not ended by a word, though the reader has gone"""
         run = self.piped()
-        run.tell(self.register(start="HERE/talks & WAITS agent", stop=":"), helper.action("r1", "start", timeout=600_000))
+        run.send(self.register(start="HERE/talks & WAITS agent", stop=":"), helper.action("r1", "start", timeout=600_000))
         service = self.pid("talks")
         self.pid("agent")
         self.goes()
@@ -136,15 +136,15 @@ class Readers(acting.Acting):
         run = self.opened("--log", "-", way="run", err=pipe)
         self.goes()
         self.strict(run)
-        run.tell(*[helper.action("r1", what) for what in ("start", "monitor", "stop")], {"op": "drain"})
+        run.send(*[helper.action("r1", what) for what in ("start", "monitor", "stop")], {"op": "drain"})
         run.awaits(lambda value: value.get("end") == "idle")
-        self.assertEqual([(end["outcome"], end["code"]) for end in run.told()], [("done", 0)] * 3)
+        self.assertEqual([(end["outcome"], end["code"]) for end in run.notices()], [("done", 0)] * 3)
         self.assertEqual(run.ends(), 0)
 
     def at_full_device(self, run):
         """Where no word can be written, a strict agent ends with a code of its own, and everything else as ever."""
         self.strict(run)
-        run.tell(self.register("r2", start=LENIENT, stop=LENIENT, monitor=":"))
+        run.send(self.register("r2", start=LENIENT, stop=LENIENT, monitor=":"))
         for what in ("start", "stop"):
             end = self.done(run, "r1", what)
             self.assertEqual(end["outcome"], "done", f"{end}; {self.seen()}")
@@ -165,8 +165,8 @@ class Readers(acting.Acting):
         os.mkdir(logs)
         full = ('mount -t tmpfs -o size=64k none "$1" && { head -c 1000000 /dev/zero > "$1/filled" || :; } 2> /dev/null'
                 ' && shift && exec "$@"')
-        run = self.heard("-m", "sh", "-c", full, "sh", logs, helper.PROGRAM, "serve", "--memory", "--root", self.here, "--logs", logs,
-                         err=self.err, program="unshare", start_new_session=True)
+        run = self.started("-m", "sh", "-c", full, "sh", logs, helper.PROGRAM, "serve", "--memory", "--root", self.here, "--logs", logs,
+                           err=self.err, program="unshare", start_new_session=True)
         self.at_full_device(run)
         self.assertTrue(self.lines_of(r"\.log: No space left on device\b"), self.said())
         # (the device is seen only by the executor)

@@ -26,7 +26,7 @@ ECHOED = b"""\
 /nowhere/resource.d/pacemaker/Dummy meta-data
 
 """
-# Agents that cannot be started: the end of a question for metadata, the code of a start, and the cause, if these do not tell it. There is
+# Agents that cannot be started: the end of a question for metadata, the code of a start, and the cause, if these do not show it. There is
 # no such file, its directory is a file, it may not be run, and it is a directory. Where the executor itself spawns agents, without groups,
 # it also sees that a file has no first line, and that the program that its first line names is missing.
 NOT_STARTED = (("test", "Nobody", "missing", 5, None), ("file", "Below", "other", 1, "Not a directory (os error 20)"),
@@ -93,15 +93,15 @@ def meta(kind, provider="test", **more):
 class Spawned(helper.Check):
     def played(self, *commands, words=("--via", "sh"), root=None):
         """The output of a run of these commands, which ends well, and its standard error."""
-        done = helper.run("run", "--memory", "--root", root or self.here, *words, told=helper.lines(*commands))
+        done = helper.run("run", "--memory", "--root", root or self.here, *words, sent=helper.lines(*commands))
         self.assertEqual(done.returncode, 0, done.stderr)
         return done.stdout, done.stderr.decode()
 
     def test_through(self):
         """an agent is started through a program, and so is the question for its metadata"""
-        done = helper.run("run", "--memory", "--root", "/nowhere", "--via", "echo", told=THROUGH)
+        done = helper.run("run", "--memory", "--root", "/nowhere", "--via", "echo", sent=THROUGH)
         self.assertEqual((done.returncode, done.stdout), (0, ECHOED))
-        done = helper.run("run", "--memory", "--root", "/nowhere", "--via", "cat", told=THROUGH[:THROUGH.index(b'{"op": "meta"')])
+        done = helper.run("run", "--memory", "--root", "/nowhere", "--via", "cat", sent=THROUGH[:THROUGH.index(b'{"op": "meta"')])
         [notice] = [value for value in helper.replies(done.stdout) if helper.is_notice(value)]
         found = {key: notice[key] for key in ("code", "id", "interval", "name", "outcome")}
         self.assertEqual(found, {"code": 1, "id": "r1", "interval": 0, "name": "OCF_ERR_GENERIC", "outcome": "done"})
@@ -117,7 +117,7 @@ class Spawned(helper.Check):
             pass
 
     def not_started(self, agents, *words):
-        """No start of these agents begins, and no question for their metadata; standard error has the causes that nothing else tells."""
+        """No start of these agents begins, and no question for their metadata; standard error has the causes that nothing else shows."""
         commands = [command for number, (provider, kind, *_) in enumerate(agents, 1) for command in
                     (helper.register(f"r{number}", kind, provider), helper.action(f"r{number}", "start", timeout=5000),
                      meta(kind, provider))]

@@ -1,6 +1,6 @@
 #!/usr/bin/env python3
 """A program of --via without a slash is searched in the agents' PATH, with and without process groups: the first file there that may be run
-is run, and where there is none the action is told as not started.
+is run, and where there is none the action is reported as not started.
 Use: via.py PROGRAM"""
 import os
 import sys
@@ -13,7 +13,7 @@ from helper import action, register  # noqa: E402
 class Via(helper.Check):
     def setUp(self):
         super().setUp()
-        self.agent("Told", "exit 0\n")
+        self.agent("Plain", "exit 0\n")
         for name, mode in {"first/denied": 0o644, "second/denied": 0o644, "second/through": 0o755, "first/through": 0o644}.items():
             path = self.place(name)
             os.makedirs(os.path.dirname(path), exist_ok=True)
@@ -26,7 +26,7 @@ class Via(helper.Check):
         """The outcome and the code of an action by this program."""
         path = f"{self.place('first')}::/nowhere:{self.place('second')}"
         done = helper.run("run", "--memory", "--root", self.here, "--via", via, "--path", path, *words,
-                          told=helper.lines(register("web", "Told"), action("web", "start"), {"op": "drain"}))
+                          sent=helper.lines(register("web", "Plain"), action("web", "start"), {"op": "drain"}))
         notice = next(value for value in helper.replies(done.stdout) if helper.is_notice(value))
         return notice["outcome"], notice["code"]
 

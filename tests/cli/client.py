@@ -30,12 +30,12 @@ import resources  # noqa: E402
 LONGEST = 100  # seconds after which no more executors are killed
 METADATA = """<?xml version="1.0"?>
 <!DOCTYPE resource-agent SYSTEM "ra-api-1.dtd">
-<resource-agent name="Told" version="1.0"><version>1.1</version><parameters>
+<resource-agent name="Described" version="1.0"><version>1.1</version><parameters>
 <parameter name="state"><content type="string"/></parameter><parameter name="configfile"><content type="string"/></parameter>
 </parameters><actions/></resource-agent>
 """
 # an agent with metadata; the others of these checks say nothing about their parameters
-TOLD = """if [ "$1" = meta-data ]; then
+DESCRIBED = """if [ "$1" = meta-data ]; then
 echo meta-data >> {here}/calls
 cat {here}/metadata
 exit
@@ -62,7 +62,7 @@ WRONG = (
     ('{"resources": {"a": {"provider": "p", "type": "T", "timeouts": {"reload": 1}}}}', "resources.a.timeouts.reload: unknown key"),
     ('{"resources": {"a": {"provider": "p", "type": "T", "target": "up"}}}', "resources.a.target: expected started, stopped, promoted or"),
     ('{"resources": {"a": {"provider": "p", "type": "T", "managed": "no"}}}', "resources.a.managed: expected true or false"),
-    ('{"resources": {"a": {"provider": "p", "type": "T", "alert": "tell"}}}', "resources.a.alert: expected the absolute path"),
+    ('{"resources": {"a": {"provider": "p", "type": "T", "alert": "call"}}}', "resources.a.alert: expected the absolute path"),
     ('{"resources": {"a": {"provider": "p", "type": "T", "monitors": {}}}}', "resources.a.monitors: expected a list of at most 7"),
     ('{"resources": {"a": {"provider": "p", "type": "T", "monitors": [{"interval": 0}]}}}', "resources.a.monitors.0.interval: expected"),
     ('{"resources": {"a": {"provider": "p", "type": "T", "monitors": [{"interval": 1, "level": 5}]}}}',
@@ -98,7 +98,7 @@ BEFORE = ("not JSON", "a: this key occurs twice", "resources.a.params: with the 
 class Kept(keeping.Keeping):
     def setUp(self):
         super().setUp()
-        self.agent("Told", (TOLD + keeping.AGENT).format(here=self.here))
+        self.agent("Described", (DESCRIBED + keeping.AGENT).format(here=self.here))
         with open(self.place("metadata"), "w", encoding="ascii") as file:
             file.write(METADATA)
 
@@ -299,30 +299,30 @@ class Kept(keeping.Keeping):
 
     def test_systemd(self):
         """systemd is notified when all resources run, of a reload, of their state, and of the end"""
-        with socket.socket(socket.AF_UNIX, socket.SOCK_DGRAM) as told:
-            told.bind(self.place("notify"))
-            told.settimeout(4 * helper.PATIENCE)
+        with socket.socket(socket.AF_UNIX, socket.SOCK_DGRAM) as messages:
+            messages.bind(self.place("notify"))
+            messages.settimeout(4 * helper.PATIENCE)
             self.wants(a=self.dummy("a"))
             client = self.client(env={**os.environ, "NOTIFY_SOCKET": self.place("notify")})
             for number, wanted in ((None, ["READY=1", "STATUS=running: a"]), (signal.SIGHUP, ["RELOADING=1"]),
                                    (None, ["READY=1", "STATUS=running: a"]), (signal.SIGTERM, ["STOPPING=1", "STATUS=running: a"])):
                 if number:
                     os.kill(client.run.pid, number)
-                found = told.recv(4096).decode().split("\n")
+                found = messages.recv(4096).decode().split("\n")
                 while found[0] != wanted[0]:
-                    found = told.recv(4096).decode().split("\n")
+                    found = messages.recv(4096).decode().split("\n")
                 self.assertEqual(found[:len(wanted)], wanted)
             self.assertEqual(client.run.wait(4 * helper.PATIENCE), 0)
 
     def test_watchdog(self):
         """the watchdog is fed while the executor answers and while there is none, and not while the executor is stopped"""
-        with socket.socket(socket.AF_UNIX, socket.SOCK_DGRAM) as told:
-            told.bind(self.place("notify"))
-            told.settimeout(4 * helper.PATIENCE)
+        with socket.socket(socket.AF_UNIX, socket.SOCK_DGRAM) as messages:
+            messages.bind(self.place("notify"))
+            messages.settimeout(4 * helper.PATIENCE)
             client = self.client("--patience", "200", env={**os.environ, "NOTIFY_SOCKET": self.place("notify"), "WATCHDOG_USEC": "1000000"})
 
             def is_fed():
-                while told.recv(4096) != b"WATCHDOG=1":
+                while messages.recv(4096) != b"WATCHDOG=1":
                     pass
             is_fed()
             is_fed()
@@ -333,26 +333,26 @@ class Kept(keeping.Keeping):
             executor = self.child(client)
             os.kill(executor, signal.SIGSTOP)
             # what was sent before the executor stopped, and perhaps once more
-            self.eventually("it waits for an answer", lambda: self.is_silent(told, 3))
+            self.eventually("it waits for an answer", lambda: self.is_silent(messages, 3))
             os.kill(executor, signal.SIGCONT)
             is_fed()
             self.assertEqual(self.ended(client, signal.SIGTERM), 0)
 
-    def is_silent(self, told, seconds):
+    def is_silent(self, messages, seconds):
         """Whether no message to systemd comes for so long; those that have come are read."""
-        told.setblocking(False)
+        messages.setblocking(False)
         try:
-            while told.recv(4096):
+            while messages.recv(4096):
                 pass
         except BlockingIOError:
             pass
-        told.settimeout(seconds)
+        messages.settimeout(seconds)
         try:
-            told.recv(4096)
+            messages.recv(4096)
         except TimeoutError:
             return True
         finally:
-            told.settimeout(4 * helper.PATIENCE)
+            messages.settimeout(4 * helper.PATIENCE)
         return False
 
     def test_stuck(self):
@@ -372,17 +372,17 @@ class Kept(keeping.Keeping):
         self.assertEqual(self.ended(client, signal.SIGTERM), 0)
 
     def test_slow_opening(self):
-        """an opening that takes longer than the patience is said, and goes on; told to leave meanwhile, the client ends it"""
+        """an opening that takes longer than the patience is said, and goes on; if it is to leave meanwhile, the client ends it"""
         self.wants(a=self.dummy("a"))
         with open(self.place("slow"), "w", encoding="ascii") as file:
             file.write(f'#!/bin/sh\nuntil [ -e {self.here}/good ]; do sleep 0.05; done\nexec "$@"\n')
         os.chmod(self.place("slow"), 0o755)
         words = ("--patience", "2", "--file", self.place("resources.json"), self.place("slow"), PROGRAM, "serve", "--journal",
                  self.place("journal"), "--root", self.here)
-        client = self.heard(*words, program=CLIENT, err=self.place("err"))
+        client = self.started(*words, program=CLIENT, err=self.place("err"))
         self.waits("word of it", lambda: "client: the executor has been opening its journal for " in self.said())
         self.assertEqual(self.ended(client, signal.SIGUSR1), 0)
-        client = self.heard(*words, program=CLIENT, err=self.place("err"))
+        client = self.started(*words, program=CLIENT, err=self.place("err"))
         self.waits("word of it", lambda: "client: the executor has been opening its journal for " in self.said())
         with open(self.place("good"), "w", encoding="ascii"):
             pass
@@ -454,8 +454,8 @@ class Kept(keeping.Keeping):
         with open(self.place("talks"), "w", encoding="ascii") as file:
             file.write(f'#!/bin/sh\n[ -e {self.here}/good ] && exec "$@"\necho good morning\nread -r line\n')
         os.chmod(self.place("talks"), 0o755)
-        client = self.heard("--file", self.place("resources.json"), self.place("talks"), PROGRAM, "serve", "--journal",
-                            self.place("journal"), "--root", self.here, program=CLIENT, err=self.place("err"))
+        client = self.started("--file", self.place("resources.json"), self.place("talks"), PROGRAM, "serve", "--journal",
+                              self.place("journal"), "--root", self.here, program=CLIENT, err=self.place("err"))
         self.waits("two tries", lambda: self.said().count("good morning") >= 2)
         self.assertIn("client: it is tried again in 1 s\n", self.said())
         with open(self.place("good"), "w", encoding="ascii"):
@@ -473,24 +473,25 @@ class Kept(keeping.Keeping):
                                   capture_output=True, text=True, timeout=helper.WHOLE)
             self.assertEqual((done.returncode, done.stderr), (2, f"client: {self.place(name)}: {why}\n"))
 
-    def told(self, name, **params):
-        return {"provider": "test", "type": "Told", "params": {"state": self.place(name), **params}, "interval": 100}
+    def described(self, name, **params):
+        return {"provider": "test", "type": "Described", "params": {"state": self.place(name), **params}, "interval": 100}
 
     def test_check(self):
         """--check names unknown agents and parameters, and asks each agent once; --offline asks none"""
         site = (PROGRAM, "serve", "--journal", self.place("journal"), f"--root={self.here}", "--meta-variables")
-        self.wants(a=self.told("a"), b=self.told("b", configfile="x"), c=self.told("c", trace_ra="1"))
+        self.wants(a=self.described("a"), b=self.described("b", configfile="x"), c=self.described("c", trace_ra="1"))
         self.assertEqual(self.checked(*site), (0, ["3 resources"]))
         self.assertEqual(self.called("meta-data"), 1)
-        self.wants(a=self.told("a", confgfile="x"), b={**self.told("b"), "type": "Tld"}, c=self.told("c", x="y"), d=self.dummy("d"))
-        self.assertEqual(self.checked(*site), (1, ["resources.a.params.confgfile: test:Told has no such parameter; it has configfile",
-                                                   "resources.b.type: there is no agent test:Tld",
-                                                   "resources.c.params.x: test:Told has no such parameter"]))
+        self.wants(a=self.described("a", confgfile="x"), b={**self.described("b"), "type": "Descibed"}, c=self.described("c", x="y"),
+                   d=self.dummy("d"))
+        self.assertEqual(self.checked(*site), (1, ["resources.a.params.confgfile: test:Described has no such parameter; it has configfile",
+                                                   "resources.b.type: there is no agent test:Descibed",
+                                                   "resources.c.params.x: test:Described has no such parameter"]))
         self.assertEqual(self.called("meta-data"), 2)
         self.assertEqual((self.checked("--offline", *site), self.called("meta-data")), ((0, ["4 resources"]), 2))
-        os.chmod(self.place("resource.d/test/Told"), 0o644)
-        self.wants(a=self.told("a"), d=self.dummy("d"))
-        self.assertEqual(self.checked(*site), (1, ["resources.a.type: the agent test:Told may not be run"]))
+        os.chmod(self.place("resource.d/test/Described"), 0o644)
+        self.wants(a=self.described("a"), d=self.dummy("d"))
+        self.assertEqual(self.checked(*site), (1, ["resources.a.type: the agent test:Described may not be run"]))
         self.wants(d=self.dummy("d"))
         self.assertEqual(self.checked(*site), (0, ["1 resources; no metadata, so parameters are not checked: test:Dummy"]))
         self.assertEqual(os.listdir(self.place("journal")), [])
@@ -507,30 +508,30 @@ class Kept(keeping.Keeping):
             self.wants(**{names[0]: {"provider": names[1], "type": names[2], "params": params}})
             self.assertEqual(self.checked("--offline")[0], status)
             command = {"op": "register", "id": names[0], "provider": names[1], "type": names[2], "params": params}
-            reply = helper.replies(helper.run(*site[1:], told=helper.lines(command)).stdout)[0]
+            reply = helper.replies(helper.run(*site[1:], sent=helper.lines(command)).stdout)[0]
             self.assertEqual(reply.get("error"), "too-large" if status else None)
 
     def test_successor(self):
         """a running resource is kept as it was while its successor cannot be run, and changed once it can"""
-        self.wants(a=self.told("a"), b=self.dummy("b"))
+        self.wants(a=self.described("a"), b=self.dummy("b"))
         client = self.client()
         self.comes(client, id="a", interval=100, code=0)
-        wrong = ({**self.told("a"), "type": "Tld"}, self.told("a", confgfile="x"))
+        wrong = ({**self.described("a"), "type": "Descibed"}, self.described("a", confgfile="x"))
         for count, one in enumerate(wrong, 1):
             self.wants(a=one, b=self.dummy("b"))
             os.kill(client.run.pid, signal.SIGHUP)
             self.waits("word of it", lambda wanted=count: self.said().count("client: a stays as it was: ") == wanted)
             self.comes(client, len(client.lines), id="a", interval=100, code=0)
-        big = self.told("a", **{f"p{number}": "x" * 1024 for number in range(17)})
+        big = self.described("a", **{f"p{number}": "x" * 1024 for number in range(17)})
         self.wants(a=big, b=self.dummy("b"))
         os.kill(client.run.pid, signal.SIGHUP)
         self.waits("word of it", lambda: "resources.a.params: with the names" in self.said())
         self.stops("a")
         self.runs("a")
-        self.assertEqual((self.called("Told", "stop"), self.called("Told", "start")), (0, 2), "no agent stopped it")
-        self.wants(a=self.told("a", configfile="x"), b=self.dummy("b"))
+        self.assertEqual((self.called("Described", "stop"), self.called("Described", "start")), (0, 2), "no agent stopped it")
+        self.wants(a=self.described("a", configfile="x"), b=self.dummy("b"))
         os.kill(client.run.pid, signal.SIGHUP)
-        self.waits("the change", lambda: self.called("Told", "start") == 3)
+        self.waits("the change", lambda: self.called("Described", "start") == 3)
         self.assertEqual(self.ended(client, signal.SIGTERM), 0)
         [info] = [value for value in helper.replies(helper.shown(self.place("journal"))) if value.get("id") == "a"]
         self.assertEqual(info["params"].get("configfile"), "x", self.said())
@@ -559,16 +560,16 @@ class Kept(keeping.Keeping):
             os.kill(killed, signal.SIGKILL)
         self.comes(client, len(client.lines), outcome="done")
         self.assertEqual(self.ended(client, signal.SIGTERM), 0)
-        runs = sorted(value["run"] for value in client.told() if value["run"])
+        runs = sorted(value["run"] for value in client.notices() if value["run"])
         self.assertEqual(runs, list(range(1, len(runs) + 1)), "each run once")
         self.assertGreater(len(runs), made)
         # an opening reports interrupted actions before dropped ones, which a history has in the other order; there is no notice of an
         # action that the client itself withdrew at its end
-        told = {(value["call"], value["run"]): {**helper.result_of(value), "id": value["id"]} for value in client.told()}
+        seen = {(value["call"], value["run"]): {**helper.result_of(value), "id": value["id"]} for value in client.notices()}
         for name, results in helper.results(self.place("journal")).items():
             for result in results:
                 if result["outcome"] != "cancelled":
-                    self.assertEqual(told[result["call"], result["run"]], {**result, "id": name})
+                    self.assertEqual(seen[result["call"], result["run"]], {**result, "id": name})
 
 
 if __name__ == "__main__":

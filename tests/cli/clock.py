@@ -35,7 +35,7 @@ class Clock(helper.Check):
         return {**os.environ, "AHEAD": self.place("ahead"), "LD_PRELOAD": self.shim}
 
     def shimmed(self, *journal, word="run"):
-        return self.heard(word, *(journal or ["--memory"]), "--root", self.here, env=self.environment())
+        return self.started(word, *(journal or ["--memory"]), "--root", self.here, env=self.environment())
 
     def registered(self):
         return helper.register("r1", "Sleeper", **{"for": "4"})
@@ -50,22 +50,22 @@ class Clock(helper.Check):
         self.took_less(most / 1000, at - began, f"waiting for the end {word}")
 
     def ended(self, run, action):
-        return [(value["outcome"], value["code"]) for value in run.told() if value["action"] == action]
+        return [(value["outcome"], value["code"]) for value in run.notices() if value["action"] == action]
 
     def test_ahead(self):
         """a journal from ten years ahead"""
         folder = self.journal()
         self.set_ahead(YEARS)
         run = self.shimmed("--journal", folder)
-        run.tell(self.registered())
+        run.send(self.registered())
         self.assertEqual(run.awaits(lambda value: True)[1], {"ok": True})
         self.assertEqual(run.ends(), 0)
         self.set_ahead(0)
         run, began = self.shimmed("--journal", folder), time.monotonic()
-        run.tell(self.start(1000), DRAIN)
+        run.send(self.start(1000), DRAIN)
         self.takes(run, "idle", began, 900, 2500)
         self.assertEqual(self.ended(run, "start"), [("timed-out", 1)])
-        run.tell({"op": "recur", "id": "r1", "interval": 200}, {"op": "watch", "limit": 1500})
+        run.send({"op": "recur", "id": "r1", "interval": 200}, {"op": "watch", "limit": 1500})
         run.awaits(lambda value: value.get("end") == "limit")
         self.came_often(3, len(self.ended(run, "monitor")), "monitors of 200 ms in 1.5 s")
         self.assertEqual(run.ends(), 0)
@@ -73,12 +73,12 @@ class Clock(helper.Check):
     def test_back(self):
         """a timeout and a watch, the clock set back"""
         run, began = self.shimmed(), time.monotonic()
-        run.tell(self.registered(), self.start(1000), DRAIN)
+        run.send(self.registered(), self.start(1000), DRAIN)
         time.sleep(0.3)
         self.set_ahead(-30)
         self.takes(run, "idle", began, 700, 2500)
         began = time.monotonic()
-        run.tell({"op": "watch", "limit": 1500})
+        run.send({"op": "watch", "limit": 1500})
         time.sleep(0.3)
         self.set_ahead(-60)
         self.takes(run, "limit", began, 1200, 3000)
@@ -87,7 +87,7 @@ class Clock(helper.Check):
     def test_forward(self):
         """a start, the clock set forward"""
         run = self.shimmed()
-        run.tell(self.registered(), self.start(20000), DRAIN)
+        run.send(self.registered(), self.start(20000), DRAIN)
         time.sleep(0.8)
         self.set_ahead(3600)
         run.awaits(lambda value: value.get("end") == "idle")
@@ -97,7 +97,7 @@ class Clock(helper.Check):
     def monitored(self):
         # an executor with a running start and a monitor of 2 s with a result
         run = self.shimmed("--journal", self.journal(), word="serve")
-        run.tell(helper.register("r1", "Sleeper", **{"for": "30"}), helper.action("r1", "start", timeout=90000),
+        run.send(helper.register("r1", "Sleeper", **{"for": "30"}), helper.action("r1", "start", timeout=90000),
                  helper.register("r2", "Sleeper"), {"op": "recur", "id": "r2", "interval": 2000})
         run.awaits(lambda value: helper.is_notice(value, action="monitor"))
         return run

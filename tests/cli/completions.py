@@ -93,7 +93,7 @@ class Completions(helper.Check):
         self.write("ocf/resource.d/heartbeat/README", "text\n")
         os.symlink(helper.PROGRAM, self.place("bin/ocfexec"))
         done = helper.run("run", "--journal", self.journal(),
-                          told=helper.lines(*(helper.register(name, "Dummy", "heartbeat") for name in ("web", "db"))))
+                          sent=helper.lines(*(helper.register(name, "Dummy", "heartbeat") for name in ("web", "db"))))
         self.assertEqual(done.returncode, 0, done.stderr)
 
     def write(self, name: str, text: str, mode: int = 0o644) -> str:

@@ -19,7 +19,7 @@ OLD = os.path.join(helper.TOP, "tests/data/first-layout")
 class Conditions(helper.Check):
     def setUp(self) -> None:
         super().setUp()
-        self.agent("Told", "exit 0\n")
+        self.agent("Ends", "exit 0\n")
         self.folder = self.journal()
         self.written = Written()
 
@@ -33,7 +33,7 @@ class Conditions(helper.Check):
 
     def rows(self, *words: str) -> dict[str, str]:
         """What follows the agent in each row of a table."""
-        found = re.findall(r"^(\S+) +test:Told +(.*?) *$", self.status(*words), re.MULTILINE)
+        found = re.findall(r"^(\S+) +test:Ends +(.*?) *$", self.status(*words), re.MULTILINE)
         return dict(found)
 
     def values(self, *words: str) -> dict[str, dict]:
@@ -45,7 +45,7 @@ class Conditions(helper.Check):
         self.assertEqual((value["state"], value["since"], value["at_least"]), (state, self.written.now - age, at_least))
 
     def tidies(self) -> None:
-        done = helper.run("run", "--journal", self.folder, "--root", self.here, told=helper.lines({"op": "tidy"}))
+        done = helper.run("run", "--journal", self.folder, "--root", self.here, sent=helper.lines({"op": "tidy"}))
         self.assertEqual(done.returncode, 0, done.stderr)
 
     def up_for_hours(self) -> None:
@@ -57,13 +57,13 @@ class Conditions(helper.Check):
         self.save()
 
     def test_old_start(self):
-        """a start that is older than all results of the history tells since when"""
+        """a start that is older than all results of the history shows since when"""
         self.up_for_hours()
         self.is_since("web", "started", 3 * HOUR)
         self.assertEqual(self.rows()["web"], "started 3 h ago")
 
     def test_older_part(self):
-        """the records of the older part tell since when, and those that are gone leave 'at least'"""
+        """the records of the older part show since when, and those that are gone leave 'at least'"""
         self.up_for_hours()
         self.tidies()
         self.is_since("web", "started", 3 * HOUR)
@@ -196,7 +196,7 @@ class Conditions(helper.Check):
         self.assertEqual(self.status().split("\n")[0], "no executor has this journal; its last record is 5 min old")
         self.assertEqual(self.status("--exit-code", ends=10), self.status())
         self.assertEqual(self.values()["web"]["executor"], False)
-        run = self.heard("serve", "--journal", self.folder, "--root", self.here)
+        run = self.started("serve", "--journal", self.folder, "--root", self.here)
         run.ready()
         self.assertEqual(self.status("--exit-code").split()[0], "RESOURCE")
         self.assertEqual(self.values()["web"]["executor"], True)

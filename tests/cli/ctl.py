@@ -19,7 +19,6 @@ import unittest
 sys.path[0] += "/../lib"
 import helper  # noqa: E402
 import keeping  # noqa: E402
-from helper import PROGRAM  # noqa: E402
 
 CTL = os.path.join(helper.TOP, "examples/ocfctl.py")
 # an agent whose service is a file, and is promoted by another one; what it is called with, and at which level, is noted; it fails as the
@@ -40,8 +39,8 @@ monitor) [ -e "$state" ] || exit 7; [ ! -e "$state.promoted" ] || exit 8 ;;
 esac
 """
 # an agent that says its parameters, and then does what that one does
-TOLD = """if [ "$1" = meta-data ]; then
-echo '<resource-agent name="Told"><parameters><parameter name="state"/><parameter name="configfile"/></parameters>'
+DESCRIBED = """if [ "$1" = meta-data ]; then
+echo '<resource-agent name="Described"><parameters><parameter name="state"/><parameter name="configfile"/></parameters>'
 echo '<actions><action name="start"/><action name="stop"/><action name="monitor"/></actions></resource-agent>'
 exit
 fi
@@ -109,7 +108,7 @@ class Hand(keeping.Keeping):
         client = self.client(*options)
         self.runs(*[name for name, one in wanted.items() if one.get("target") != "stopped" and one.get("managed", True)])
         for name in wanted:
-            self.stands(name, lambda one: one["settled"])
+            self.becomes(name, lambda one: one["settled"])
         return client
 
     def ctl(self, *words, status=0, **how):
@@ -137,7 +136,7 @@ class Hand(keeping.Keeping):
             return True
         return False
 
-    def standing(self, name):
+    def status_of(self, name):
         """A resource in the status, or None while nobody answers."""
         with contextlib.suppress(OSError, AssertionError):
             connection = Connection(self.place("control"))
@@ -148,8 +147,8 @@ class Hand(keeping.Keeping):
             finally:
                 connection.close()
 
-    def stands(self, name, holds):
-        self.waits(f"{name} as wanted, now {self.standing(name)}", lambda: (one := self.standing(name)) and holds(one))
+    def becomes(self, name, holds):
+        self.waits(f"{name} as wanted, now {self.status_of(name)}", lambda: (one := self.status_of(name)) and holds(one))
 
     def actions(self, name):
         """What the agent of a resource was called for, without its recurring monitors and probes."""
@@ -206,13 +205,13 @@ class Verbs(Hand):
         self.assertRegex(self.ctl("promote", "a"), r"a: promoted\n\Z")
         os.remove(self.place("a.promoted"))
         self.runs("a.promoted")
-        self.stands("a", lambda one: one["state"] == "promoted")
+        self.becomes("a", lambda one: one["state"] == "promoted")
         self.stops("a")
         self.runs("a")
-        self.stands("a", lambda one: one["state"] == "promoted")
+        self.becomes("a", lambda one: one["state"] == "promoted")
         self.assertTrue(self.is_up("a.promoted"), "its service runs")
         self.ctl("start", "a")
-        self.assertEqual(self.standing("a")["state"], "promoted", "it is started already")
+        self.assertEqual(self.status_of("a")["state"], "promoted", "it is started already")
         self.assertRegex(self.ctl("demote", "a"), r"a: running\n\Z")
         self.assertFalse(self.is_up("a.promoted"), "its service is stopped")
         with open(self.place("a.promoted"), "wb"):
@@ -247,7 +246,7 @@ class Verbs(Hand):
             self.assertIn("maintenance", self.ctl(verb, "a", status=3))
         self.assertEqual(self.ended(client, signal.SIGTERM), 0)
         client = self.client()
-        self.stands("a", lambda one: one["state"] == "in maintenance")
+        self.becomes("a", lambda one: one["state"] == "in maintenance")
         time.sleep(0.5)  # of several intervals
         with open(self.place("calls"), encoding="ascii") as file:
             self.assertEqual(file.read(), before)
@@ -265,14 +264,14 @@ class Verbs(Hand):
         self.assertRegex(said, r"a: start failed: not installed \(OCF_ERR_INSTALLED, 5\) after \d+ ms\n")
         self.assertRegex(said, "a: (failed|given up), which is not as it should be\n(.*\n)*  a word of the agent\n")
         self.assertIn("it is broken", self.ctl("status", status=1))
-        self.stands("a", lambda one: one["state"] == "given up")
+        self.becomes("a", lambda one: one["state"] == "given up")
         found = json.loads(self.ctl("start", "a", "--json", status=1))
         self.assertEqual((found["expected"], found["status"][0]["failed"]["code"], found["status"][0]["failed"]["name"]),
                          (False, 5, "OCF_ERR_INSTALLED"))
         self.mended("a")
         self.ctl("start", "a")
         self.ctl("forget", "a")
-        self.assertIsNone(self.standing("a")["failed"])
+        self.assertIsNone(self.status_of("a")["failed"])
         self.assertNotIn("last failure", self.ctl("status"))
 
     def test_forgotten(self):
@@ -282,8 +281,8 @@ class Verbs(Hand):
         self.assertEqual(self.ctl("forget", "a"), "a: its history is empty\n")
         self.assertEqual(self.ended(client, signal.SIGUSR1), 0)
         self.client()
-        self.stands("a", lambda one: one["state"] == "running")
-        self.assertIsNone(self.standing("a")["failed"])
+        self.becomes("a", lambda one: one["state"] == "running")
+        self.assertIsNone(self.status_of("a")["failed"])
 
     def test_not_stopped(self):
         """a stop that fails ends with 1, and is not tried again until it is requested again"""
@@ -317,7 +316,7 @@ class Verbs(Hand):
         with open(self.place("a.slow"), "wb"):
             pass
         self.ctl("start", "a", "--no-wait")
-        self.stands("a", lambda one: one["doing"] and one["doing"]["action"] == "start")
+        self.becomes("a", lambda one: one["doing"] and one["doing"]["action"] == "start")
         run = subprocess.Popen([CTL, "start", "--socket", self.place("control"), "a"], stdout=subprocess.PIPE, text=True)
         self.addCleanup(run.stdout.close)
         self.waits("the second start", lambda: self.said().count("a: start by hand") == 2)
@@ -327,13 +326,13 @@ class Verbs(Hand):
 
     def test_unsupported(self):
         """promote and demote are refused if the agent says that it has no such action, which changes nothing; so is a target of the file"""
-        self.agent("Told", TOLD + ROLE.format(here=self.here))
-        self.up(a=self.role("a", type="Told"))
+        self.agent("Described", DESCRIBED + ROLE.format(here=self.here))
+        self.up(a=self.role("a", type="Described"))
         for verb in ("promote", "demote"):
-            self.assertEqual(self.ctl(verb, "a", status=3), f"ocfctl: the agent test:Told has no action {verb} (unsupported)\n")
-        self.assertEqual((self.actions("a"), self.standing("a")["target_by_hand"]), (["start"], None))
-        self.wants(a=self.role("a", type="Told", target="promoted"))
-        self.assertIn("resources.a.target: test:Told has no action promote", self.ctl("reload", status=3))
+            self.assertEqual(self.ctl(verb, "a", status=3), f"ocfctl: the agent test:Described has no action {verb} (unsupported)\n")
+        self.assertEqual((self.actions("a"), self.status_of("a")["target_by_hand"]), (["start"], None))
+        self.wants(a=self.role("a", type="Described", target="promoted"))
+        self.assertIn("resources.a.target: test:Described has no action promote", self.ctl("reload", status=3))
 
     def test_statuses(self):
         """2 for wrong arguments, 3 for an unknown resource or where nobody answers, 124 after the timeout; the request goes on"""
@@ -356,7 +355,7 @@ class Verbs(Hand):
         with open(self.place("a.slow"), "wb"):
             pass
         self.ctl("restart", "a", "--no-wait")
-        self.stands("a", lambda one: one["doing"] and one["doing"]["action"] == "start")
+        self.becomes("a", lambda one: one["doing"] and one["doing"]["action"] == "start")
         os.remove(self.place("a.slow"))
 
     def test_later(self):
@@ -371,7 +370,7 @@ class Verbs(Hand):
         end = one.until(lambda line: line["kind"] == "done")[-1]
         self.assertEqual((end["expected"], end["message"]), (False, "something else was requested of a"))
         os.remove(self.place("a.slow"))
-        self.stands("a", lambda one: one["state"] == "stopped by hand")
+        self.becomes("a", lambda one: one["state"] == "stopped by hand")
         self.assertFalse(self.is_up("a"), "its service is stopped")
 
     def test_at_once(self):
@@ -382,13 +381,13 @@ class Verbs(Hand):
             pass
         run = subprocess.Popen([CTL, "start", "--socket", self.place("control"), "a"], stdout=subprocess.PIPE, text=True)
         self.addCleanup(run.stdout.close)
-        self.stands("a", lambda one: one["doing"] and one["doing"]["action"] == "start")
+        self.becomes("a", lambda one: one["doing"] and one["doing"]["action"] == "start")
         self.ctl("stop", "a", "--no-wait")
         said = run.communicate(timeout=helper.WHOLE)[0]
         os.remove(self.place("a.slow"))
         self.assertRegex(said, r"\na: (starting|stopping)\nsomething else was requested of a\n\Z")
         self.assertEqual(run.returncode, 1)
-        self.stands("a", lambda one: one["state"] == "stopped by hand")
+        self.becomes("a", lambda one: one["state"] == "stopped by hand")
 
     def test_queued(self):
         """a stop waits for what programs have requested before, and takes nothing of it back"""
@@ -415,20 +414,20 @@ class Verbs(Hand):
 
     def test_reload_asks(self):
         """reload is refused before anything is changed if an agent of the file does not exist or lacks a parameter, unless it asks none"""
-        self.agent("Told", TOLD + ROLE.format(here=self.here))
-        client = self.up(a=self.role("a", type="Told"), b=self.role("b"))
+        self.agent("Described", DESCRIBED + ROLE.format(here=self.here))
+        client = self.up(a=self.role("a", type="Described"), b=self.role("b"))
         before = self.happened("stop", "start")
-        wrong = {"a": {**self.role("a", type="Told"), "params": {"state": self.place("a"), "confgfile": "x"}},
+        wrong = {"a": {**self.role("a", type="Described"), "params": {"state": self.place("a"), "confgfile": "x"}},
                  "c": self.role("c", type="Missing")}
         self.wants(**wrong)
         said = self.ctl("reload", status=3)
-        self.assertIn("resources.a.params.confgfile: test:Told has no such parameter; it has configfile; "
+        self.assertIn("resources.a.params.confgfile: test:Described has no such parameter; it has configfile; "
                       "resources.c.type: there is no agent test:Missing; nothing is changed (wrong-file)", said)
         self.assertEqual(self.ctl("ids").split(), ["a", "b"])
         self.comes(client, len(client.lines), id="b", interval=100, code=0)
         self.assertEqual(self.happened("stop", "start"), before)
         self.assertNotIn("was read again", self.said())
-        self.wants(a=self.role("a", type="Told"))
+        self.wants(a=self.role("a", type="Described"))
         self.assertIn("a: running\n", self.ctl("reload"))
         self.waits("the removal of b", lambda: self.ctl("ids").split() == ["a"])
         self.wants(**wrong)
@@ -437,13 +436,13 @@ class Verbs(Hand):
 
     def test_reload_first(self):
         """the first resources of a file are asked for, too, though no executor runs yet"""
-        self.agent("Told", TOLD + ROLE.format(here=self.here))
+        self.agent("Described", DESCRIBED + ROLE.format(here=self.here))
         client = self.up()
         self.waits("its socket", self.can_connect)
-        self.wants(a={**self.role("a", type="Told"), "params": {"state": self.place("a"), "confgfile": "x"}})
-        self.assertIn("resources.a.params.confgfile: test:Told has no such parameter", self.ctl("reload", status=3))
+        self.wants(a={**self.role("a", type="Described"), "params": {"state": self.place("a"), "confgfile": "x"}})
+        self.assertIn("resources.a.params.confgfile: test:Described has no such parameter", self.ctl("reload", status=3))
         self.assertIsNone(self.child(client), "no executor runs")
-        self.wants(a=self.role("a", type="Told"))
+        self.wants(a=self.role("a", type="Described"))
         self.assertIn("a: running\n", self.ctl("reload"))
 
     def test_events(self):
@@ -484,7 +483,7 @@ class Verbs(Hand):
             line = run.stdout.readline()
             self.assertNotEqual(line, "", f"it ended after {found}")
             found += [line[20:]] if line[20:21] == "x" else []
-        # the executor writes the line of a result behind its notice
+        # the executor writes the line of a result after its notice
         self.eventually("the last line of the executor", lambda: found[-1] in self.said())
         said = self.said().splitlines(keepends=True)
         self.assertEqual([line for line in found if line not in said], [])
@@ -527,27 +526,27 @@ class Targets(Hand):
         """a stop by hand survives a reload, kills of the executor and of the client, and an orderly end; nothing starts it meanwhile"""
         client = self.up(a=self.role("a"), b=self.role("b"))
         self.ctl("stop", "a")
-        since = self.standing("a")["target_by_hand"]
+        since = self.status_of("a")["target_by_hand"]
         os.kill(client.run.pid, signal.SIGHUP)
         self.waits("the reload", lambda: "was read again" in self.said())
         os.kill(self.child(client), signal.SIGKILL)
         self.waits("another executor", lambda: "was ended by SIGKILL" in self.said())
-        self.stands("a", lambda one: one["settled"])
+        self.becomes("a", lambda one: one["settled"])
         os.kill(client.run.pid, signal.SIGKILL)
         client.run.wait()
         for number in (signal.SIGTERM, signal.SIGUSR1):
             client = self.client()
-            self.stands("a", lambda one: one["state"] == "stopped by hand")
+            self.becomes("a", lambda one: one["state"] == "stopped by hand")
             self.runs("b")
             self.assertEqual(self.ended(client, number), 0)
         self.assertEqual(self.actions("a"), ["start", "stop", "stop"], "the last one at the orderly end")
         client = self.client()
-        self.stands("a", lambda one: one["settled"] and one["target_by_hand"] == since)
+        self.becomes("a", lambda one: one["settled"] and one["target_by_hand"] == since)
         self.ctl("start", "a")
         self.assertTrue(self.is_up("a"), "its service runs")
         self.assertEqual(self.ended(client, signal.SIGUSR1), 0)
         self.client()
-        self.stands("a", lambda one: one["state"] == "running")
+        self.becomes("a", lambda one: one["state"] == "running")
 
     def test_found(self):
         """one that is stopped by hand, and runs all the same when a client starts, is stopped"""
@@ -557,7 +556,7 @@ class Targets(Hand):
         with open(self.place("a"), "wb"):
             pass
         self.client()
-        self.stands("a", lambda one: one["state"] == "stopped by hand")
+        self.becomes("a", lambda one: one["state"] == "stopped by hand")
         self.assertFalse(self.is_up("a"), "its service is stopped")
 
     def test_held(self):
@@ -569,12 +568,12 @@ class Targets(Hand):
         self.ctl("start", "a", "--no-wait")
         self.waits("the start", lambda: self.actions("a")[-1] == "start")
         os.kill(self.child(client), signal.SIGKILL)
-        self.stands("a", lambda one: one["held"])
-        held = self.standing("a")["held"]
+        self.becomes("a", lambda one: one["held"])
+        held = self.status_of("a")["held"]
         self.assertTrue(helper.is_alive(held), "it lives")
         self.assertIn(f"held: process {held} of an interrupted action lives", self.ctl("status", status=1))
         os.remove(self.place("a.slow"))
-        self.stands("a", lambda one: one["state"] == "running" and not one["held"])
+        self.becomes("a", lambda one: one["state"] == "running" and not one["held"])
         self.assertEqual(self.actions("a"), ["start", "stop", "start"])
 
     def test_interrupted(self):
@@ -599,7 +598,7 @@ class Targets(Hand):
         shutil.rmtree(self.place("state"))
         self.assertIn("it cannot be kept", self.ctl("stop", "a", status=3))
         self.assertTrue(self.is_up("a"), "its service runs")
-        self.assertIsNone(self.standing("a")["target_by_hand"])
+        self.assertIsNone(self.status_of("a")["target_by_hand"])
         self.assertEqual(self.ended(client, signal.SIGUSR1), 0)
         os.mkdir(self.place("state"))
         with open(self.place("state/by-hand.json"), "w", encoding="ascii") as file:
@@ -631,17 +630,17 @@ class Targets(Hand):
         for _ in range(kills):
             verb, one = dice.choice(["stop", "start", "restart", "promote", "demote", "unmanage", "manage"]), self.connected()
             reply = one.ask({"do": verb, "id": "a"})
-            wanted = {key: self.standing("a")[key] for key in ("target", "managed")}
+            wanted = {key: self.status_of("a")[key] for key in ("target", "managed")}
             time.sleep(dice.uniform(0, 0.1))
             victim = dice.choice([client.run.pid, self.child(client)]) or client.run.pid
             os.kill(victim, signal.SIGKILL)
             if victim == client.run.pid:
                 client.run.wait()
                 client = self.client()
-            self.stands("a", lambda one: one["settled"])
-            found = self.standing("a")
+            self.becomes("a", lambda one: one["settled"])
+            found = self.status_of("a")
             self.assertEqual({key: found[key] for key in wanted}, wanted, f"{verb}: {reply}")
-            self.stands("a", lambda one: one["as_wanted"])
+            self.becomes("a", lambda one: one["as_wanted"])
             if found["managed"]:
                 self.waits(f"its service, {found['target']}", lambda: self.is_up("a") == (found["target"] != "stopped"))
 
@@ -649,7 +648,7 @@ class Targets(Hand):
         """the file may have the targets, what is managed, and more monitors; the hand goes before it; registrations and histories stay"""
         self.up(a=self.role("a", target="stopped"), b=self.role("b", managed=False), c=self.role("c", target="promoted"),
                 d=self.role("d", monitors=[{"interval": 150, "level": 10}]))
-        self.assertEqual([self.standing(name)["state"] for name in "abcd"], ["stopped", "unmanaged", "promoted", "running"])
+        self.assertEqual([self.status_of(name)["state"] for name in "abcd"], ["stopped", "unmanaged", "promoted", "running"])
         self.assertEqual((self.is_up("a"), self.is_up("b"), self.is_up("c.promoted")), (False, False, True))
         self.waits("a monitor at level 10", lambda: self.called("monitor", self.place("d"), "10"))
         self.ctl("start", "a")
@@ -670,16 +669,16 @@ class Order(Hand):
         self.assertEqual(self.happened("start", "stop"), ["start disk", "start db", "start web"])
         self.assertRegex(self.ctl("stop", "db"), r"\ndb: stopped by hand\nweb: waiting for db\n\Z")
         self.assertEqual(self.happened("start", "stop")[3:], ["stop web", "stop db"])
-        self.assertEqual(self.standing("web")["state"], "waiting for db")
+        self.assertEqual(self.status_of("web")["state"], "waiting for db")
         self.ctl("start", "db")
         self.runs("web")
-        self.stands("web", lambda one: one["state"] == "running")
+        self.becomes("web", lambda one: one["state"] == "running")
         before = len(self.happened("start", "stop"))
         self.stops("disk")
         self.waits("the restart", lambda: self.happened("start", "stop")[before:][-1:] == ["start web"])
         # (a failed monitor is followed by a stop, here of a service that has stopped)
         self.assertEqual(self.happened("start", "stop")[before:], ["stop web", "stop db", "start disk", "start db", "start web"])
-        self.stands("web", lambda one: one["state"] == "running")
+        self.becomes("web", lambda one: one["state"] == "running")
         before = len(self.happened("start", "stop"))
         self.assertEqual(self.ended(client, signal.SIGTERM), 0)
         self.assertEqual(self.happened("start", "stop")[before:], ["stop web", "stop db", "stop disk"])
@@ -691,11 +690,11 @@ class Order(Hand):
         self.assertEqual(self.ended(client, signal.SIGUSR1), 0)
         client = self.client()
         for name in wanted:
-            self.stands(name, lambda one: one["state"] == "running")
+            self.becomes(name, lambda one: one["state"] == "running")
         os.kill(self.child(client), signal.SIGKILL)
         self.waits("another executor", lambda: "was ended by SIGKILL" in self.said())
         for name in wanted:
-            self.stands(name, lambda one: one["state"] == "running")
+            self.becomes(name, lambda one: one["state"] == "running")
         self.assertEqual(self.happened("start", "stop"), ["start db", "start web"])
 
     def test_changed(self):
@@ -714,8 +713,8 @@ class Order(Hand):
         self.up(web=self.role("web", after=["db"]), db=self.role("db", restarts=1))
         self.fails("db", "start")
         self.stops("db")
-        self.stands("db", lambda one: one["state"] == "given up")
-        self.stands("web", lambda one: one["state"] == "waiting for db")
+        self.becomes("db", lambda one: one["state"] == "given up")
+        self.becomes("web", lambda one: one["state"] == "waiting for db")
         self.assertFalse(self.is_up("web"), "its service is stopped")
         self.mended("db")
         self.ctl("start", "db")
@@ -737,8 +736,8 @@ class Order(Hand):
             for _ in range(dice.randrange(1, 4)):
                 client = self.disturbed(client, dice, names)
             for name in names:
-                self.stands(name, lambda one: one["settled"] and (one["as_wanted"] or one["state"].startswith("waiting for ")))
-            up = {name for name in names if self.standing(name)["target"] != "stopped"}
+                self.becomes(name, lambda one: one["settled"] and (one["as_wanted"] or one["state"].startswith("waiting for ")))
+            up = {name for name in names if self.status_of(name)["target"] != "stopped"}
             for name in "abcd":
                 up -= set() if set(needs[name]) <= up else {name}
             self.waits(f"exactly {up}", lambda wanted=up: {name for name in names if self.is_up(name)} == wanted)
@@ -758,12 +757,12 @@ class Order(Hand):
         return client
 
     def test_alert(self):
-        """an alert agent is told of a failure, a recovery and a give-up, with Pacemaker's variables, and one that hangs delays nothing"""
-        with open(self.place("tell"), "w", encoding="ascii") as file:
+        """an alert agent is called at a failure, a recovery and a give-up, with Pacemaker's variables; one that hangs delays nothing"""
+        with open(self.place("alert"), "w", encoding="ascii") as file:
             file.write(f'#!/bin/sh\necho "$OCFEXEC_alert $CRM_alert_kind $CRM_alert_rsc $CRM_alert_task $CRM_alert_rc $CRM_alert_interval" '
                        f'>> {self.here}/alerts\nexec sleep 20\n')
-        os.chmod(self.place("tell"), 0o755)
-        self.up(a=self.role("a", restarts=2, alert=self.place("tell")))
+        os.chmod(self.place("alert"), 0o755)
+        self.up(a=self.role("a", restarts=2, alert=self.place("alert")))
         self.stops("a")
         self.runs("a")
         self.waits("the recovery", lambda: "recovery" in self.alerts())
@@ -838,7 +837,7 @@ class Socket(Hand):
         self.ctl("reload")
         os.kill(self.child(client), signal.SIGKILL)
         self.waits("another executor", lambda: "was ended by SIGKILL" in self.said())
-        self.stands("a", lambda one: one["settled"])
+        self.becomes("a", lambda one: one["settled"])
         self.assertEqual(self.ended(client, signal.SIGTERM), 0)
         client = self.client()
         self.runs("a")
@@ -846,7 +845,7 @@ class Socket(Hand):
         self.assertEqual((self.is_up("x"), sorted(helper.results(self.place("journal")))), (True, ["a", "x"]))
         self.wants(a=self.role("a"), x=self.role("x"))
         self.ctl("reload")
-        self.assertEqual((self.standing("x")["state"], self.actions("x")), ("running", ["start"]))
+        self.assertEqual((self.status_of("x")["state"], self.actions("x")), ("running", ["start"]))
 
     def test_alone(self):
         """without a file, or with an empty one, programs have the executor for themselves, and what the journal has stays as it is"""
@@ -865,7 +864,7 @@ class Socket(Hand):
         self.waits("the executor", lambda: one.ask({"op": "list"}).get("resources") == ["a", "x"])
         self.wants(a=self.role("a"))
         self.ctl("reload")
-        self.assertEqual((self.standing("a")["state"], self.actions("a")), ("running", ["start"]))
+        self.assertEqual((self.status_of("a")["state"], self.actions("a")), ("running", ["start"]))
 
     def test_lost(self):
         """a call that was acknowledged has its notice, with its tag, over a kill of the executor"""

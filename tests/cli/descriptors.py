@@ -34,12 +34,12 @@ class Descriptors(helper.Check):
         shutil.copy("/bin/sleep", self.place("resource.d/test/Sleeper"))
         self.folder = self.journal()
 
-    def limited(self, limit, *words, told=b""):
+    def limited(self, limit, *words, sent=b""):
         """A run under this limit: its status, its standard output, and its standard error. Each of its lines has the cause, also where it
         goes on; or, of run and show, the next one has it."""
         with tempfile.TemporaryFile() as file:
             stream = helper.journal_stream(file.fileno()) if words[0] in ("run", "show") else {}
-            done = subprocess.run(["prlimit", f"--nofile={limit}", PROGRAM, *words], input=told, stdout=subprocess.PIPE, stderr=file,
+            done = subprocess.run(["prlimit", f"--nofile={limit}", PROGRAM, *words], input=sent, stdout=subprocess.PIPE, stderr=file,
                                   env={**os.environ, **stream}, timeout=helper.WHOLE)
             file.seek(0)
             err = file.read().decode()
@@ -60,7 +60,7 @@ class Descriptors(helper.Check):
             for word in ("serve", "run"):
                 name = f"{word}{limit}"
                 status, out, _ = self.limited(limit, word, "--journal", self.folder, "--root", self.here,
-                                              told=helper.lines(helper.register(name, "True")))
+                                              sent=helper.lines(helper.register(name, "True")))
                 if status == 5:
                     refused.add(word)
                 else:
@@ -73,7 +73,7 @@ class Descriptors(helper.Check):
     def test_looks(self):
         """a look at a journal is refused with the cause, or prints all; the journal stays as it is"""
         done = helper.run("run", "--journal", self.folder, "--root", self.here,
-                          told=helper.lines(helper.register("r1", "True"), helper.action("r1", "start"), {"op": "drain"}))
+                          sent=helper.lines(helper.register("r1", "True"), helper.action("r1", "start"), {"op": "drain"}))
         self.assertEqual(done.returncode, 0, done.stderr)
         parts, refused = helper.parts(self.folder), set()
         for word in ("status", "log", "metrics", "show"):
@@ -99,22 +99,22 @@ class Descriptors(helper.Check):
 
     def test_meanwhile(self):
         """while no descriptor is left an action is not started, for this cause; what ran goes on, and what comes after is done"""
-        run = self.heard("serve", "--journal", self.folder, "--root", self.here, "--events", err=self.place("err"))
-        run.tell(helper.register("r1", "True"), helper.register("r2", "Sleeper"), {"op": "list"})
+        run = self.started("serve", "--journal", self.folder, "--root", self.here, "--events", err=self.place("err"))
+        run.send(helper.register("r1", "True"), helper.register("r2", "Sleeper"), {"op": "list"})
         run.awaits(lambda value: "resources" in value)
         hard = resource.prlimit(run.run.pid, resource.RLIMIT_NOFILE)[1]
         wanted = []
         for number in range(1, 4):
             for limit, outcome in ((LEAST, "not-started"), (hard, "done")):
                 resource.prlimit(run.run.pid, resource.RLIMIT_NOFILE, (limit, hard))
-                run.tell(helper.action("r1", "start"))
-                self.eventually("a result", lambda: len(run.told()) > len(wanted))
+                run.send(helper.action("r1", "start"))
+                self.eventually("a result", lambda: len(run.notices()) > len(wanted))
                 wanted.append(outcome)
-        self.assertEqual([value["outcome"] for value in run.told()], wanted)
+        self.assertEqual([value["outcome"] for value in run.notices()], wanted)
         with open(self.place("err"), encoding="utf-8") as err:
             said = [line for line in err.read().splitlines() if "was not started" in line]
         self.assertEqual(said, [f"ocfexec: run {number} of r1 was not started: {CAUSE}" for number in (1, 3, 5)])
-        run.tell({"op": "history", "id": "r1"})
+        run.send({"op": "history", "id": "r1"})
         _, history = run.awaits(lambda value: "results" in value)
         self.assertEqual([value["outcome"] for value in history["results"]], wanted)
         run.killed()
@@ -124,16 +124,16 @@ class Descriptors(helper.Check):
         """a timeout while no descriptor is left kills the agent, and says why what it started may live on"""
         self.agent("Waits", 'echo $$ > "$OCF_RESKEY_pid"\nexec sleep 600\n')
         pid_file = self.place("pid")
-        run = self.heard("serve", "--journal", self.folder, "--root", self.here, err=self.place("err"))
-        run.tell(helper.register("r1", "Waits", pid=pid_file), helper.action("r1", "start", timeout=1_000))
+        run = self.started("serve", "--journal", self.folder, "--root", self.here, err=self.place("err"))
+        run.send(helper.register("r1", "Waits", pid=pid_file), helper.action("r1", "start", timeout=1_000))
         pid = self.numbers_in(pid_file)[0]
         hard = resource.prlimit(run.run.pid, resource.RLIMIT_NOFILE)[1]
         resource.prlimit(run.run.pid, resource.RLIMIT_NOFILE, (LEAST, hard))
         run.awaits(lambda value: helper.is_notice(value, outcome="timed-out"))
         self.eventually("the end of the agent", lambda: not helper.is_alive(pid))
         resource.prlimit(run.run.pid, resource.RLIMIT_NOFILE, (hard, hard))
-        run.tell({"op": "params", "id": "r1", "params": {"pid": "/dev/null"}}, helper.action("r1", "start", timeout=10))
-        self.eventually("the action after it", lambda: len(run.told()) == 2)
+        run.send({"op": "params", "id": "r1", "params": {"pid": "/dev/null"}}, helper.action("r1", "start", timeout=10))
+        self.eventually("the action after it", lambda: len(run.notices()) == 2)
         with open(self.place("err"), encoding="utf-8") as err:
             self.assertIn(f"ocfexec: cannot find and stop all processes that a killed action started: {CAUSE}\n", err.read())
 

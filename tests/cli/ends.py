@@ -22,7 +22,7 @@ class Ends(helper.Check):
     def pid_in(self, path):
         return self.numbers_in(path)[0]
 
-    def ends_unheard(self, run, before=""):
+    def ends_unread(self, run, before=""):
         # its status and its last line, within a second after its reader has gone
         run.stdout.close()
         began = time.monotonic()
@@ -43,7 +43,7 @@ class Ends(helper.Check):
         pid = self.pid_in(pid_file)
         while until and run.stdout.readline() != until:
             pass
-        self.ends_unheard(run)
+        self.ends_unread(run)
         time.sleep(0.1)
         self.assertFalse(helper.is_alive(pid), "its agent lives on")
 
@@ -68,8 +68,8 @@ class Ends(helper.Check):
         self.agent("Sleeper", 'echo $$ > "$OCF_RESKEY_pid"\nexec sleep 600\n')
         folder, pid_file = self.journal(), self.place("pid")
         words = ["run", "--journal", folder, "--root", self.here, "--orphans", "600000"]
-        first = self.heard(*words)
-        first.tell(helper.register("r1", "Sleeper", pid=pid_file), helper.action("r1", "start", timeout=600_000), {"op": "drain"})
+        first = self.started(*words)
+        first.send(helper.register("r1", "Sleeper", pid=pid_file), helper.action("r1", "start", timeout=600_000), {"op": "drain"})
         pid = self.pid_in(pid_file)
         self.addCleanup(lambda: helper.is_alive(pid) and os.kill(pid, 9))
         first.killed()
@@ -79,7 +79,7 @@ class Ends(helper.Check):
         waiting.stdin.flush()
         found = [helper.value_of(waiting.stdout.readline()) for _ in range(2)]
         self.assertEqual((found[0]["outcome"], found[1]["ok"]), ("interrupted", True))
-        self.ends_unheard(waiting, r"ocfexec: .*\br1\b.*\n")
+        self.ends_unread(waiting, r"ocfexec: .*\br1\b.*\n")
         self.assertTrue(helper.is_alive(pid), "what is left goes on")
         last = helper.run(*words)
         self.assertEqual([value["outcome"] for value in helper.replies(last.stdout)], ["dropped"])
@@ -120,13 +120,13 @@ class Ends(helper.Check):
 
     def test_byte_at_a_time(self):
         """run and serve answer lines that come a byte at a time like lines that come at once"""
-        told = helper.lines(helper.register("r1", "Dummy"), {"op": "list"}, helper.register("r2", "Dummy")) + b'\n{"op":"list"}\n'
+        sent = helper.lines(helper.register("r1", "Dummy"), {"op": "list"}, helper.register("r2", "Dummy")) + b'\n{"op":"list"}\n'
         for word in ("run", "serve"):
-            whole = helper.run(word, "--memory", told=told)
+            whole = helper.run(word, "--memory", sent=sent)
             run = subprocess.Popen([PROGRAM, word, "--memory"], stdin=subprocess.PIPE, stdout=subprocess.PIPE, bufsize=0)
             self.addCleanup(run.kill)
-            for place in range(len(told)):
-                run.stdin.write(told[place:place + 1])
+            for place in range(len(sent)):
+                run.stdin.write(sent[place:place + 1])
             found, _ = run.communicate(timeout=helper.PATIENCE)
             self.assertEqual((run.returncode, found), (0, whole.stdout), word)
             self.assertEqual(len(helper.replies(found)), 4, word)
@@ -135,10 +135,10 @@ class Ends(helper.Check):
         """an input that ends in the middle of a line: the half is refused as syntax, and earlier records are left"""
         for word in ("run", "serve"):
             folder = self.journal(word)
-            done = helper.run(word, "--journal", folder, told=helper.lines(helper.register("r1", "Dummy")) + b'{"op":"li')
+            done = helper.run(word, "--journal", folder, sent=helper.lines(helper.register("r1", "Dummy")) + b'{"op":"li')
             self.assertEqual((done.returncode, len(helper.replies(done.stdout))), (0, 2), word)
             self.assertEqual(helper.replies(done.stdout)[1]["number"], 1, word)
-            again = helper.run("run", "--journal", folder, told=helper.lines({"op": "list"}))
+            again = helper.run("run", "--journal", folder, sent=helper.lines({"op": "list"}))
             self.assertEqual(helper.replies(again.stdout), [{"ok": True, "resources": ["r1"]}], word)
 
     def test_gone_amid_a_line(self):
@@ -153,8 +153,8 @@ class Ends(helper.Check):
             if word == "serve":
                 helper.opening(run.stdout)
             self.assertEqual(helper.value_of(run.stdout.readline()), {"ok": True}, word)
-            self.ends_unheard(run)
-            again = helper.run("run", "--journal", folder, told=helper.lines({"op": "list"}))
+            self.ends_unread(run)
+            again = helper.run("run", "--journal", folder, sent=helper.lines({"op": "list"}))
             self.assertEqual(helper.replies(again.stdout), [{"ok": True, "resources": ["r1"]}], word)
 
     @helper.slow
@@ -184,9 +184,9 @@ class Ends(helper.Check):
                 signal.signal(number, signal.SIG_IGN)
         shown = self.place("shown")
         self.agent("Shows", 'grep SigIgn /proc/$$/status > "$OCF_RESKEY_to"\n')
-        told = helper.lines(helper.register("r1", "Shows", to=shown), helper.action("r1", "start"), {"op": "drain"})
+        sent = helper.lines(helper.register("r1", "Shows", to=shown), helper.action("r1", "start"), {"op": "drain"})
         for word in ("run", "serve"):
-            done = helper.run(word, "--memory", "--root", self.here, told=told, preexec_fn=ignore)
+            done = helper.run(word, "--memory", "--root", self.here, sent=sent, preexec_fn=ignore)
             self.assertEqual(done.stderr, b"ocfexec: started with ignored signals, which agents inherit: SIGHUP, SIGTERM\n")
             with open(shown, encoding="ascii") as file:
                 mask = int(file.read().split()[1], 16)
@@ -198,8 +198,8 @@ class Ends(helper.Check):
         folder, err = self.journal(), self.place("err")
         with open(err, "wb") as file:
             stream = helper.journal_stream(file.fileno())
-        run = self.heard("serve", "--journal", folder, err=err, env={**os.environ, **stream})
-        run.tell(helper.register("r1", "None"))
+        run = self.started("serve", "--journal", folder, err=err, env={**os.environ, **stream})
+        run.send(helper.register("r1", "None"))
         self.assertEqual(run.awaits(lambda value: True)[1], {"ok": True})
         time.sleep(0.5)
         lose(folder)

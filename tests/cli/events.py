@@ -37,9 +37,9 @@ class Events(helper.Check):
     def commands(self, code, what="start", **more):
         return helper.lines(helper.register("web", "Ends", code=code), helper.action("web", what, **more), {"op": "drain"})
 
-    def events(self, told, *words, run=helper.run):
+    def events(self, sent, *words, run=helper.run):
         """The lines for these commands, without other lines on standard error."""
-        done = run("run", "--memory", "--root", self.here, "--events", *words, told=told)
+        done = run("run", "--memory", "--root", self.here, "--events", *words, sent=sent)
         self.assertEqual(done.returncode, 0, done.stderr)
         return [line for line in without_times(done.stderr.decode()).splitlines() if not line.startswith("ocfexec: ")]
 
@@ -68,15 +68,15 @@ class Events(helper.Check):
     def test_together(self):
         """both results of a turn have failed: a monitor that finds it not running, and a start of an agent that is missing by then"""
         self.agent("Goes", 'rm "$0"\nexit 7\n')
-        told = helper.lines(helper.register("web", "Goes"), helper.action("web", "monitor"), helper.action("web", "start"), {"op": "drain"})
-        self.assertEqual(self.events(told, run=helper.explained), ["<3>web: monitor failed: not running (OCF_NOT_RUNNING, 7) after N ms",
+        sent = helper.lines(helper.register("web", "Goes"), helper.action("web", "monitor"), helper.action("web", "start"), {"op": "drain"})
+        self.assertEqual(self.events(sent, run=helper.explained), ["<3>web: monitor failed: not running (OCF_NOT_RUNNING, 7) after N ms",
                                                                    "<3>web: start failed: the agent's file is missing"])
 
     def test_recurring(self):
         """a recurring monitor that expects it to run, and finds that it does not, has failed"""
-        run = self.heard("serve", "--memory", "--root", self.here, "--events", err=self.place("err"),
-                         env={**os.environ, **self.stream()})
-        run.tell(helper.register("web", "Ends", code="7"), {"op": "recur", "id": "web", "interval": 1000})
+        run = self.started("serve", "--memory", "--root", self.here, "--events", err=self.place("err"),
+                           env={**os.environ, **self.stream()})
+        run.send(helper.register("web", "Ends", code="7"), {"op": "recur", "id": "web", "interval": 1000})
         run.awaits(lambda value: helper.is_notice(value, action="monitor", code=7))
         self.assertEqual(run.ends(), 0)
         with open(self.place("err"), encoding="utf-8") as err:
@@ -91,18 +91,18 @@ class Events(helper.Check):
 
     def test_withdrawn(self):
         """an action that was withdrawn has no notice, and so no line"""
-        told = helper.lines(helper.register("web", "Ends", code="0"), helper.action("web", "start"),
+        sent = helper.lines(helper.register("web", "Ends", code="0"), helper.action("web", "start"),
                             {"op": "withdraw", "id": "web", "call": 1}, {"op": "drain"})
-        self.assertEqual(self.events(told, run=helper.explained), [])
+        self.assertEqual(self.events(sent, run=helper.explained), [])
 
     def test_interrupted(self):
         """an interruption has its line at the next opening"""
         journal = self.journal()
-        run = self.heard("serve", "--journal", journal, "--root", self.here)
-        run.tell(helper.register("web", "Ends", code="sleep"), helper.action("web", "start"))
+        run = self.started("serve", "--journal", journal, "--root", self.here)
+        run.send(helper.register("web", "Ends", code="sleep"), helper.action("web", "start"))
         for _ in range(600):
-            run.tell({"op": "info", "id": "web"})
-            if run.hears(lambda value: value.get("running"), 0.1)[1]:
+            run.send({"op": "info", "id": "web"})
+            if run.finds(lambda value: value.get("running"), 0.1)[1]:
                 break
         run.killed()
         done = helper.explained("run", "--journal", journal, "--orphans", "0", "--root", self.here, "--events")
@@ -114,37 +114,37 @@ class Events(helper.Check):
         """standard output is the same with them and without"""
         for code, _, _ in STARTS:
             with self.subTest(code):
-                told = self.commands(code)
+                sent = self.commands(code)
                 words = ("run", "--memory", "--root", self.here)
-                self.assertEqual(helper.run(*words, "--events", told=told).stdout, helper.run(*words, told=told).stdout)
+                self.assertEqual(helper.run(*words, "--events", sent=sent).stdout, helper.run(*words, sent=sent).stdout)
 
     def test_none(self):
         """without the option there is no line for a result"""
-        done = helper.run("run", "--memory", "--root", self.here, told=self.commands("1"))
+        done = helper.run("run", "--memory", "--root", self.here, sent=self.commands("1"))
         self.assertEqual(done.stderr, b"")
 
     def test_closed(self):
         """a standard error that is closed, full or not read ends no run"""
-        told = self.commands("1")
+        sent = self.commands("1")
         words = [helper.PROGRAM, "run", "--memory", "--root", self.here, "--events"]
-        wanted = helper.run(*words[1:], told=told).stdout
-        closed = subprocess.run(["sh", "-c", '"$@" 2>&-', "sh", *words], input=told, stdout=subprocess.PIPE, check=False, timeout=60)
+        wanted = helper.run(*words[1:], sent=sent).stdout
+        closed = subprocess.run(["sh", "-c", '"$@" 2>&-', "sh", *words], input=sent, stdout=subprocess.PIPE, check=False, timeout=60)
         self.assertEqual((closed.returncode, closed.stdout), (0, wanted))
         with open("/dev/full", "wb") as full:
-            done = subprocess.run(words, input=told, stdout=subprocess.PIPE, stderr=full, check=False, timeout=60)
+            done = subprocess.run(words, input=sent, stdout=subprocess.PIPE, stderr=full, check=False, timeout=60)
         self.assertEqual((done.returncode, done.stdout), (0, wanted))
         ours, theirs = os.pipe()
         os.close(ours)
-        done = subprocess.run(words, input=told, stdout=subprocess.PIPE, stderr=theirs, check=False, timeout=60)
+        done = subprocess.run(words, input=sent, stdout=subprocess.PIPE, stderr=theirs, check=False, timeout=60)
         os.close(theirs)
         self.assertEqual((done.returncode, done.stdout), (0, wanted))
 
     def test_many(self):
         """each of forty results has its line, in the order of the notices"""
-        told = b"".join(helper.lines(helper.register(f"r{n}", "Ends", code=str(n % 2)), helper.action(f"r{n}", "start"))
+        sent = b"".join(helper.lines(helper.register(f"r{n}", "Ends", code=str(n % 2)), helper.action(f"r{n}", "start"))
                         for n in range(40)) + helper.lines({"op": "drain"})
         with tempfile.TemporaryFile() as err:
-            done = subprocess.run([helper.PROGRAM, "run", "--memory", "--root", self.here, "--events"], input=told,
+            done = subprocess.run([helper.PROGRAM, "run", "--memory", "--root", self.here, "--events"], input=sent,
                                   stdout=subprocess.PIPE, stderr=err, check=False, timeout=120)
             err.seek(0)
             said = [line.split(":")[0] for line in err.read().decode().splitlines()]

@@ -131,7 +131,7 @@ class Keepers(helper.Check):
         os.kill(pid, signal.SIGKILL)
         self.eventually("its end", lambda: not helper.is_alive(pid))
 
-    def renews(self, keepers, change, told):
+    def renews(self, keepers, change, what):
         """The service stops, the executor is killed, and the journal is changed before the client starts another one; the client of
         examples says so."""
         for keeper in keepers:
@@ -143,7 +143,7 @@ class Keepers(helper.Check):
             os.remove(keeper.state)
             self.comes_up(keeper)
         self.ends(keepers)
-        self.assertIn(f"client: {told}", keepers[0].said())
+        self.assertIn(f"client: {what}", keepers[0].said())
 
     def test_killed(self):
         """kills of the executor, between which the service stops"""
@@ -180,8 +180,8 @@ class Keepers(helper.Check):
     def test_replaced(self):
         """a journal in whose place is another one, with other numbers"""
         other = self.journal("other")
-        told = [register("b", "Dummy", state=self.place("b")), *[action("b", what) for what in 10 * ("start", "stop")], {"op": "drain"}]
-        self.assertEqual(helper.run("run", "--journal", other, "--root", self.here, told=helper.lines(*told)).returncode, 0)
+        commands = [register("b", "Dummy", state=self.place("b")), *[action("b", what) for what in 10 * ("start", "stop")], {"op": "drain"}]
+        self.assertEqual(helper.run("run", "--journal", other, "--root", self.here, sent=helper.lines(*commands)).returncode, 0)
 
         def replace(journal):
             shutil.rmtree(journal)

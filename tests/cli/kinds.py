@@ -38,7 +38,7 @@ class Kinds(helper.Check):
 
     def served(self, *commands, words=("--memory",), text=None):
         """The lines of a session that gets these commands at once."""
-        done = helper.run("serve", *words, "--root", self.here, told=text or helper.lines(*commands))
+        done = helper.run("serve", *words, "--root", self.here, sent=text or helper.lines(*commands))
         self.assertEqual(done.returncode, 0, done.stderr)
         return values(done.stdout)
 
@@ -55,11 +55,11 @@ class Kinds(helper.Check):
     def test_run(self):
         """no line of run has a kind, also if it is refused"""
         commands = [command for command in ALL if command["op"] != "meta"]
-        done = helper.run("run", "--memory", "--root", self.here, told=helper.lines(*commands))
+        done = helper.run("run", "--memory", "--root", self.here, sent=helper.lines(*commands))
         self.assertEqual([value for value in values(done.stdout) if "kind" in value], [])
 
     def test_schema(self):
-        """the schema tells the lines of serve apart by their kind"""
+        """the schema distinguishes the lines of serve by their kind"""
         if schema.library() is None:
             self.skipTest("there is no python3-jsonschema")
         of_serve, kinds = schema.validator_of("served_line"), schema.schema()["$defs"]["served_line"]["discriminator"]["mapping"]
@@ -70,8 +70,8 @@ class Kinds(helper.Check):
     def test_report(self):
         """a line of the report"""
         folder = self.journal()
-        run = self.heard("serve", "--journal", folder, "--root", self.here)
-        run.tell(register("a", "Says", code="sleep"), action("a", "start"), action("a", "stop"))
+        run = self.started("serve", "--journal", folder, "--root", self.here)
+        run.send(register("a", "Says", code="sleep"), action("a", "start"), action("a", "stop"))
         self.eventually("a start that runs", lambda: self.runs(run))
         run.killed()
         found = self.served(words=("--journal", folder))
@@ -79,16 +79,16 @@ class Kinds(helper.Check):
                          [("report", "interrupted", None), ("report", "dropped", None), ("ready", None, None)])
 
     def runs(self, run):
-        run.tell({"op": "info", "id": "a"})
-        return run.hears(lambda value: value.get("running"), 0.2)[1]
+        run.send({"op": "info", "id": "a"})
+        return run.finds(lambda value: value.get("running"), 0.2)[1]
 
     def test_order(self):
         """in rounds of many commands at once, no notice comes before its reply, and each command has its reply"""
         names = [f"r{number}" for number in range(16)]
-        run = self.heard("serve", "--memory", "--root", self.here)
-        run.tell(*[register(name, "Says") for name in names])
+        run = self.started("serve", "--memory", "--root", self.here)
+        run.send(*[register(name, "Says") for name in names])
         for _ in range(20):
-            run.tell(*[action(name, "monitor") for name in names for _ in range(2)])
+            run.send(*[action(name, "monitor") for name in names for _ in range(2)])
         self.assertEqual(run.ends(), 0)
         found = values("".join(line for _, line in run.lines))
         replied = {value["call"]: place for place, value in enumerate(found) if value["kind"] == "reply" and "call" in value}
@@ -102,22 +102,22 @@ class Kinds(helper.Check):
         os.mkdir(self.place("logs"))
         words = ("--memory", "--logs", self.place("logs"))
         reasons = "noise\\nocf-exit-reason:no such file\\nocf-exit-reason:no such disk\\nmore\\n"
-        told = [register("a", "Says", code="6", says=reasons), action("a", "start"), {"op": "drain"},
-                {"op": "params", "id": "a", "params": {"code": "6", "says": "nothing known\\n"}}, action("a", "start"), {"op": "drain"},
-                {"op": "params", "id": "a", "params": {"says": reasons}}, action("a", "start"), {"op": "drain"},
-                {"op": "params", "id": "a", "params": {"code": "7", "says": "ocf-exit-reason:\\033 bell\\n"}},
-                action("a", "monitor", expect=7), action("a", "monitor"), {"op": "drain"}]
-        found = [value for value in self.served(*told, words=words) if value["kind"] == "notice"]
+        commands = [register("a", "Says", code="6", says=reasons), action("a", "start"), {"op": "drain"},
+                    {"op": "params", "id": "a", "params": {"code": "6", "says": "nothing known\\n"}}, action("a", "start"), {"op": "drain"},
+                    {"op": "params", "id": "a", "params": {"says": reasons}}, action("a", "start"), {"op": "drain"},
+                    {"op": "params", "id": "a", "params": {"code": "7", "says": "ocf-exit-reason:\\033 bell\\n"}},
+                    action("a", "monitor", expect=7), action("a", "monitor"), {"op": "drain"}]
+        found = [value for value in self.served(*commands, words=words) if value["kind"] == "notice"]
         self.assertEqual([(value["failed"], value["reason"]) for value in found],
                          [(True, "no such disk"), (True, None), (False, None), (False, None), (True, "\\x1b bell")])
-        found = [value for value in self.served(*told) if value["kind"] == "notice"]
+        found = [value for value in self.served(*commands) if value["kind"] == "notice"]
         self.assertEqual({value["reason"] for value in found}, {None}, "without logs")
 
     def test_reasons_together(self):
         """the reason of a run is not that of the next one, which has begun when the notice is sent"""
         os.mkdir(self.place("logs"))
-        told = [register("a", "Says", code="6", says="ocf-exit-reason:run %s\\n")]
-        found = self.served(*told, *[action("a", what) for what in ("start", "stop", "promote", "demote")], {"op": "drain"},
+        commands = [register("a", "Says", code="6", says="ocf-exit-reason:run %s\\n")]
+        found = self.served(*commands, *[action("a", what) for what in ("start", "stop", "promote", "demote")], {"op": "drain"},
                             words=("--memory", "--logs", self.place("logs")))
         self.assertEqual([value["reason"] for value in found if value["kind"] == "notice"],
                          [f"run {what}" for what in ("start", "stop", "promote", "demote")])
@@ -126,7 +126,7 @@ class Kinds(helper.Check):
         """a line that ends in a carriage return and a newline is taken, by both"""
         text = b"".join(json.dumps(command).encode() + b"\r\n" for command in (register("a", "Says"), {"op": "list"}))
         self.assertEqual([value.get("resources") for value in self.served(text=text) if value["kind"] == "reply"], [None, ["a"]])
-        done = helper.run("run", "--memory", told=text)
+        done = helper.run("run", "--memory", sent=text)
         self.assertEqual(values(done.stdout), [{"ok": True}, {"ok": True, "resources": ["a"]}])
 
 

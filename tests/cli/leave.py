@@ -23,7 +23,7 @@ class Leave(helper.Check):
         self.agent("Hangs", f"sleep 30 & echo $$ $! > {self.here}/pids\nwait\n")
 
     def serves(self, *words):
-        return self.heard("serve", *words, "--root", self.here)
+        return self.started("serve", *words, "--root", self.here)
 
     def hangs(self):
         # the agent that hangs has begun
@@ -42,7 +42,7 @@ class Leave(helper.Check):
         """if nothing runs, a run ends at once, and later lines are not read"""
         run = self.serves("--memory")
         began = time.monotonic()
-        run.tell(helper.register("a", "Works"), LEAVE, LIST)
+        run.send(helper.register("a", "Works"), LEAVE, LIST)
         self.leaves(run, began, 0, 0.5)
         self.assertEqual(run.values(), [{"ok": True}, LEFT])
 
@@ -50,40 +50,40 @@ class Leave(helper.Check):
         """running actions end, and are recorded and reported; queued actions and a due monitor do not begin"""
         folder = self.journal()
         run = self.serves("--journal", folder)
-        run.tell(helper.register("a", "Works"), action("a", "start"), action("a", "stop"), helper.register("b", "Works"),
+        run.send(helper.register("a", "Works"), action("a", "start"), action("a", "stop"), helper.register("b", "Works"),
                  {"op": "recur", "id": "b", "interval": 200})
         run.awaits(lambda value: helper.is_notice(value, id="b", outcome="done"))
         began = time.monotonic()
-        run.tell(LEAVE)
+        run.send(LEAVE)
         self.leaves(run, began, 0.2, 1.5)
-        told = [(value["id"], value["action"], value["outcome"]) for value in run.told() if value["id"] == "a"]
-        self.assertEqual(told, [("a", "start", "done")])
+        ends = [(value["id"], value["action"], value["outcome"]) for value in run.notices() if value["id"] == "a"]
+        self.assertEqual(ends, [("a", "start", "done")])
         with open(self.place("calls"), encoding="ascii") as file:
             self.assertNotIn("stop\n", file.read())
-        before = len(run.told())
+        before = len(run.notices())
         time.sleep(0.5)
-        self.assertEqual(len(run.told()), before)
+        self.assertEqual(len(run.notices()), before)
         again = self.serves("--journal", folder)
         again.awaits(lambda value: helper.is_notice(value, id="a", action="stop", outcome="dropped"))
         again.awaits(lambda value: helper.is_notice(value, id="b", outcome="done"))
-        self.assertEqual([value for value in again.told() if value["outcome"] == "interrupted"], [])
+        self.assertEqual([value for value in again.notices() if value["outcome"] == "interrupted"], [])
         self.assertEqual(again.ends(), 0)
 
     def test_timeout(self):
         """an action that hangs is ended at its timeout with its child, and reported; then the run ends"""
         run = self.serves("--memory")
         began = time.monotonic()
-        run.tell(helper.register("h", "Hangs"), action("h", "start", timeout=1000))
+        run.send(helper.register("h", "Hangs"), action("h", "start", timeout=1000))
         self.hangs()
-        run.tell(LEAVE)
+        run.send(LEAVE)
         self.leaves(run, began, 0.9, 2)
-        self.assertEqual([value["outcome"] for value in run.told()], ["timed-out"])
+        self.assertEqual([value["outcome"] for value in run.notices()], ["timed-out"])
         with open(self.place("pids"), encoding="ascii") as file:
             self.assertEqual([pid for pid in map(int, file.read().split()) if helper.is_alive(pid)], [], "processes that live on")
 
     def test_run(self):
         """run does not know the line, and goes on"""
-        done = helper.run("run", "--memory", "--root", self.here, told=helper.lines(LEAVE, LIST))
+        done = helper.run("run", "--memory", "--root", self.here, sent=helper.lines(LEAVE, LIST))
         self.assertEqual((done.returncode, helper.replies(done.stdout)),
                          (0, [{"error": "unknown-op", "number": 2}, {"ok": True, "resources": []}]))
 

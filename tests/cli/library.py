@@ -127,10 +127,10 @@ class Library(Case):
 
     def test_methods(self):
         """each command has a method, whose values have the line at hand"""
-        self.agent("Tells", "[ $1 = meta-data ] || exit 7\nprintf '<agent name=\"%s\"/>\\n' \"$OCF_RESOURCE_TYPE\"\n")
+        self.agent("Prints", "[ $1 = meta-data ] || exit 7\nprintf '<agent name=\"%s\"/>\\n' \"$OCF_RESOURCE_TYPE\"\n")
         executor = self.executor("--journal", self.journal())
         executor.register("web", "test:Fast", {"self": "x"}, id="y", tag="z")
-        executor.register("other", "test:Tells")
+        executor.register("other", "test:Prints")
         self.assertEqual((executor.resources(), executor.info("web").params), (["web", "other"], {"self": "x", "id": "y", "tag": "z"}))
         executor.params("web", a="b")
         done = executor.result(executor.exec("web", "start", timeout=60_000, tag="t"), helper.PATIENCE)
@@ -144,7 +144,7 @@ class Library(Case):
         self.assertEqual([one.call for one in executor.history("web")], [done.call, call])
         web, other = executor.status()
         self.assertEqual((web.state, other.state, other.failed.code, other.raw["id"]), ("started", "failed", 7, "other"))
-        self.assertEqual((executor.metadata("test:Tells"), executor.version()), ('<agent name="Tells"/>\n', executor.ready.version))
+        self.assertEqual((executor.metadata("test:Prints"), executor.version()), ('<agent name="Prints"/>\n', executor.ready.version))
         with self.assertRaises(ocfexec.NoMetadata) as without:
             executor.metadata("test:None")
         self.assertEqual((without.exception.agent, without.exception.reason, without.exception.code), ("test:None", "missing", None))
@@ -183,10 +183,10 @@ class Library(Case):
 
     def test_ends(self):
         """metadata and a tidy that have no text end with a word, which is no problem of a turn"""
-        self.agent("Tells", "[ $1 = meta-data ] || exit 7\nprintf '<agent name=\"%s\"/>\\n' \"$OCF_RESOURCE_TYPE\"\n")
+        self.agent("Prints", "[ $1 = meta-data ] || exit 7\nprintf '<agent name=\"%s\"/>\\n' \"$OCF_RESOURCE_TYPE\"\n")
         executor = self.executor("--memory")
-        kinds = [{"op": "meta", "provider": "test", "type": kind} for kind in ("Tells", "None", "Fast")]
-        ends = [{"metadata": '<agent name="Tells"/>\n', "ok": True}, {"end": "missing"}, {"metadata": "", "ok": True}]
+        kinds = [{"op": "meta", "provider": "test", "type": kind} for kind in ("Prints", "None", "Fast")]
+        ends = [{"metadata": '<agent name="Prints"/>\n', "ok": True}, {"end": "missing"}, {"metadata": "", "ok": True}]
         self.assertEqual(executor.ask_all(kinds), ends)
         self.assertEqual(executor.ask_all([{**kind, "tag": "m"} for kind in kinds]), [{**end, "tag": "m"} for end in ends])
         self.assertEqual(executor.ask({"op": "tidy", "tag": ""}), {"end": "done", "tag": ""})
@@ -304,31 +304,31 @@ class Library(Case):
 
     def test_memory(self):
         """each program without a journal has numbers of its own, and all its results are delivered"""
-        told = []
-        executor = self.executor("--memory", on_new_journal=told.append)
+        differences = []
+        executor = self.executor("--memory", on_new_journal=differences.append)
         for _ in range(3):
             executor.register("a", "test:Fast")
             self.assertEqual(executor.perform("a", "start").run, 1)
             executor.kill()
             executor.start()
-        self.assertEqual(told, 3 * ["the program keeps no journal: calls and runs begin again at 1"])
+        self.assertEqual(differences, 3 * ["the program keeps no journal: calls and runs begin again at 1"])
 
     def test_identity(self):
-        """a journal keeps its identity, and another one in its place is told, all results of which are delivered"""
-        folder, told = self.journal(), []
-        executor = self.executor("--journal", folder, on_new_journal=told.append)
+        """a journal keeps its identity, and another one in its place is reported, all results of which are delivered"""
+        folder, differences = self.journal(), []
+        executor = self.executor("--journal", folder, on_new_journal=differences.append)
         identity = executor.ready.identity
         self.assertRegex(identity, "^[0-9a-f]{32}$")
         executor.register("a", "test:Fast")
         self.assertEqual(executor.perform("a", "start").run, 1)
         executor.kill()
-        self.assertEqual((executor.start().identity, executor.ready.next_call, told), (identity, 2, []))
+        self.assertEqual((executor.start().identity, executor.ready.next_call, differences), (identity, 2, []))
         executor.kill()
         shutil.rmtree(folder)
         os.mkdir(folder)
         executor.start()
         self.assertNotEqual(executor.ready.identity, identity)
-        self.assertEqual(told, [f"the journal is another one, {executor.ready.identity}: its calls and runs are others"])
+        self.assertEqual(differences, [f"the journal is another one, {executor.ready.identity}: its calls and runs are others"])
         executor.register("a", "test:Fast")
         self.assertEqual(executor.perform("a", "start").run, 1)
 
@@ -440,7 +440,7 @@ class Library(Case):
     def test_kills(self):
         """when the executor is killed at any moment, each result is reported once, and with the call that requested it"""
         dice = random.Random(helper.number("SEED", 20261127))
-        folder, told, calls = self.journal(), [], []
+        folder, results, calls = self.journal(), [], []
         executor = self.executor("--journal", folder, "--orphans", "0")
         executor.ask_all([register(name, "Fast") for name in "abcd"])
         executor.ask_all([{"op": "recur", "id": name, "interval": 20} for name in "abcd"])
@@ -453,7 +453,7 @@ class Library(Case):
                 while time.monotonic() < until:
                     calls.append(executor.exec(dice.choice("abcd"), "start"))
                     executor.wait(0.01)
-                    told += executor.results()
+                    results += executor.results()
             except ocfexec.Refused as refused:
                 self.assertEqual(refused.word, "queue-full")
             # its output up to here is not read before the kill
@@ -461,10 +461,10 @@ class Library(Case):
             executor.kill()
             executor.start()
         self.assertEqual(executor.leave(), 0)
-        told += executor.results()
-        runs = sorted(result.run for result in told if result.run)
+        results += executor.results()
+        runs = sorted(result.run for result in results if result.run)
         self.assertEqual(runs, list(range(1, len(runs) + 1)), "each run once")
-        asked = [result.call for result in told if result.call in set(calls)]
+        asked = [result.call for result in results if result.call in set(calls)]
         self.assertEqual(len(asked), len(set(asked)), "no result of a call twice")
         queued = {call for name in "abcd" for call in helper.replies(helper.shown(folder))[1 + 2 * "abcd".index(name)]["queued"]}
         self.assertEqual(set(calls) - set(asked), queued, "a result for each call that is not queued")

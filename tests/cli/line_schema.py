@@ -221,7 +221,7 @@ class Schema(helper.Check):
         commands = schema.validator_of("served_command")
         for key, command in [(None, command) for command in SERVED] + SERVED_FAULTY:
             asked = json.dumps(command)[:200]
-            of_run, of_serve = [helper.replies(helper.run(word, "--memory", "--root", self.here, told=helper.lines(command)).stdout)[0]
+            of_run, of_serve = [helper.replies(helper.run(word, "--memory", "--root", self.here, sent=helper.lines(command)).stdout)[0]
                                 for word in ("run", "serve")]
             self.assertEqual(commands.is_valid(command), key is None, asked)
             self.assertEqual("error" in of_run, command["op"] in ("version", "status", "leave"), asked)
@@ -232,7 +232,7 @@ class Schema(helper.Check):
         commands = schema.validator_of("served_command")
         for key, command in [(None, command) for command in TAKEN] + FAULTY:
             asked, key = json.dumps(command)[:200], "unknown" if "unknown" in command else key
-            of_run, of_serve = [helper.replies(helper.run(word, "--memory", "--root", self.here, told=helper.lines(command)).stdout)[0]
+            of_run, of_serve = [helper.replies(helper.run(word, "--memory", "--root", self.here, sent=helper.lines(command)).stdout)[0]
                                 for word in ("run", "serve")]
             self.assertEqual(commands.is_valid(command), key is None, asked)
             self.assertEqual(helper.bare(of_serve), {"error": "bad-value", "number": 4} if key == "unknown" else of_run, asked)
@@ -247,7 +247,7 @@ class Schema(helper.Check):
         commands = schema.validator_of("command")
         for command in TAKEN + REFUSED:
             self.assertEqual(commands.is_valid(command), command in TAKEN, json.dumps(command))
-            done = helper.run("run", "--memory", "--root", self.here, told=helper.lines(command))
+            done = helper.run("run", "--memory", "--root", self.here, sent=helper.lines(command))
             first = helper.replies(done.stdout)[0]
             self.assertEqual(first.get("error") in MALFORMED, command in REFUSED, f"{json.dumps(command)[:200]}: {first}")
 

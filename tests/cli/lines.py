@@ -37,15 +37,15 @@ LONG = (
 
 
 class Lines(helper.Check):
-    def from_file(self, told):
-        with open(self.place("told"), "wb") as file:
-            file.write(told)
-        with open(self.place("told"), "rb") as file:
+    def from_file(self, sent):
+        with open(self.place("sent"), "wb") as file:
+            file.write(sent)
+        with open(self.place("sent"), "rb") as file:
             return subprocess.run([helper.PROGRAM, "run", "--memory"], stdin=file, capture_output=True, timeout=helper.WHOLE)
 
     def are_answered(self, inputs):
-        for name, told, wanted in inputs:
-            for where, done in (("a pipe", helper.run("run", "--memory", told=told)), ("a file", self.from_file(told))):
+        for name, sent, wanted in inputs:
+            for where, done in (("a pipe", helper.run("run", "--memory", sent=sent)), ("a file", self.from_file(sent))):
                 self.assertEqual((done.returncode, done.stderr, done.stdout), (0, b"", wanted), f"{name}, from {where}")
 
     def test_ends(self):

@@ -133,12 +133,12 @@ def counted(part):
 class Metrics(helper.Check):
     def setUp(self):
         super().setUp()
-        self.agent("Told", '[ "$OCF_RESKEY_code" != sleep ] || exec sleep 60\nexit "$OCF_RESKEY_code"\n')
+        self.agent("Ends", '[ "$OCF_RESKEY_code" != sleep ] || exec sleep 60\nexit "$OCF_RESKEY_code"\n')
         self.folder = self.journal()
         self.words = ("--journal", self.folder, "--root", self.here, "--orphans", "0")
 
     def asks(self, *commands):
-        done = helper.run("run", *self.words, told=helper.lines(*commands))
+        done = helper.run("run", *self.words, sent=helper.lines(*commands))
         self.assertEqual(done.returncode, 0, done.stderr)
 
     def metrics(self, *words):
@@ -245,7 +245,7 @@ class Metrics(helper.Check):
 
     def test_results(self):
         """results, failures and monitors of three resources"""
-        self.asks(register("web:1", "Told", code="0"), register("db", "Told", code="7"), register("none", "Told", code="0"))
+        self.asks(register("web:1", "Ends", code="0"), register("db", "Ends", code="7"), register("none", "Ends", code="0"))
         self.is_whole()
         self.asks(action("web:1", "start"), action("db", "monitor"), {"op": "drain"}, {"op": "recur", "id": "web:1", "interval": 100},
                   {"op": "recur", "id": "web:1", "interval": 3600000}, {"op": "recur", "id": "db", "interval": 250},
@@ -259,11 +259,11 @@ class Metrics(helper.Check):
 
     def test_cut_off(self):
         """running and queued actions, a timeout, an interruption, a withdrawal, and ages that rise"""
-        self.asks(register("web", "Told", code="sleep"), action("web", "start", timeout=100), {"op": "drain"})
+        self.asks(register("web", "Ends", code="sleep"), action("web", "start", timeout=100), {"op": "drain"})
         self.is_whole()
-        run = self.heard("serve", *self.words)
-        run.tell(action("web", "start"), action("web", "stop"), action("web", "stop"), {"op": "withdraw", "id": "web", "call": 4})
-        self.eventually("a start that runs, and one stop behind it", self.is_cut_off)
+        run = self.started("serve", *self.words)
+        run.send(action("web", "start"), action("web", "stop"), action("web", "stop"), {"op": "withdraw", "id": "web", "call": 4})
+        self.eventually("a start that runs, and one stop after it", self.is_cut_off)
         found = self.is_whole()
         self.assertEqual(found["ocfexec_resource_running_actions"], [(("web",), 1)])
         self.assertEqual(found["ocfexec_resource_queued_actions"], [(("web",), 1)])
@@ -279,13 +279,13 @@ class Metrics(helper.Check):
 
     def test_counts(self):
         """runs and failures: probes that find the expected state or not, a kill, an unregister, and a tidy while an action runs"""
-        self.asks(register("web", "Told", code="7"), register("db", "Told", code="0"), register("slow", "Told", code="sleep"))
+        self.asks(register("web", "Ends", code="7"), register("db", "Ends", code="0"), register("slow", "Ends", code="sleep"))
         probe = {"expect": 7}
         self.asks(action("web", "monitor", **probe), action("web", "monitor"), action("web", "start"), action("db", "monitor", **probe),
                   action("db", "start"), action("slow", "start", timeout=100), {"op": "drain"})
         self.assertEqual(self.counts(self.is_whole()), {"web": (3, 2), "db": (2, 1), "slow": (1, 1)})
-        run = self.heard("serve", *self.words)
-        run.tell(action("slow", "start"), action("slow", "stop"))
+        run = self.started("serve", *self.words)
+        run.send(action("slow", "start"), action("slow", "stop"))
         self.eventually("a start that runs", lambda: self.has_begun("slow"))
         self.assertEqual(self.counts(self.is_whole())["slow"], (1, 1))
         run.killed()
@@ -293,12 +293,12 @@ class Metrics(helper.Check):
         self.assertEqual(self.counts(self.is_whole()), {"web": (3, 2), "db": (2, 1), "slow": (2, 1)}, "what was interrupted has not failed")
         self.asks({"op": "forget", "id": "web"}, {"op": "unregister", "id": "db"})
         self.assertEqual(self.counts(self.is_whole()), {"web": (3, 2), "slow": (2, 1)})
-        self.asks(register("db", "Told", code="7"))
+        self.asks(register("db", "Ends", code="7"))
         self.assertEqual(self.counts(self.is_whole()), {"web": (3, 2), "slow": (2, 1), "db": (0, 0)})
-        run = self.heard("serve", *self.words)
-        run.tell(action("slow", "start", timeout=1500), {"op": "recur", "id": "db", "interval": 100, "expect": 7})
+        run = self.started("serve", *self.words)
+        run.send(action("slow", "start", timeout=1500), {"op": "recur", "id": "db", "interval": 100, "expect": 7})
         self.eventually("a start that runs", lambda: self.has_begun("slow"))
-        run.tell({"op": "tidy"})
+        run.send({"op": "tidy"})
         run.awaits(lambda value: value.get("end") == "done")
         self.eventually("a start that began before the snapshot ends", lambda: not self.has_begun("slow"))
         self.assertEqual(run.ends(), 0)
@@ -312,17 +312,17 @@ class Metrics(helper.Check):
         self.asks(register("web", "Slow", pid=self.place("pid")))
         self.assertEqual(self.metrics()["ocfexec_up"], [((), 0)])
         began = int(time.time())
-        run = self.heard("serve", "--journal", self.folder, "--root", self.here)
+        run = self.started("serve", "--journal", self.folder, "--root", self.here)
         run.ready()
         found = self.metrics()
         self.assertEqual((found["ocfexec_up"], found["ocfexec_resource_held"]), ([((), 1)], []))
         self.assertAlmostEqual(found["ocfexec_start_time_seconds"][0][1], began, delta=5 + helper.more_patience(5))
-        run.tell(action("web", "start"))
+        run.send(action("web", "start"))
         self.numbers_in(self.place("pid"))
         run.killed()
         found = self.metrics()
         self.assertEqual((found["ocfexec_up"], found["ocfexec_start_time_seconds"]), ([((), 0)], []))
-        run = self.heard("serve", "--journal", self.folder, "--root", self.here)
+        run = self.started("serve", "--journal", self.folder, "--root", self.here)
         run.ready()
         self.assertEqual(self.metrics()["ocfexec_resource_held"], [(("web",), 1)])
         run.killed()
@@ -331,16 +331,16 @@ class Metrics(helper.Check):
     @unittest.skipUnless(PROMTOOL, "install prometheus, for promtool")
     def test_promtool(self):
         """promtool accepts the metrics of a failed resource without a complaint"""
-        self.asks(register("web", "Told", code="1"), action("web", "start"), {"op": "drain"}, {"op": "recur", "id": "web", "interval": 100},
+        self.asks(register("web", "Ends", code="1"), action("web", "start"), {"op": "drain"}, {"op": "recur", "id": "web", "interval": 100},
                   {"op": "watch", "limit": 300})
         self.is_whole()
 
     def test_tidied(self):
         """counters that a tidy keeps, an epoch that it raises, and a journal that an executor holds"""
-        self.asks(register("web", "Told", code="0"), action("web", "start"), {"op": "drain"})
+        self.asks(register("web", "Ends", code="0"), action("web", "start"), {"op": "drain"})
         before = self.is_whole()
-        run = self.heard("serve", *self.words)
-        run.tell({"op": "tidy"})
+        run = self.started("serve", *self.words)
+        run.send({"op": "tidy"})
         run.awaits(lambda value: value.get("end") == "done")
         after = self.is_whole()
         self.assertEqual(after["ocfexec_journal_epoch"], [((), before["ocfexec_journal_epoch"][0][1] + 1)])
@@ -351,7 +351,7 @@ class Metrics(helper.Check):
 
     def test_damaged(self):
         """a damaged journal and wrong arguments"""
-        self.asks(register("web", "Told", code="0"))
+        self.asks(register("web", "Ends", code="0"))
         with open(os.path.join(self.folder, "part-a"), "r+b") as part:
             part.seek(1)
             part.write(b"X")
@@ -362,7 +362,7 @@ class Metrics(helper.Check):
 
     def test_named(self):
         """a journal that the environment names, a reader that is gone, and an output that is full"""
-        self.asks(register("web", "Told", code="0"))
+        self.asks(register("web", "Ends", code="0"))
         named = {**os.environ, "OCFEXEC_JOURNAL": self.folder}
         self.assertEqual(parsed(helper.run("metrics", env=named).stdout.decode())["ocfexec_resources"][1], [([], 1)])
         with open("/dev/full", "wb") as full:

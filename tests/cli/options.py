@@ -205,7 +205,7 @@ class Shown(helper.Check):
     def test_chosen(self):
         """ids and --failed choose the resources, in the table and as JSON"""
         for words, wanted in (("", ["web", "db"]), ("web", ["web"]), ("db web", ["web", "db"]), ("--failed", ["db"]), ("--failed web", [])):
-            rows = [line.split()[0] for line in self.status(*words.split()).splitlines() if " test:Told " in line]
+            rows = [line.split()[0] for line in self.status(*words.split()).splitlines() if " test:Ends " in line]
             values = [json.loads(line) for line in self.status("--json", *words.split()).splitlines()]
             self.assertEqual((rows, [value["id"] for value in values if "state" in value]), (wanted, wanted), words)
 
@@ -258,9 +258,9 @@ class Ran(helper.Check):
 
     def runs(self, *words, code=0, root=True):
         """The output of a run of one start, and what its agent noted."""
-        told = helper.lines(helper.register("web", "Notes", notes=self.place("notes"), code=str(code)),
+        sent = helper.lines(helper.register("web", "Notes", notes=self.place("notes"), code=str(code)),
                             helper.action("web", "start", timeout=9000), {"op": "drain"})
-        done = helper.run("run", "--memory", *(("--root", self.here) if root else ()), *words, told=told)
+        done = helper.run("run", "--memory", *(("--root", self.here) if root else ()), *words, sent=sent)
         found = []
         if os.path.exists(self.place("notes")):
             with open(self.place("notes"), encoding="utf-8") as file:
@@ -318,8 +318,8 @@ class Ran(helper.Check):
     def test_orphans(self):
         """--orphans is the longest time to wait for what a killed executor left, and with --leave-orphans none is waited for"""
         self.agent("Stays", '[ "$1" != start ] || { echo $$ > "$OCF_RESKEY_pid"; exec sleep 600; }\n')
-        run = self.heard("serve", "--journal", self.folder, "--root", self.here)
-        run.tell(helper.register("web", "Stays", pid=self.place("pid")), helper.action("web", "start", timeout=500000))
+        run = self.started("serve", "--journal", self.folder, "--root", self.here)
+        run.send(helper.register("web", "Stays", pid=self.place("pid")), helper.action("web", "start", timeout=500000))
         [pid] = self.numbers_in(self.place("pid"))
         run.killed()
         words = ["run", "--journal", self.folder, "--root", self.here]
@@ -370,8 +370,8 @@ class RanOnce(helper.Check):
     def test_resource(self):
         """--of names a resource of the journal that --journal names, and --beside runs an action beside another"""
         commands = [helper.register("web", "Env", a="1"), helper.register("slow", "Waits", pid=self.place("pid"))]
-        run = self.heard("serve", "--root", self.here, "--journal", self.journal())
-        run.tell(*commands, helper.action("slow", "start", timeout=60000))
+        run = self.started("serve", "--root", self.here, "--journal", self.journal())
+        run.send(*commands, helper.action("slow", "start", timeout=60000))
         self.numbers_in(self.place("pid"))
         journal = f"--journal {self.place('journal')}"
         self.once(f"--of web {journal} monitor --level 10", 0, f"monitor web 1 10 none {PATH} own\n")

@@ -69,8 +69,8 @@ def begun(at, call, run):
 class Played(helper.Check):
     def play(self, *plan):
         """The runs of a plan, which is given as lines."""
-        told = "".join(line + "\n" for line in plan).encode()
-        done = subprocess.run([helper.trials(), "program"], input=told, capture_output=True, timeout=300)
+        sent = "".join(line + "\n" for line in plan).encode()
+        done = subprocess.run([helper.trials(), "program"], input=sent, capture_output=True, timeout=300)
         self.assertEqual((done.returncode, done.stderr), (0, b""))
         runs, lines = [], []
         for line in done.stdout.decode().split("\n")[:-1]:
@@ -152,10 +152,10 @@ class Rows(Played):
 
     def test_refused(self):
         """lines that are refused, by number"""
-        told = ["nope", '{"op":"fly"}', '{"op":"exec","id":"r 1","action":"fly"}', '{"op":"exec","id":"r1","action":"fly"}',
+        sent = ["nope", '{"op":"fly"}', '{"op":"exec","id":"r 1","action":"fly"}', '{"op":"exec","id":"r1","action":"fly"}',
                 '{"op":"exec","id":"r1","action":"start","timeout":0}', '{"op":"exec","id":"r1"}',
                 '{"op":"exec","id":"zz","action":"start"}']
-        out = self.play(*[f"line {line}" for line in told], "ocfexec run --memory")[0].out
+        out = self.play(*[f"line {line}" for line in sent], "ocfexec run --memory")[0].out
         self.assertEqual([json.loads(line)["number"] for line in out], [1, 2, 3, 4, 4, 1, 5])
 
     def test_metadata(self):
@@ -171,9 +171,9 @@ class Rows(Played):
                "ended": [], "failed": None}
         for calls, runs, wanted in [(MOST, 1, [refusal("calls-spent", 13), ONE_LISTED]), (1, MOST, [ACCEPTED, '{"end":"runs-spent"}'])]:
             snapshot = state({"next_call": calls, "next_run": runs, "clock": 0, "resources": [row]})
-            told = [action("r1", "start"), LIST if calls == MOST else DRAIN]
+            commands = [action("r1", "start"), LIST if calls == MOST else DRAIN]
             part = f"part-a /j {(head(snapshot=snapshot) + CLOSED).hex()}"
-            self.ends("0", wanted, "directory /j", part, *lines(*told), "ocfexec run --journal /j")
+            self.ends("0", wanted, "directory /j", part, *lines(*commands), "ocfexec run --journal /j")
         last = "part-a /j " + (head(epoch=LAST_EPOCH) + CLOSED).hex()
         self.ends("0", ['{"end":"epoch-spent"}'], "directory /j", last, *lines({"op": "tidy"}), "ocfexec run --journal /j")
 
@@ -264,12 +264,12 @@ class Asked(Played):
 
     def test_site(self):
         """an agent is called at the site of the options"""
-        told, wanted, more = (REG, action("r1", "start"), DRAIN), [OK, ACCEPTED, STARTED, IDLE], ["poll exited 0"]
+        commands, wanted, more = (REG, action("r1", "start"), DRAIN), [OK, ACCEPTED, STARTED, IDLE], ["poll exited 0"]
         words = "ocfexec run --memory --root /r --path /p --via v --meta-variables"
-        call = self.memory(wanted, *told, more=more, words=words).of("start")[0].split(" ")
+        call = self.memory(wanted, *commands, more=more, words=words).of("start")[0].split(" ")
         self.assertEqual(call[:3], ["v", "/r/resource.d/pacemaker/Dummy", "start"])
         self.assertLess({"OCF_ROOT=/r", "PATH=/p", "OCF_RESKEY_CRM_meta_timeout=20000"}, set(call[3:]))
-        plain = self.memory(wanted, *told, more=more).of("start")[0].split(" ")
+        plain = self.memory(wanted, *commands, more=more).of("start")[0].split(" ")
         self.assertEqual(plain[:2], [f"{ROOT}/resource.d/pacemaker/Dummy", "start"])
         self.assertNotIn("CRM_meta", " ".join(plain))
 
@@ -293,11 +293,11 @@ class Asked(Played):
         running = part_a(registered(), executed(10, 1, START), begun(10, 1, 1))
         for word, keys in [("run", {}), ("serve", {"lives": 4711})]:
             run = self.play("directory /j", running, "left 1 4711", "clock 500", f"ocfexec {word} --journal /j --leave-orphans")[0]
-            told = json.loads(run.out[0])
-            self.assertEqual({key: told[key] for key in told if key == "lives"}, keys)
+            notice = json.loads(run.out[0])
+            self.assertEqual({key: notice[key] for key in notice if key == "lives"}, keys)
             if word == "serve":
                 said = run.of(">")
-                self.assertEqual(said[:2], [run.out[0], run.ready[0]], "it is ready behind the report")
+                self.assertEqual(said[:2], [run.out[0], run.ready[0]], "it is ready after the report")
                 self.is_ready(run, interrupted=1, next_call=2, resources=1)
             asked = run.asked()
             self.assertLess(asked.index("agents /j 20000 yes yes 768"), asked.index("moment 500"))
@@ -326,7 +326,7 @@ class Asked(Played):
 
 
 class Fails(Played):
-    TOLD = lines(REG, action("r1", "start"), DRAIN, LIST)
+    SENT = lines(REG, action("r1", "start"), DRAIN, LIST)
 
     def fails(self, ended, asked, *plan):
         """A run that writes nothing, makes only these requests, and ends so."""
@@ -339,14 +339,14 @@ class Fails(Played):
         for word, ended, count in [("ignored", "8 SIGCHLD is ignored", 1), ("log", "7 input or output", 3), ("files", "5 disk", 4),
                                    ("reader", "4 memory", 5), ("agents", "4 memory", 6)]:
             closes = ["close"] if count > 4 else []
-            self.fails(ended, before[:count] + closes, "directory /j", f"fail {word}", *self.TOLD, run)
-        self.fails("5 disk", before[:4], *self.TOLD, run)
+            self.fails(ended, before[:count] + closes, "directory /j", f"fail {word}", *self.SENT, run)
+        self.fails("5 disk", before[:4], *self.SENT, run)
 
     def test_device(self):
         """each device call fails in turn: the run ends with 5, reports the fault, and everything acknowledged is found again"""
         whole = [OK, ACCEPTED, STARTED, IDLE, ONE_LISTED]
         for calls in range(200):
-            plan = ["directory /j", f"device {calls}", "poll exited 0", *self.TOLD, "ocfexec run --journal /j"]
+            plan = ["directory /j", f"device {calls}", "poll exited 0", *self.SENT, "ocfexec run --journal /j"]
             run, again = self.play(*plan, *lines(LIST), "ocfexec run --journal /j")
             if run.ended == ["0"]:
                 self.assertEqual(run.out, whole)

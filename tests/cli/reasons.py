@@ -36,7 +36,7 @@ class Reasons(helper.Check):
 
     def does(self, name, does, *words):
         """A start of a resource whose agent does this."""
-        done = helper.run("run", "--journal", self.folder, "--root", self.here, "--logs", self.logs, *words, told=helper.lines(
+        done = helper.run("run", "--journal", self.folder, "--root", self.here, "--logs", self.logs, *words, sent=helper.lines(
             helper.register(name, "Says", does=does), helper.action(name, "start"), {"op": "drain"}))
         self.assertEqual(done.returncode, 0, done.stderr)
 

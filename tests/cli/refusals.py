@@ -61,7 +61,7 @@ ONCE = [b'{"a":1,"a\\u0000":2}', b'{"a":1,"A":2}', b'{"a":{"a":1}}', b'[{"a":1},
 
 
 def asked(word, *commands):
-    return helper.replies(helper.run(word, "--memory", told=helper.lines(*commands)).stdout)
+    return helper.replies(helper.run(word, "--memory", sent=helper.lines(*commands)).stdout)
 
 
 class Refusals(helper.Check):
@@ -93,16 +93,16 @@ class Refusals(helper.Check):
     def test_broken(self):
         """a line that is no command has a sentence without a key in serve, or its op is missing"""
         for line in BROKEN:
-            [value] = helper.replies(helper.run("serve", "--memory", told=line + b"\n").stdout)
+            [value] = helper.replies(helper.run("serve", "--memory", sent=line + b"\n").stdout)
             self.assertEqual((value["error"], value["number"]), ("syntax", 1), line[:20])
             self.assertEqual(value.get("key"), "op" if line in (b'"list"', b"[]") else None, line[:20])
             wanted = "twice" if b"op" in line else "op must be" if "key" in value else "one JSON object of at most 131072 bytes"
             self.assertIn(wanted, value["message"])
 
     def test_twice(self):
-        """serve tells a key that occurs twice from all else, by any spelling and at any depth that JSON is read to"""
-        told = b"".join(line + b"\n" for line in TWICE + ONCE)
-        values = helper.replies(helper.run("serve", "--memory", told=told).stdout)
+        """serve distinguishes a key that occurs twice from all else, by any spelling and at any depth that JSON is read to"""
+        sent = b"".join(line + b"\n" for line in TWICE + ONCE)
+        values = helper.replies(helper.run("serve", "--memory", sent=sent).stdout)
         self.assertEqual(len(values), len(TWICE + ONCE))
         for line, value in zip(TWICE + ONCE, values):
             self.assertEqual(("twice" in value["message"], value["error"] == "syntax"), (line in TWICE, True), line[:60])

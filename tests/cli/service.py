@@ -68,7 +68,7 @@ class Service(helper.Check):
         self.gate = self.place("gate")
 
     def serves(self, *words, **how):
-        return self.heard("serve", *(words or ["--memory"]), "--root", self.here, **how)
+        return self.started("serve", *(words or ["--memory"]), "--root", self.here, **how)
 
     def opens(self):
         """Lets the action that waits for its gate end."""
@@ -78,7 +78,7 @@ class Service(helper.Check):
     def asked(self, run, *commands):
         """The replies to these commands. Between them only notices come."""
         before = len(run.lines)
-        run.tell(*commands)
+        run.send(*commands)
         return self.replied(run, before, len(commands))
 
     def replied(self, run, before, count):
@@ -88,7 +88,7 @@ class Service(helper.Check):
             return values if len(values) >= count else None
         return self.eventually(f"{count} replies", found) if count else []
 
-    def told(self, run, **wanted):
+    def notice(self, run, **wanted):
         """The notice of this call, as soon as it has come."""
         return run.awaits(lambda value: helper.is_notice(value, **wanted))[1]
 
@@ -147,7 +147,7 @@ class Ready(Service):
                    *[action("b", "stop")] * 3, recur("c", 50), {"op": "unregister", "id": "d"})
         self.eventually("three run", lambda: all(self.asked(run, {"op": "info", "id": name})[0]["running"] for name in "abc"))
         run.killed()
-        done = helper.run("serve", "--journal", folder, "--root", self.here, "--orphans", "0", told=helper.lines(LIST))
+        done = helper.run("serve", "--journal", folder, "--root", self.here, "--orphans", "0", sent=helper.lines(LIST))
         found = [helper.value_of(line) for line in done.stdout.splitlines()]
         outcomes = [value.get("outcome", "ready" if "ready" in value else "reply") for value in found if value.get("interval") != 50][:7]
         self.assertEqual(sorted(outcomes[:5]), ["dropped"] * 3 + ["interrupted"] * 2)
@@ -168,7 +168,7 @@ class Ready(Service):
         self.is_ready(run, journal=folder)
         self.asked(run, register("a", "Ends"), {"op": "info", "id": "a"}, action("b", "start"))
         self.assertEqual(self.asked(run, action("a", "start"), action("a", "stop"))[0]["call"], 1)
-        self.told(run, call=2)
+        self.notice(run, call=2)
         self.assertEqual(run.ends(), 0)
         run = self.serves("--journal", folder)
         self.is_ready(run, journal=folder, resources=1, next_call=3)
@@ -230,7 +230,7 @@ class Statuses(Service):
         does = {"stopped": "stop", "promoted": "promote"}
         calls = self.asked(run, *[action(name, does.get(name, "start"), timeout=300 if name == "late" else 20_000) for name in names[1:-2]])
         for reply in calls:
-            self.told(run, call=reply["call"])
+            self.notice(run, call=reply["call"])
         found = self.is_as_printed(run, folder, *words)
         self.assertEqual(list(found), names)
         self.assertEqual([value["state"] for value in found.values()],
@@ -244,7 +244,7 @@ class Statuses(Service):
         found = self.is_as_printed(run, folder, *words)["runs"]
         self.assertEqual((found["state"], found["queued"], found["running"]["action"]), ("never run", 2, "start"))
         self.opens()
-        self.told(run, id="runs", action="monitor")
+        self.notice(run, id="runs", action="monitor")
         self.asked(run, {"op": "unregister", "id": "started"}, {"op": "forget", "id": "failed"}, register("started", "Ends"))
         found = self.is_as_printed(run, folder, *words, forgotten=["failed"])
         self.assertEqual((list(found)[-1], found["started"]["state"], found["failed"]["state"]), ("started", "never run", "never run"))
@@ -274,21 +274,21 @@ class Statuses(Service):
 
     def test_run(self):
         """run knows neither the version nor the status of all resources"""
-        done = helper.run("run", "--memory", told=helper.lines(STATUS, VERSION))
+        done = helper.run("run", "--memory", sent=helper.lines(STATUS, VERSION))
         self.assertEqual(helper.replies(done.stdout), [{"error": "unknown-op", "number": 2}] * 2)
 
 
 class Metadata(Service):
     def setUp(self):
         super().setUp()
-        self.agent("Tells", f'cat {self.here}/text\nexit "$(cat {self.here}/code)"\n')
+        self.agent("Prints", f'cat {self.here}/text\nexit "$(cat {self.here}/code)"\n')
 
     def answered(self, text, code=0, **more):
         """The reply of serve to a question for metadata if the agent prints these bytes, and the output of run."""
         for name, content in (("text", text), ("code", str(code).encode())):
             with open(self.place(name), "wb") as file:
                 file.write(content)
-        of_serve, of_run = [helper.run(word, "--memory", "--root", self.here, told=helper.lines(meta("Tells", **more))).stdout
+        of_serve, of_run = [helper.run(word, "--memory", "--root", self.here, sent=helper.lines(meta("Prints", **more))).stdout
                             for word in ("serve", "run")]
         [line] = of_serve.splitlines(keepends=True)[1:]
         self.assertEqual(line.decode(), written(json.loads(line)) + "\n", "as it is written")
@@ -347,8 +347,8 @@ class Tags(Service):
 
     def replies(self, tags):
         """The replies to all of these commands, the n-th with the n-th tag."""
-        told = helper.lines(*[tagged(command, tag) for (command, _), tag in zip(self.KINDS, tags)])
-        done = helper.run("serve", "--memory", "--root", self.here, told=told)
+        sent = helper.lines(*[tagged(command, tag) for (command, _), tag in zip(self.KINDS, tags)])
+        done = helper.run("serve", "--memory", "--root", self.here, sent=sent)
         self.assertEqual(done.returncode, 0, done.stderr)
         for line in done.stdout.decode().split("\n")[:-1]:
             self.assertEqual(line, written(json.loads(line)), "keys ascending")
@@ -381,10 +381,10 @@ class Tags(Service):
                    (r"\"\\\/\b\f\n\r\t\u0000", "\"\\/\b\f\n\r\t\0")]
         for text, tag in escaped:
             before = len(run.lines)
-            run.send(b' {"tag" : "%s" , "op":"list"}\r\n' % text.encode())
+            run.write(b' {"tag" : "%s" , "op":"list"}\r\n' % text.encode())
             self.assertEqual(self.replied(run, before, 1), [{"ok": True, "resources": [], "tag": tag}])
         before = len(run.lines)
-        run.send(br'{"op":"list","tag":"' + br"\u0041" * 65 + b'"}\n' + '{"op":"list","tag":"\u20ac"}\n'.encode())
+        run.write(br'{"op":"list","tag":"' + br"\u0041" * 65 + b'"}\n' + '{"op":"list","tag":"\u20ac"}\n'.encode())
         self.assertEqual(self.replied(run, before, 2), [REFUSED_TAG, {"ok": True, "resources": [], "tag": "\u20ac"}])
         self.assertEqual(run.ends(), 0)
 
@@ -397,7 +397,7 @@ class Tags(Service):
                 b'{"tag":"a\x01","op":"list"}', b'{"op":"list","tag":"a"}'.ljust(131_073)]
         for line in lost:
             before = len(run.lines)
-            run.send(line + b"\n" + helper.lines(tagged(LIST, "b")))
+            run.write(line + b"\n" + helper.lines(tagged(LIST, "b")))
             [reply, after] = self.replied(run, before, 2)
             self.assertEqual((reply["error"], "tag" in reply), ("syntax", False), line[:60])
             self.assertEqual(after, {"ok": True, "resources": [], "tag": "b"})
@@ -439,7 +439,7 @@ class Tags(Service):
         # its files may not grow any more, so the record of a command is refused
         size = os.path.getsize(os.path.join(folder, "part-a"))
         resource.prlimit(run.run.pid, resource.RLIMIT_FSIZE, (size, size))
-        run.tell(tagged(register("b", "Ends"), "device"), tagged(LIST, "behind"))
+        run.send(tagged(register("b", "Ends"), "device"), tagged(LIST, "after"))
         self.assertEqual(run.run.wait(helper.PATIENCE), 5)
         run.reader.join()
         *_, refused, last = run.values()
@@ -455,7 +455,7 @@ class Tags(Service):
             found = []
             while not any("error" in value for value in found):
                 before, tags = len(run.lines), [f"{place}" for place in range(many)]
-                run.tell(*[tagged(command, tag) for tag in tags], tagged(LIST, "last"))
+                run.send(*[tagged(command, tag) for tag in tags], tagged(LIST, "last"))
                 run.awaits(lambda value: value.get("tag") == "last", after=before)
                 found = [helper.value_of(line) for _, line in run.lines[before:]]
                 found = [value for value in found if not helper.is_notice(value) and value != {"end": "full"}]
@@ -474,7 +474,7 @@ class Tags(Service):
         self.assertEqual(found, [{"call": place + 1, "key": f"{name}_start_0", "ok": True, "tag": f"starts {name}"}
                                  for place, name in enumerate(names)])
         for place, name in enumerate(names):
-            self.assertEqual(self.told(run, call=place + 1)["tag"], f"starts {name}")
+            self.assertEqual(self.notice(run, call=place + 1)["tag"], f"starts {name}")
         commands = []
         for place, name in enumerate(names * 3):
             tag = f"{place}" if place % 3 else None
@@ -484,7 +484,7 @@ class Tags(Service):
         calls = {value["call"]: value.get("tag") for value in found if "call" in value}
         self.assertEqual(len(calls), 192)
         for call, tag in calls.items():
-            self.assertEqual(self.told(run, call=call).get("tag"), tag)
+            self.assertEqual(self.notice(run, call=call).get("tag"), tag)
         self.assertEqual(run.ends(), 0)
 
     def test_notices(self):
@@ -496,10 +496,10 @@ class Tags(Service):
                              *[recur(name, 60_000) for name in tags], *[action(name, "monitor", tag=f"once {name}") for name in tags] * 3)
         calls = {reply["call"]: reply.get("tag") for reply in replies}
         self.assertEqual([*calls.values()], [*tags.values(), *[None] * 4, *[f"once {name}" for name in tags] * 3])
-        self.eventually("a hundred monitors", lambda: len(run.told()) > 100)
-        told = run.told()  # (more come while these are checked)
-        self.assertEqual([value.get("tag") for value in told], [calls[value["call"]] for value in told])
-        self.assertEqual({value["call"] for value in told}, set(calls))
+        self.eventually("a hundred monitors", lambda: len(run.notices()) > 100)
+        notices = run.notices()  # (more come while these are checked)
+        self.assertEqual([value.get("tag") for value in notices], [calls[value["call"]] for value in notices])
+        self.assertEqual({value["call"] for value in notices}, set(calls))
         for _, line in run.lines:
             self.assertEqual(line, written(json.loads(line)) + "\n", "keys ascending")
         self.assertEqual(run.ends(), 0)
@@ -510,8 +510,8 @@ class Tags(Service):
         kinds = [("kill", "signaled"), ("sleep", "timed-out"), ("7", "done"), ("none", "not-started")]
         self.asked(run, *[register(code, "None" if code == "none" else "Ends", code=code) for code, _ in kinds])
         self.asked(run, *[action(code, "start", timeout=500, tag=f"{code} {outcome}") for code, outcome in kinds])
-        self.eventually("four notices", lambda: len(run.told()) == 4)
-        self.assertEqual(sorted((value["id"], value["outcome"], value["tag"]) for value in run.told()),
+        self.eventually("four notices", lambda: len(run.notices()) == 4)
+        self.assertEqual(sorted((value["id"], value["outcome"], value["tag"]) for value in run.notices()),
                          sorted((code, outcome, f"{code} {outcome}") for code, outcome in kinds))
         self.assertEqual(run.ends(), 0)
 
@@ -524,17 +524,17 @@ class Tags(Service):
                            {"op": "withdraw", "id": "a", "call": 2, "tag": "again"}, recur("b", 20, tag="recurs"))
         self.assertEqual([value["tag"] for value in found if "tag" in value],
                          ["start", "stop", "monitor", "withdrawal", "again", "recurs"])
-        self.told(run, id="b")
+        self.notice(run, id="b")
         self.asked(run, {"op": "cancel", "id": "b", "interval": 20, "tag": "cancel"}, recur("b", 21))
-        self.told(run, id="b", interval=21)
+        self.notice(run, id="b", interval=21)
         self.opens()
-        self.told(run, call=4)
-        self.assertEqual([(value["call"], value.get("tag")) for value in run.told() if value["id"] == "a"],
+        self.notice(run, call=4)
+        self.assertEqual([(value["call"], value.get("tag")) for value in run.notices() if value["id"] == "a"],
                          [(1, "start"), (3, None), (4, "monitor")])
         self.eventually("b rests", lambda: "error" not in self.asked(run, {"op": "unregister", "id": "b"})[0])
         self.asked(run, register("b", "Ends"), recur("b", 22, tag="anew"))
-        self.told(run, id="b", interval=22)
-        found = {(value["interval"], value.get("tag")) for value in run.told() if value["id"] == "b"}
+        self.notice(run, id="b", interval=22)
+        found = {(value["interval"], value.get("tag")) for value in run.notices() if value["id"] == "b"}
         self.assertEqual(found, {(20, "recurs"), (21, None), (22, "anew")})
         self.assertEqual(run.ends(), 0)
 
@@ -546,13 +546,13 @@ class Tags(Service):
         run.awaits(lambda value: helper.is_notice(value))
         held = [meta("Slow", tag="first"), tagged(LIST, "second"), LIST, action("a", "start", tag="third"), meta("None", tag="fourth"),
                 {"op": "drain", "limit": 100, "tag": "fifth"}, tagged(VERSION, "sixth"), {"op": "fly", "tag": "seventh"}]
-        before = len(run.told())
+        before = len(run.notices())
         found = self.asked(run, *held)
         self.assertEqual([value.get("tag") for value in found], [command.get("tag") for command in held])
         self.assertEqual(found[0], {"metadata": "text", "ok": True, "tag": "first"})
         self.assertIn(found[5]["end"], ("idle", "limit"))
-        self.came_often(10, len(run.told()) - before, "monitors meanwhile")
-        self.assertEqual({(value["interval"], value["tag"]) for value in run.told()}, {(30, "recurs"), (0, "third")})
+        self.came_often(10, len(run.notices()) - before, "monitors meanwhile")
+        self.assertEqual({(value["interval"], value["tag"]) for value in run.notices()}, {(30, "recurs"), (0, "third")})
         self.assertEqual(run.ends(), 0)
 
     def test_left(self):
@@ -563,20 +563,20 @@ class Tags(Service):
         calls = [action("a", "start", tag="start"), action("a", "stop", tag="stop"), recur("b", 20, tag="recurs")]
         self.asked(run, *calls)
         self.eventually("a runs", lambda: self.asked(run, {"op": "info", "id": "a"})[0]["running"])
-        self.assertEqual(self.told(run, id="b")["tag"], "recurs")
+        self.assertEqual(self.notice(run, id="b")["tag"], "recurs")
         run.killed()
         run = self.serves("--journal", folder, "--orphans", "0")
-        self.told(run, id="b", outcome="done")
-        self.assertEqual({(value["id"], value["outcome"]) for value in run.told() if value["id"] == "a"},
+        self.notice(run, id="b", outcome="done")
+        self.assertEqual({(value["id"], value["outcome"]) for value in run.notices() if value["id"] == "a"},
                          {("a", "interrupted"), ("a", "dropped")})
         self.assertEqual([value for value in run.values() if "tag" in value], [])
         self.asked(run, action("a", "start", tag="second start"), action("a", "stop", tag="second stop"))
         self.eventually("a runs", lambda: self.asked(run, {"op": "info", "id": "a"})[0]["running"])
-        run.tell(tagged(LEAVE, "leave"))
+        run.send(tagged(LEAVE, "leave"))
         time.sleep(0.2)
         self.opens()
         run.awaits(lambda value: value == {"end": "left", "tag": "leave"})
-        self.assertEqual(self.told(run, id="a", outcome="done")["tag"], "second start")
+        self.assertEqual(self.notice(run, id="a", outcome="done")["tag"], "second start")
         run = self.serves("--journal", folder)
         self.assertEqual([(value["outcome"], value.get("tag")) for value in map(helper.value_of, run.said[:-1] if run.ready() else ())],
                          [("dropped", None)])
@@ -585,20 +585,20 @@ class Tags(Service):
         """run knows no tag: its lines are the same to the byte, whatever is under that key"""
         self.agent("Slow", "sleep 0.2\nprintf text\n")
         commands = [register("a", "Ends"), action("a", "start"), meta("Slow"), {"op": "drain"}, LIST, {"op": "fly"}, VERSION]
-        told = [helper.lines(*[{**command, **more} for command in commands]) for more in ({}, {"tag": "a"}, {"tag": 5}, {"tag": "x" * 65})]
-        told.append(told[1].replace(b'{', b'{"tag":"twice",', 1))
-        found = [helper.run("run", "--memory", "--root", self.here, told=text).stdout for text in told]
+        texts = [helper.lines(*[{**command, **more} for command in commands]) for more in ({}, {"tag": "a"}, {"tag": 5}, {"tag": "x" * 65})]
+        texts.append(texts[1].replace(b'{', b'{"tag":"twice",', 1))
+        found = [helper.run("run", "--memory", "--root", self.here, sent=text).stdout for text in texts]
         self.assertNotIn(b"tag", found[0])
         self.assertEqual(found[1:], found[:1] * 4)
 
     @helper.slow
-    def test_told(self):
+    def test_reported(self):
         """a call whose result was reported keeps no tag: after 18,000 of them a recurring one has its own"""
         run, names = self.serves(), [f"r{place}" for place in range(200)]
         self.asked(run, register("a", "Ends"), recur("a", 50, tag="the oldest"), *[register(name, "None") for name in names])
         for _ in range(3):
             before, commands = len(run.lines), [action(name, "start", tag=f"{name} {place}") for place in range(30) for name in names]
-            run.tell(*commands)
+            run.send(*commands)
             self.eventually("6,000 results", lambda: sum(line.startswith('{"action":"start"') for _, line in run.lines[before:]) == 6_000)
             found = [json.loads(line) for _, line in run.lines[before:]]
             self.assertEqual([value["tag"] for value in found if "ok" in value], [command["tag"] for command in commands])
@@ -646,7 +646,7 @@ class Chance(Service):
             lambda: {"op": "cancel", "id": name, "interval": dice.choice(self.INTERVALS)},
             lambda: {"op": "withdraw", "id": name, "call": dice.randrange(1, 40)},
             lambda: {"op": dice.choice(["list", "status", "version", "tidy", "fly", ""])},
-            lambda: meta(dice.choice(["None", "Tells"])),
+            lambda: meta(dice.choice(["None", "Prints"])),
             lambda: {"op": "drain", "limit": dice.choice([0, 20, -1])},
             lambda: {dice.choice(["op", "id"]): 5}])()
 
@@ -685,14 +685,14 @@ class Chance(Service):
     @chance.by_chance(4)
     def test_chance(self, dice):
         """for random lines, in pieces, each reply has the tag of its line, in their order, and each notice that of its call"""
-        self.agent("Tells", "printf '<agent/>'\n")
+        self.agent("Prints", "printf '<agent/>'\n")
         asked = [line for line in (self.line(dice) for _ in range(600)) if line]
         text, wanted = b"".join(line + b"\n" for line in asked), [self.tag_of(line) for line in asked]
         self.note("lines", text)
         run = self.serves()
         while text:
             size = dice.choice([1, 50, 500, 5_000, 20_000])
-            run.send(text[:size])
+            run.write(text[:size])
             text = text[size:]
             time.sleep(dice.choice([0, 0, 0.001, 0.02]))
         self.assertEqual(run.ends(), 0)

@@ -1,6 +1,6 @@
 #!/usr/bin/env python3
-"""The states of resources as a status prints them: by the ends of their last actions, with an agent that ends as told, after a timeout, an
-interruption and a withdrawal, with the status of --exit-code, for all resources and for one, as a table and as JSON.
+"""The states of resources as a status prints them: by the ends of their last actions, with an agent that ends by its parameter, after a
+timeout, an interruption and a withdrawal, with the status of --exit-code, for all resources and for one, as a table and as JSON.
 Use: states.py PROGRAM"""
 import re
 import sys
@@ -48,12 +48,12 @@ MEANINGS = {
 class States(helper.Check):
     def setUp(self):
         super().setUp()
-        self.agent("Told", '[ "$OCF_RESKEY_code" != sleep ] || exec sleep 60\nexit "$OCF_RESKEY_code"\n')
+        self.agent("Ends", '[ "$OCF_RESKEY_code" != sleep ] || exec sleep 60\nexit "$OCF_RESKEY_code"\n')
         self.folder = self.journal()
-        self.asks(helper.register("r1", "Told"), helper.register("r2", "Told"))
+        self.asks(helper.register("r1", "Ends"), helper.register("r2", "Ends"))
 
     def asks(self, *commands):
-        done = helper.run("run", "--journal", self.folder, "--root", self.here, "--orphans", "0", told=helper.lines(*commands))
+        done = helper.run("run", "--journal", self.folder, "--root", self.here, "--orphans", "0", sent=helper.lines(*commands))
         self.assertEqual(done.returncode, 0, done.stderr)
 
     def ends(self, code, action, **more):
@@ -113,8 +113,8 @@ class States(helper.Check):
     def test_timeout(self):
         """a timeout"""
         self.ends("sleep", "start", timeout=100)
-        told = self.is_so("r1", "unknown")
-        self.assertIn("last failure  start: failed: it ran past its timeout and was killed (OCF_ERR_GENERIC, 1), ", told)
+        table = self.is_so("r1", "unknown")
+        self.assertIn("last failure  start: failed: it ran past its timeout and was killed (OCF_ERR_GENERIC, 1), ", table)
         self.ends(0, "start")
         self.is_so("r1", "started")
         self.is_so("r2", "never run")
@@ -122,8 +122,8 @@ class States(helper.Check):
     def test_interruption(self):
         """an interruption"""
         self.ends(0, "start")
-        run = self.heard("serve", "--journal", self.folder, "--root", self.here, "--orphans", "0")
-        run.tell({"op": "params", "id": "r1", "params": {"code": "sleep"}}, helper.action("r1", "stop"), helper.action("r1", "start"))
+        run = self.started("serve", "--journal", self.folder, "--root", self.here, "--orphans", "0")
+        run.send({"op": "params", "id": "r1", "params": {"code": "sleep"}}, helper.action("r1", "stop"), helper.action("r1", "start"))
         self.eventually("a stop that runs", lambda: self.condition("r1")["running"])
         self.is_so("r1", "started", ends=0)
         self.assertRegex(self.status().decode(), r"(?m)^r1 .*stopping for \d+ (ms|s) of at most 20 s, 1 queued$")
@@ -137,7 +137,7 @@ class States(helper.Check):
         for code, action, state in ((0, "start", "started"), (1, "monitor", "failed"), (0, "stop", "failed"), (0, "start", "started")):
             self.ends(code, action)
             states["r1"] = state
-            run = self.heard("serve", "--journal", self.folder, "--root", self.here, "--orphans", "0")
+            run = self.started("serve", "--journal", self.folder, "--root", self.here, "--orphans", "0")
             run.ready()
             for words, seen in (([], states.values()), (["r1"], [state]), (["r2"], ["never run"]), (["r2", "r1"], states.values())):
                 self.status("--exit-code", *words, status=max(ALARM.get(each, 0) for each in seen))

@@ -69,16 +69,16 @@ class StandardError(helper.Check):
                 pass
 
     def opened(self, *words, **how):
-        return self.heard(*(words or ("serve", "--memory")), "--root", self.here, err=f"/proc/{os.getpid()}/fd/{self.writer}", **how)
+        return self.started(*(words or ("serve", "--memory")), "--root", self.here, err=f"/proc/{os.getpid()}/fd/{self.writer}", **how)
 
     def starts(self, run, count, name="r1"):
         """Starts that the system refuses; each is reported, and a question after it is answered."""
         for _ in range(count):
-            before, ends = len(run.values()), len(run.told())
-            run.tell(helper.action(name, "start"), {"op": "list"})
+            before, ends = len(run.values()), len(run.notices())
+            run.send(helper.action(name, "start"), {"op": "list"})
             run.awaits(lambda value: "resources" in value, after=before)
-            self.eventually("a notice", lambda: len(run.told()) > ends)
-            self.assertEqual(run.told()[-1]["outcome"], "not-started")
+            self.eventually("a notice", lambda: len(run.notices()) > ends)
+            self.assertEqual(run.notices()[-1]["outcome"], "not-started")
 
     def test_refused(self):
         """a start that the system refuses is named with its run, its resource and the error, except a missing agent and a denied one"""
@@ -90,11 +90,11 @@ class StandardError(helper.Check):
         for words in (["serve", "--memory"], ["serve", "--memory", "--no-groups"]):
             with self.subTest(words):
                 run = self.opened(*words)
-                run.tell(helper.register("r2", "Loop"), helper.register("r3", "Below", provider="file"), helper.register("r4", "Missing"),
+                run.send(helper.register("r2", "Loop"), helper.register("r3", "Below", provider="file"), helper.register("r4", "Missing"),
                          helper.register("r5", "Denied"))
                 for name in ("r2", "r3", "r4", "r5"):
                     self.starts(run, 1, name)
-                self.assertEqual([end["code"] for end in run.told()], [1, 1, 5, 4])
+                self.assertEqual([end["code"] for end in run.notices()], [1, 1, 5, 4])
                 wanted = [refused(1, "r2", "Too many levels of symbolic links (os error 40)"),
                           refused(2, "r3", "Not a directory (os error 20)")]
                 self.assertEqual(taken(self.reader), "".join(wanted))
@@ -102,7 +102,7 @@ class StandardError(helper.Check):
     def test_bare(self):
         """so is one without a first line, if the executor runs it itself"""
         run = self.opened("serve", "--memory", "--no-groups")
-        run.tell(helper.register("r1", "Bare"))
+        run.send(helper.register("r1", "Bare"))
         self.starts(run, 1)
         self.assertEqual(taken(self.reader), refused(1, "r1", EXEC_FORMAT))
 
@@ -111,7 +111,7 @@ class StandardError(helper.Check):
         for words in ([], ["--log", self.place("log")]):
             with self.subTest(words):
                 run = self.opened("serve", "--memory", "--no-groups", *words)
-                run.tell(helper.register("r1", "Bare"), {"op": "list"})
+                run.send(helper.register("r1", "Bare"), {"op": "list"})
                 run.awaits(lambda value: "resources" in value)
                 hard = resource.prlimit(run.run.pid, resource.RLIMIT_NOFILE)[1]
                 resource.prlimit(run.run.pid, resource.RLIMIT_NOFILE, (4, hard))
@@ -122,7 +122,7 @@ class StandardError(helper.Check):
         """so is a question for metadata"""
         run = self.opened("serve", "--memory", "--no-groups")
         for kind in ("Bare", "Missing"):
-            run.tell({"op": "meta", "provider": "test", "type": kind})
+            run.send({"op": "meta", "provider": "test", "type": kind})
         run.awaits(lambda value: value == {"end": "missing"})
         self.assertEqual(run.values(), [{"end": "other"}, {"end": "missing"}])
         self.assertEqual(taken(self.reader), f"ocfexec: meta-data of test:Bare was not started: {EXEC_FORMAT}\n")
@@ -133,7 +133,7 @@ class StandardError(helper.Check):
         for name in ("SEGV", "TERM"):
             with self.subTest(name):
                 run = self.opened()
-                run.tell(helper.register("web", "Dies", by=name), helper.action("web", "start"))
+                run.send(helper.register("web", "Dies", by=name), helper.action("web", "start"))
                 run.awaits(helper.is_notice)
                 wanted = f"ocfexec: run 1 of web was ended by signal {int(signal.Signals['SIG' + name])}\n"
                 self.assertEqual(taken(self.reader), wanted)
@@ -142,7 +142,7 @@ class StandardError(helper.Check):
         """a full pipe delays no reply and no notice, and the next line that is written has the number of lines left out"""
         fill(self.writer)
         run = self.opened("serve", "--memory", "--no-groups")
-        run.tell(helper.register("r1", "Bare"))
+        run.send(helper.register("r1", "Bare"))
         self.starts(run, 3)
         self.assertEqual(set(taken(self.reader)), {"x"})
         self.starts(run, 2)
@@ -157,7 +157,7 @@ class StandardError(helper.Check):
             with self.subTest(word):
                 fill(self.writer)
                 run = self.opened(word, "--journal", folder)
-                run.tell({"op": "list"})
+                run.send({"op": "list"})
                 run.awaits(lambda value: "resources" in value)
                 self.assertEqual(run.ends(5), 0)
 
@@ -167,7 +167,7 @@ class StandardError(helper.Check):
         self.agent("Stuck", "case $1 in start) sleep 600 ;; esac\n")
         shim = helper.shim("stuck.c", self.here)
         run = self.opened(env={**os.environ, "LD_PRELOAD": shim})
-        run.tell(helper.register("r1", "Stuck"), helper.action("r1", "start", timeout=500))
+        run.send(helper.register("r1", "Stuck"), helper.action("r1", "start", timeout=500))
         _, notice = run.awaits(helper.is_notice)
         self.assertEqual(notice["outcome"], "timed-out")
         self.assertRegex(taken(self.reader), r"\Aocfexec: r1 waits for pid \d+ \(Stuck\) of start, which is still alive after SIGKILL\n")
@@ -193,7 +193,7 @@ class StandardError(helper.Check):
             (["run", "--memory", "--log", self.here], 7, "input or output", [f"{self.here}: Is a directory ", "Nothing was changed. "]),
         ]
 
-    def is_told(self, found, status, line, more):
+    def is_explained(self, found, status, line, more):
         """Whether a run has this status and this line, and then lines that begin so."""
         code, err = found
         first, *rest = err.splitlines()
@@ -216,14 +216,14 @@ class StandardError(helper.Check):
             for words, status, line, _ in self.faults() if stream is None else self.faults()[-1:]:
                 with self.subTest(stream=stream, words=words):
                     code = self.on(words, self.writer, **({} if stream is None else {"JOURNAL_STREAM": stream}))
-                    self.is_told((code, taken(self.reader)), status, line, [])
+                    self.is_explained((code, taken(self.reader)), status, line, [])
 
     def test_journal(self):
         """the system's journal also has the cause and the remedy"""
         for words, status, line, more in self.faults():
             with self.subTest(words):
                 code = self.on(words, self.writer, **helper.journal_stream(self.writer))
-                self.is_told((code, taken(self.reader)), status, line, more)
+                self.is_explained((code, taken(self.reader)), status, line, more)
 
     def test_terminal(self):
         """and so has a terminal"""
@@ -231,7 +231,7 @@ class StandardError(helper.Check):
         for words, status, line, more in self.faults():
             with self.subTest(words):
                 code = self.on(words, terminal)
-                self.is_told((code, taken(main)), status, line, more)
+                self.is_explained((code, taken(main)), status, line, more)
         os.close(terminal), os.close(main)
 
     def test_unread(self):
@@ -243,12 +243,12 @@ class StandardError(helper.Check):
         self.assertEqual(run.wait(helper.PATIENCE), 7)
         run.stdin.close()
         wanted = ["the reader of standard output has gone", "Check what standard input and output are connected to. "]
-        self.is_told((7, taken(self.reader)), 7, "input or output", wanted)
+        self.is_explained((7, taken(self.reader)), 7, "input or output", wanted)
 
     def test_gone(self):
         """a reader that goes away stops nothing"""
         run = self.opened("serve", "--memory", "--no-groups")
-        run.tell(helper.register("r1", "Bare"))
+        run.send(helper.register("r1", "Bare"))
         os.close(self.reader)
         self.starts(run, 2)
         self.assertEqual(run.ends(5), 0)

@@ -71,7 +71,7 @@ class Streams(helper.Check):
     def test_unread(self) -> None:
         """output that nobody reads ends a run, and a status whose exit status counts, with 7; all else that only prints ends with 0"""
         folder = self.journal()
-        done = helper.run("run", "--journal", folder, told=helper.lines(helper.register("r1", "t", "p")))
+        done = helper.run("run", "--journal", folder, sent=helper.lines(helper.register("r1", "t", "p")))
         self.assertEqual(done.returncode, 0, done.stderr)
         with open(unread(), "wb") as pipe:
             self.unwritten("run --memory", UNREAD, stdout=pipe)
@@ -101,7 +101,7 @@ class Memory(helper.Check):
             resource.setrlimit(resource.RLIMIT_AS, (limit << 10, limit << 10))
             resource.setrlimit(resource.RLIMIT_CORE, (0, 0))
 
-        done = helper.run("run", "--memory", told=LIST, preexec_fn=have)
+        done = helper.run("run", "--memory", sent=LIST, preexec_fn=have)
         err = done.stderr.decode()
         if done.returncode == 0:
             self.assertEqual(done.stdout, NONE, limit)

@@ -74,9 +74,9 @@ class Strict(helper.Check):
 
     def ends(self, commands, *words, status, strict=True, explained=False):
         """Runs these lines with these words; it ends with this status. Returns its standard output and standard error."""
-        told = b"".join(line + b"\n" if isinstance(line, bytes) else helper.lines(line) for line in commands)
+        sent = b"".join(line + b"\n" if isinstance(line, bytes) else helper.lines(line) for line in commands)
         run = helper.explained if explained else helper.run
-        done = run("run", *["--strict"] * strict, "--root", self.here, *words, told=told)
+        done = run("run", *["--strict"] * strict, "--root", self.here, *words, sent=sent)
         self.assertEqual(done.returncode, status, (done.stdout, done.stderr))
         return MOMENT.sub(b"", done.stdout), done.stderr
 
@@ -106,8 +106,8 @@ class Strict(helper.Check):
         """what an opening reports as interrupted or dropped is no failure, and earlier failures are none"""
         folder = self.journal()
         self.ends([*self.registered, helper.action("r1", "start"), {"op": "drain"}], "--journal", folder, status=1)
-        first = self.heard("run", "--journal", folder, "--root", self.here)
-        first.tell(helper.action("sleeper", "start"), helper.action("sleeper", "stop"), {"op": "drain"})
+        first = self.started("run", "--journal", folder, "--root", self.here)
+        first.send(helper.action("sleeper", "start"), helper.action("sleeper", "stop"), {"op": "drain"})
         self.eventually("an action that runs", lambda: b'"running":{' in helper.shown(folder))
         first.killed()
         out, err = self.ends([], "--journal", folder, "--leave-orphans", status=0)

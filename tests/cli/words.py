@@ -147,7 +147,7 @@ class Requested(Words):
     def test_run(self) -> None:
         """--root, --path and --via say how an agent is asked for its metadata, and have defaults"""
         for words, wanted in PRINTED:
-            done = helper.run("run", "--memory", *words.split(), told=helper.lines(META))
+            done = helper.run("run", "--memory", *words.split(), sent=helper.lines(META))
             self.assertEqual((done.returncode, done.stderr, done.stdout.decode()), (0, b"", wanted), words)
 
     def test_moments(self) -> None:
@@ -179,7 +179,7 @@ class Journal(Words):
 
     def test_argument(self) -> None:
         """an argument names another journal than OCFEXEC_JOURNAL"""
-        done = helper.run("run", "--journal", self.journal("other"), told=helper.lines(helper.register("r1", "t", "p")))
+        done = helper.run("run", "--journal", self.journal("other"), sent=helper.lines(helper.register("r1", "t", "p")))
         self.assertEqual(done.returncode, 0, done.stderr)
         self.assertIn("r1", self.prints("show", "--journal", self.place("other"), **self.variable))
         self.assertEqual(self.prints("show", "--memory", **self.variable), NONE)

@@ -1,9 +1,9 @@
 #!/usr/bin/env python3
 """The file `agents` of a journal's directory: who runs. Wanted: it has one length, an entry for each running agent and none for an ended
 one; it is written once for each spawn and once for each end, and never synced. An opening believes only what it can: a file of garbage, of
-another length or of another boot, a named pipe, a directory and a link are no record, are told in one line, stop nothing and hold nothing,
-and so is an entry of a process that is another one by now; garbage in one line hides no other entry. What a link leads to is left alone.
-A stop runs also where no line is free for it.
+another length or of another boot, a named pipe, a directory and a link are no record, are named in one line, stop nothing and hold nothing,
+and so is an entry of a process that is another one by now; garbage in one line hides no other entry. What a link leads to is left alone. A
+stop runs also where no line is free for it.
 Use: agents_file.py PROGRAM"""
 import os
 import shutil
@@ -74,21 +74,21 @@ class AgentsFile(acting.Acting):
 
     def begun(self):
         """A journal with two resources."""
-        done = helper.run("serve", "--journal", self.folder, "--root", self.here, told=helper.lines(
+        done = helper.run("serve", "--journal", self.folder, "--root", self.here, sent=helper.lines(
             self.register("r1"), self.register("r2", start="exit 0", stop="exit 0")))
         self.assertEqual(done.returncode, 0, done.stderr)
 
     def left(self):
         """Leaves a journal whose executor was killed during a start of r1, and returns the number of its agent."""
         run = self.serves()
-        run.tell(self.register("r1", start="exec HERE/waits agent", stop="exit 0"), self.register("r2", start="exit 0", stop="exit 0"),
+        run.send(self.register("r1", start="exec HERE/waits agent", stop="exit 0"), self.register("r2", start="exit 0", stop="exit 0"),
                  helper.action("r1", "start", timeout=600_000))
         pid = self.pid("agent")
         run.killed()
         return pid
 
-    def is_free(self, told=1):
-        """An executor opens the journal, tells in this many lines what it found, and every resource runs its actions."""
+    def is_free(self, lines=1):
+        """An executor opens the journal, reports in this many lines what it found, and every resource runs its actions."""
         run = self.serves()
         run.ready()
         for name, what in (("r1", "stop"), ("r2", "start"), ("r2", "stop"), ("r1", "stop")):
@@ -96,13 +96,13 @@ class AgentsFile(acting.Acting):
             self.assertEqual((end["outcome"], end["code"]), ("done", 0), self.seen())
         self.assertEqual(run.ends(), 0)
         found = self.said().splitlines()
-        self.assertEqual(len(found), told, found)
+        self.assertEqual(len(found), lines, found)
         for line in found:
             self.assertRegex(line, r"\Aocfexec: .*\bagents\b")
         return run
 
     def is_kept_again(self):
-        """The next executor keeps its record in a file of the one length, and finds nothing in it to tell."""
+        """The next executor keeps its record in a file of the one length, and finds nothing in it to report."""
         self.assertEqual(self.entries(), [])
         self.is_free(0)
 
@@ -111,15 +111,15 @@ class AgentsFile(acting.Acting):
         self.assertIn("call", self.answered(run, helper.action("r1", "stop")))
         for what in ("start", "stop"):
             self.assertEqual(self.done(run, "r2", what)["outcome"], "done")
-        self.assertEqual([end for end in run.told() if helper.is_notice(end, id="r1", action="stop")], [], self.seen())
+        self.assertEqual([end for end in run.notices() if helper.is_notice(end, id="r1", action="stop")], [], self.seen())
         self.assertTrue(helper.is_alive(pid), self.seen())
 
     def test_entries(self):
         """it has one line for each running agent, with the numbers of its process, and none for an ended one"""
         run = self.serves()
-        run.tell(self.register("r1", start="exec HERE/waits agent"), self.register("r2", monitor="exec HERE/waits other"))
+        run.send(self.register("r1", start="exec HERE/waits agent"), self.register("r2", monitor="exec HERE/waits other"))
         before = monotonic()
-        run.tell(helper.action("r1", "start", timeout=600_000), helper.action("r2", "monitor", timeout=500_000))
+        run.send(helper.action("r1", "start", timeout=600_000), helper.action("r2", "monitor", timeout=500_000))
         pids = {"r1": self.pid("agent"), "r2": self.pid("other")}
         after = monotonic()
         self.assertEqual(stat.S_IMODE(os.stat(self.file).st_mode), 0o600)
@@ -151,11 +151,11 @@ class AgentsFile(acting.Acting):
             with open(calls, encoding="ascii") as file:
                 return file.read()
         opened = noted()
-        run.tell(self.register("r1", start="exec HERE/waits agent"), self.register("r2", start="exit 0"))
+        run.send(self.register("r1", start="exec HERE/waits agent"), self.register("r2", start="exit 0"))
         for _ in range(5):
             self.assertEqual(self.done(run, "r2", "start")["code"], 0)
         self.assertEqual(noted()[len(opened):], "ww" * 5)
-        run.tell(helper.action("r1", "start", timeout=600_000))
+        run.send(helper.action("r1", "start", timeout=600_000))
         self.pid("agent")
         for _ in range(5):
             self.answered(run, {"op": "list"})
@@ -172,14 +172,14 @@ class AgentsFile(acting.Acting):
         self.assertEqual(sorted(os.listdir(self.folder)), ["agents", "identity", "part-a", "part-b"])
 
     def test_missing(self):
-        """a missing file is made, and nothing is told"""
+        """a missing file is made, and nothing is reported"""
         self.begun()
         os.remove(self.file)
         self.is_free(0)
         self.is_kept_again()
 
     def wrong(self, make):
-        """A file that is no record, in place of one with an orphan: one line tells it, nothing is held, and the next one is kept."""
+        """A file that is no record, in place of one with an orphan: one line reports it, nothing is held, and the next one is kept."""
         pid = self.left()
         text = self.read()
         make(text)
@@ -265,7 +265,7 @@ class AgentsFile(acting.Acting):
         [stop] = self.ends_of(run, "r1", "stop")
         self.assertEqual((stop["outcome"], stop["code"]), ("done", 0))
         # each of the other lines is free for an entry
-        run.tell(self.register("r3", start="exec HERE/waits third"), helper.action("r3", "start", timeout=600_000))
+        run.send(self.register("r3", start="exec HERE/waits third"), helper.action("r3", "start", timeout=600_000))
         third = self.pid("third")
         self.assertIn(str(third).encode(), self.read().split())
 

@@ -28,8 +28,8 @@ class Faults(helper.Check):
     def begun(self, word, journal):
         # a program over this journal, under which the device fails from `fault` on
         self.flag, self.err = journal + ".fault", journal + ".err"
-        return self.heard(word, "--journal", journal, "--root", self.here, err=self.err,
-                          env={**os.environ, "LD_PRELOAD": self.shim, "FAULT": self.flag})
+        return self.started(word, "--journal", journal, "--root", self.here, err=self.err,
+                            env={**os.environ, "LD_PRELOAD": self.shim, "FAULT": self.flag})
 
     def fault(self, number=errno.EIO):
         with open(self.flag + ".new", "w", encoding="ascii") as file:
@@ -38,7 +38,7 @@ class Faults(helper.Check):
 
     def asleep(self, run):
         # the process of an agent whose start lasts
-        run.tell(register("slow", "Sleeper", pid=self.place_of_pid("slow")), action("slow", "start", timeout=60000))
+        run.send(register("slow", "Sleeper", pid=self.place_of_pid("slow")), action("slow", "start", timeout=60000))
         return self.numbers_in(self.place_of_pid("slow"))[0]
 
     def ends_by_fault(self, run, began):
@@ -50,10 +50,10 @@ class Faults(helper.Check):
         self.assertEqual(run.values()[-1], LINE, "the last line")
         with open(self.err, encoding="utf-8") as file:
             # (the entries of agents that are given up cannot be removed there either)
-            told = [line for line in file.read().splitlines() if not line.startswith("ocfexec: file agents: ")]
+            lines = [line for line in file.read().splitlines() if not line.startswith("ocfexec: file agents: ")]
         # a start may meet the fault first, as its agent is written into the file agents
-        told = [line for line in told if " was not started: " not in line]
-        self.assertTrue(told and told[0].startswith("ocfexec: disk"), told)
+        lines = [line for line in lines if " was not started: " not in line]
+        self.assertTrue(lines and lines[0].startswith("ocfexec: disk"), lines)
 
     def interrupted(self, journal):
         # the report of the next opening
@@ -68,7 +68,7 @@ class Faults(helper.Check):
                 journal = self.journal(name)
                 run = self.begun("serve", journal)
                 agent = self.asleep(run)
-                run.tell(register("quick", "Quick"), {"op": "recur", "id": "quick", "interval": 50})
+                run.send(register("quick", "Quick"), {"op": "recur", "id": "quick", "interval": 50})
                 run.awaits(lambda value: helper.is_notice(value, id="quick"))
                 began = time.monotonic()
                 self.fault(number)
@@ -87,7 +87,7 @@ class Faults(helper.Check):
                 agent = self.asleep(run)
                 before, began = len(run.values()), time.monotonic()
                 self.fault()
-                run.tell(register("a", "Quick"), *more, {"op": "list"}, {"op": "drain"})
+                run.send(register("a", "Quick"), *more, {"op": "list"}, {"op": "drain"})
                 self.ends_by_fault(run, began)
                 refused = {"error": "disk", "number": 16}
                 self.assertEqual([helper.bare(value) for value in run.values()[before:]], [refused] * (1 + len(more)) + [LINE])
@@ -100,39 +100,39 @@ class Faults(helper.Check):
         for name, commands in (("drain", [{"op": "drain"}]), ("tidy", [{"op": "tidy"}])):
             with self.subTest(name):
                 run = self.begun("serve", self.journal(name))
-                run.tell(register("quick", "Quick"), {"op": "list"})
+                run.send(register("quick", "Quick"), {"op": "list"})
                 run.awaits(lambda value: "resources" in value)
                 if name == "drain":
-                    run.tell({"op": "recur", "id": "quick", "interval": 1}, {"op": "watch", "limit": 86400000})
+                    run.send({"op": "recur", "id": "quick", "interval": 1}, {"op": "watch", "limit": 86400000})
                     run.awaits(lambda value: helper.is_notice(value, id="quick"))
                     commands = []
                 began = time.monotonic()
                 self.fault()
-                run.tell(*commands)
+                run.send(*commands)
                 self.ends_by_fault(run, began)
                 self.assertEqual([value for value in run.values() if "end" in value], [LINE, LINE])
 
     def test_run(self):
         """a run answers that it is closed, to the end of its input"""
         run = self.begun("run", self.journal())
-        run.tell({"op": "list"})
+        run.send({"op": "list"})
         run.awaits(lambda value: "resources" in value)
         self.fault()
-        run.tell(register("a", "Quick"))
+        run.send(register("a", "Quick"))
         run.awaits(lambda value: value.get("number") == 16)
-        run.tell({"op": "list"}, {"op": "drain"})
+        run.send({"op": "list"}, {"op": "drain"})
         self.assertEqual(run.ends(), 5)
         self.assertEqual(run.values()[1:], [{"error": "disk", "number": 16}, {"error": "closed", "number": 17}, {"end": "closed"}])
 
-    def told(self, run, before, text):
+    def count(self, run, before, text):
         return sum(text in line for _, line in run.lines[before:])
 
     def asks(self, run, command, many):
         # sends it this often, waits for all replies, and returns whether one says that the journal is full
         before = len(run.lines)
-        run.tell(*[command] * many, {"op": "list"})
-        self.eventually("the resources", lambda: self.told(run, before, '"resources"'))
-        return self.told(run, before, '"number":14') > 0
+        run.send(*[command] * many, {"op": "list"})
+        self.eventually("the resources", lambda: self.count(run, before, '"resources"'))
+        return self.count(run, before, '"number":14') > 0
 
     def fill(self, run):
         # long commands until none fits, and then short ones; returns how many lines have reported then that the journal is full
@@ -142,17 +142,17 @@ class Faults(helper.Check):
         while not self.asks(run, {"op": "forget", "id": "full"}, 200):
             pass
         time.sleep(0.5)
-        return self.told(run, 0, '{"end":"full","kind":"trouble"}')
+        return self.count(run, 0, '{"end":"full","kind":"trouble"}')
 
     def test_full(self):
         """serve reports a full journal once, and again after it was not full"""
-        run = self.heard("serve", "--memory", "--tidy-at", "0", "--root", self.here)
-        run.tell(register("full", "Quick"), register("quick", "Quick"), {"op": "recur", "id": "quick", "interval": 20})
+        run = self.started("serve", "--memory", "--tidy-at", "0", "--root", self.here)
+        run.send(register("full", "Quick"), register("quick", "Quick"), {"op": "recur", "id": "quick", "interval": 20})
         self.assertEqual(self.fill(run), 1)
-        run.tell({"op": "tidy"})
+        run.send({"op": "tidy"})
         run.awaits(lambda value: value == {"end": "done"})
-        seen = len(run.told())
-        self.eventually("monitors that go on", lambda: len(run.told()) > seen)
+        seen = len(run.notices())
+        self.eventually("monitors that go on", lambda: len(run.notices()) > seen)
         self.assertEqual(self.fill(run), 2)
         self.assertEqual(run.ends(), 0)
 

@@ -54,12 +54,12 @@ class Played:
     def __init__(self):
         self.answers, self.status, self.err, self.made, self.refused = [], None, "", 0, 0
 
-    def told(self):
+    def notices(self):
         return [value for values in self.answers for value in values if helper.is_notice(value)]
 
     def seen(self):
         """The replies, step by step, and all notices in one order: when one comes, and which resource begins first, is a matter of time."""
-        return [[value for value in values if not helper.is_notice(value)] for values in self.answers], loose(own_runs(self.told()), ())
+        return [[value for value in values if not helper.is_notice(value)] for values in self.answers], loose(own_runs(self.notices()), ())
 
 
 def plain(value):
@@ -203,11 +203,11 @@ class Growths(helper.Check):
 
     # The requirements.
 
-    def is_told(self, found):
+    def is_explained(self, found):
         self.assertIn(found.status, ENDS, found.err)
         self.assertTrue(found.err.startswith(ENDS[found.status]) or found.status == 0, found.err)
 
-    def stands(self, steps, found, folder):
+    def is_found(self, steps, found, folder):
         # what was acknowledged and reported is in the journal; commands that were written at once may be there before they are acknowledged
         end = len(found.answers) + 1
         while end < len(steps) and steps[end - 1].joins:
@@ -224,8 +224,8 @@ class Growths(helper.Check):
             call = next((value["call"] for value in values if "call" in value and "ok" in value), None)
             calls = info["queued"] + [(info["running"] or {}).get("call")] + [end["call"] for end in history["results"]]
             self.assertTrue(call is None or call in calls, f"call {call}")
-        for notice in found.told():
-            self.assertIn(helper.result_of(notice), shown[notice["id"]][1]["results"], "a notice that was told")
+        for notice in found.notices():
+            self.assertIn(helper.result_of(notice), shown[notice["id"]][1]["results"], "a notice that was sent")
 
     def ended_early(self, steps, base, found, folder, before):
         if found.status == 4:
@@ -235,27 +235,27 @@ class Growths(helper.Check):
             return "opening"
         replies, wanted = found.seen()[0][:-1], base.seen()[0]
         self.assertEqual(replies, wanted[:len(replies)], "before a reply without memory")
-        self.stands(steps, found, folder)
+        self.is_found(steps, found, folder)
         return "reply"
 
     def turned(self, base, found, lost):
         # a turn that ended as memory, or an agent that was not started: everything else is done
-        starts = sum(value["outcome"] == "not-started" for value in found.told())
+        starts = sum(value["outcome"] == "not-started" for value in found.notices())
         ends = sum(value == {"end": "memory"} for values in found.answers for value in values)
         self.assertEqual(starts + ends, 1, "one turn that found no memory")
         but = ("run", "outcome", "code", "name", "failed")
-        told, wanted = loose(found.told(), but), loose(base.told(), but)
-        missing = len(wanted) - len(told)
-        self.assertTrue(0 <= missing <= lost and all(value in wanted for value in told), "what is told")
-        runs = [value["run"] for value in found.told() if "run" in value]
+        notices, wanted = loose(found.notices(), but), loose(base.notices(), but)
+        missing = len(wanted) - len(notices)
+        self.assertTrue(0 <= missing <= lost and all(value in wanted for value in notices), "what is reported")
+        runs = [value["run"] for value in found.notices() if "run" in value]
         self.assertEqual(len(set(runs)), len(runs), "runs of their own")
-        codes = [(value["outcome"], value["code"]) for value in found.told() if value["outcome"] != "done"]
+        codes = [(value["outcome"], value["code"]) for value in found.notices() if value["outcome"] != "done"]
         self.assertEqual(codes, [("not-started", 1)] * starts)
         return "not started" if starts else "turn"
 
     def judge(self, words, steps, base, found, folder, before, lost):
         """How a run with one refused growth ended, in a word."""
-        self.is_told(found)
+        self.is_explained(found)
         if found.status:
             return self.ended_early(steps, base, found, folder, before)
         self.assertEqual(len(found.answers), len(steps))
@@ -263,9 +263,9 @@ class Growths(helper.Check):
         if refused:
             self.places.update(refused)
             left = self.without(words, steps, refused[0])
-            (replies, notices), (wanted, told) = found.seen(), left.seen()
+            (replies, notices), wanted = found.seen(), left.seen()
             self.assertEqual((len(refused), [helper.bare(value) for value in replies.pop(refused[0])]), (1, [MEMORY]))
-            self.assertEqual((replies, notices), (wanted, told), "as without this command")
+            self.assertEqual((replies, notices), wanted, "as without this command")
             return "refused"
         metas = [[{key: part for key, part in value.items() if key != "tag"} for value in values]
                  for step, values in zip(steps, found.answers) if step.command["op"] == "meta"]
@@ -321,7 +321,7 @@ class Growths(helper.Check):
     def listed(self):
         return [Step(helper.register("r1", "Dummy", a="b")), Step(LIST)]
 
-    def started(self):
+    def with_start(self):
         return [Step(helper.register("r1", "Dummy")), Step(helper.action("r1", "start"), awaits=True), Step(DRAIN), Step(DRAIN),
                 Step({"op": "history", "id": "r1"})]
 
@@ -349,8 +349,8 @@ class Growths(helper.Check):
     def prepared(self, *commands):
         # a journal left by a run that was killed after these commands
         folder = self.journal("prepared")
-        run = helper.Heard("run", "--journal", folder, "--root", self.here, "--via", "sleep", "--tidy-at", "0")
-        run.tell(*commands, LIST)
+        run = helper.Running("run", "--journal", folder, "--root", self.here, "--via", "sleep", "--tidy-at", "0")
+        run.send(*commands, LIST)
         run.awaits(lambda value: "resources" in value, 60)
         run.killed()
         return folder
@@ -373,8 +373,8 @@ class Growths(helper.Check):
 
     def test_start(self):
         """a start"""
-        self.sweep(self.words("run", "--via", "echo", "--log", self.place("log")), self.started())
-        self.sweep(self.words("serve", "--via", "echo"), self.started(), opens=False)
+        self.sweep(self.words("run", "--via", "echo", "--log", self.place("log")), self.with_start())
+        self.sweep(self.words("serve", "--via", "echo"), self.with_start(), opens=False)
 
     def test_beside(self):
         """two resources in parallel"""
@@ -419,7 +419,7 @@ class Growths(helper.Check):
         self.sweep(self.words("run"), [Step(LIST), Step(LIST)], before=before)
 
     def shows(self, folder, words, ended, beside=()):
-        # refuses each growth of a show; what it finds beside the parts has these keys, and is null where it cannot be told
+        # refuses each growth of a show; what it finds beside the parts has these keys, and is null where it cannot be known
         files, base = files_of(folder), self.play(words, [])
         ends, refuse = collections.Counter(), 1
         while (found := self.play(words, [], refuse)).refused:
@@ -454,8 +454,8 @@ class Growths(helper.Check):
         folder = self.fresh()
         words = [word.replace("JOURNAL", folder) for word in words]
         base, ends, refuse = self.play(words, steps), collections.Counter(), 1
-        with_key = [value for value in loose(base.told(), ("run",)) if key in value]
-        self.assertEqual((base.status, len(with_key)), (0, 1), base.told())
+        with_key = [value for value in loose(base.notices(), ("run",)) if key in value]
+        self.assertEqual((base.status, len(with_key)), (0, 1), base.notices())
         while True:
             self.fresh()
             if not (found := self.play(words, steps, refuse)).refused:
@@ -464,9 +464,9 @@ class Growths(helper.Check):
                 ends[found.status] += 1
                 self.assertIn(found.status, ENDS, found.err)
                 self.assertIn(ENDS[found.status], found.err)
-                self.assertTrue(all(value in with_key for value in loose(found.told(), ("run",)) if key in value), "its notice")
+                self.assertTrue(all(value in with_key for value in loose(found.notices(), ("run",)) if key in value), "its notice")
                 if found.status == 7:
-                    self.stands(steps, found, folder)
+                    self.is_found(steps, found, folder)
             refuse += 1
         print(f"growths: {words[0]} {self._testMethodName}: {base.made} growths, by status: {dict(sorted(ends.items()))}", flush=True)
 
@@ -478,7 +478,7 @@ class Growths(helper.Check):
         base = self.sweep(self.words("serve", "--via", "echo"), tagged(self.together()), opens=False)
         self.assertEqual([[value["tag"] for value in values if not helper.is_notice(value)] for values in base.answers],
                          [[f"tag {place}"] for place in range(len(base.answers))])
-        steps = [*[step for step in self.started() if step.command != DRAIN], Step({"op": "status"}), Step({"op": "version"}),
+        steps = [*[step for step in self.with_start() if step.command != DRAIN], Step({"op": "status"}), Step({"op": "version"}),
                  Step({"op": "meta", "provider": "p", "type": "t"}), Step({"op": "tidy"})]
         base = self.sweep(self.words("serve", "--via", "echo"), tagged(steps), opens=False)
         self.assertEqual([[value["tag"] for value in values] for values in base.answers],
@@ -494,8 +494,8 @@ class Growths(helper.Check):
         """a notice of a start that lives on"""
         pid, folder = self.place("pid"), self.journal("prepared")
         self.agent("Slow", f"echo $$ > {pid}\nsleep 600\n:\n")
-        run = helper.Heard("serve", "--journal", folder, "--root", self.here, "--path", "/usr/bin:/bin")
-        run.tell(helper.register("r1", "Slow"), helper.action("r1", "start", timeout=900_000))
+        run = helper.Running("serve", "--journal", folder, "--root", self.here, "--path", "/usr/bin:/bin")
+        run.send(helper.register("r1", "Slow"), helper.action("r1", "start", timeout=900_000))
         [number] = self.numbers_in(pid)
         self.addCleanup(os.kill, number, 9)
         run.killed()
@@ -512,7 +512,7 @@ class Growths(helper.Check):
                     closed = [[{"error": "disk", "number": 16}], [{"error": "closed", "number": 17}]]
                     self.assertIn(found.answers, ([], closed))
                 else:
-                    self.is_told(found)
+                    self.is_explained(found)
                     self.assertTrue(found.status != 4 or not found.answers, "nothing with status 4")
             refuse += 1
         print(f"growths: run --memory: {base.made} growths, by status: {dict(sorted(ends.items()))}", flush=True)

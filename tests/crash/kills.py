@@ -59,18 +59,18 @@ class Kills(helper.Check):
         self.assertEqual((done.returncode, said), (0, ""), "an opening that ends well")
         return helper.replies(done.stdout)
 
-    def found(self, folder, acknowledged, told):
+    def found(self, folder, acknowledged, reported):
         # everything acknowledged and reported is found
         results = helper.results(folder)
         for name, call in acknowledged.items():
             self.assertIn(name, results, "a resource that was registered")
             if call is not None:
                 self.assertEqual([end["call"] for end in results[name]], [call], name)
-        for notice in told:
+        for notice in reported:
             end = results[notice["id"]][0]
-            self.assertEqual((end["call"], end["outcome"]), (notice["call"], notice["outcome"]), "a result that was told")
+            self.assertEqual((end["call"], end["outcome"]), (notice["call"], notice["outcome"]), "a result that was reported")
 
-    def kept(self, number, replies, acknowledged, told, folder):
+    def kept(self, number, replies, acknowledged, reported, folder):
         # checks that a journal after a crash holds what these replies acknowledged and reported, and the earlier ones; returns both
         answers = [reply for reply in replies if "ok" in reply]
         notices = [reply for reply in replies if helper.is_notice(reply)]
@@ -83,9 +83,9 @@ class Kills(helper.Check):
         before = helper.parts(folder)
         self.assertEqual((self.opened(folder), helper.parts(folder)), ([], before), "a second opening")
         self.assertLessEqual({notice["outcome"] for notice in report}, {"interrupted", "dropped"})
-        told = told + notices + report
-        self.found(folder, acknowledged, told)
-        return acknowledged, told
+        reported = reported + notices + report
+        self.found(folder, acknowledged, reported)
+        return acknowledged, reported
 
     def ran(self):
         # no agent ran twice, or unknown to the journal
@@ -106,12 +106,12 @@ class Kills(helper.Check):
         journal = self.journal()
         # (a copy that is made while the journal is could have marks of what is not in it)
         self.opened(journal)
-        acknowledged, told = {}, []
+        acknowledged, reported = {}, []
         for number in range(rounds):
             early, replies = self.killed(number)
-            self.kept(number, early, acknowledged, told, self.place("copy"))
+            self.kept(number, early, acknowledged, reported, self.place("copy"))
             shutil.rmtree(self.place("copy"))
-            acknowledged, told = self.kept(number, replies, acknowledged, told, journal)
+            acknowledged, reported = self.kept(number, replies, acknowledged, reported, journal)
         ran, ended = self.ran()
         counts = ", ".join(f"{ended.count(word)} {word}" for word in ("done", "interrupted", "dropped"))
         calls = [call for call in acknowledged.values() if call is not None]

@@ -28,7 +28,7 @@ class Memory(Limited):
     def judge(self, room, full):
         # how a run with this address space ended: its status, and whether a command was refused
         status, out, err = self.fresh(room, ASKED)
-        self.is_told(status, err, f"in {room} bytes")
+        self.is_explained(status, err, f"in {room} bytes")
         self.assertTrue(status != 4 or out == "", "nothing answered with status 4")
         for reply, of_full in zip(out.split("\n")[:RESOURCES], full):
             self.assertTrue(reply in ("", of_full) or '"memory"' in reply, f"a reply or a refusal, not {reply}")
@@ -44,17 +44,17 @@ class Memory(Limited):
         self.assertIn((4, False), seen, "an opening without memory")
         self.assertTrue(any(status == 7 or refused for status, refused in seen), "a run that found no memory")
 
-    def test_stands(self):
+    def test_found(self):
         """records made with too little memory are found with enough"""
         for part in (3, 5, 7):
             folder = self.journal(f"journal{part}")
             room = self.floor + (self.enough - self.floor) * part // 8
             status, out, err = limited(room, ["run", "--journal", folder], ASKED)
-            self.is_told(status, err, f"with {part} eighths")
-            told = out.split("\n")[:RESOURCES].count('{"ok":true}')
-            done = helper.run("run", "--journal", folder, told=helper.lines({"op": "list"}))
+            self.is_explained(status, err, f"with {part} eighths")
+            accepted = out.split("\n")[:RESOURCES].count('{"ok":true}')
+            done = helper.run("run", "--journal", folder, sent=helper.lines({"op": "list"}))
             self.assertEqual(done.returncode, 0)
-            self.assertGreaterEqual(len(helper.replies(done.stdout)[0]["resources"]), told, "resources that were told")
+            self.assertGreaterEqual(len(helper.replies(done.stdout)[0]["resources"]), accepted, "resources that were accepted")
 
 
 if __name__ == "__main__":

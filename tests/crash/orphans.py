@@ -33,7 +33,7 @@ echo $$ >> {up}/stops
 """
 # A start whose agent waits for a process at the gate; each notes its number.
 START = "echo $$ > UP/orphan-agent; WAITS orphan; :"
-# What an agent may make of itself, so that neither its arguments nor its environment tell what it is; it is at the gate, too.
+# What an agent may make of itself, so that neither its arguments nor its environment show what it is; it is at the gate, too.
 FORMS = {
     "another program": "echo $$ > UP/orphan-agent; exec sh -c 'HERE/waits orphan; :'",
     "exec env -i": "echo $$ > UP/orphan-agent; exec env -i /bin/sh HERE/waits orphan",
@@ -91,7 +91,7 @@ class Orphans(acting.Acting):
         """Leaves a journal whose executor was ended during a start, with a second resource; returns the numbers of what it left."""
         run = self.serves(*words)
         start = start.replace("USER", acting.user() or "")
-        run.tell(self.register(start=start, stop="HERE/beside", monitor=acting.MONITOR), self.register("r2", start="exit 0"),
+        run.send(self.register(start=start, stop="HERE/beside", monitor=acting.MONITOR), self.register("r2", start="exit 0"),
                  helper.action("r1", "start", timeout=timeout))
         pids = [self.pid(name) for name in names]
         run.run.send_signal(end)
@@ -157,7 +157,7 @@ class Orphans(acting.Acting):
         """an opening with an orphan is ready within 0.2 s of the time that one without takes"""
         pids = self.left()
         other = self.journal("other")
-        done = helper.run("serve", "--journal", other, "--root", self.here, told=helper.lines(self.register("r1"), self.register("r2")))
+        done = helper.run("serve", "--journal", other, "--root", self.here, sent=helper.lines(self.register("r1"), self.register("r2")))
         self.assertEqual(done.returncode, 0)
         took = {self.folder: [], other: []}
         for _ in range(5):
@@ -176,13 +176,13 @@ class Orphans(acting.Acting):
         names = [f"m{n}" for n in range(MANY)]
         registered = [self.register(name, start="exec sleep 602") for name in names]
         run = self.serves()
-        run.tell(*registered, *[helper.action(name, "start", timeout=600_000) for name in names])
+        run.send(*registered, *[helper.action(name, "start", timeout=600_000) for name in names])
         self.eventually("all of them run", lambda: sum(one["running"] is not None for one in self.answered(run, {"op": "status"})["status"])
                         >= MANY)
         run.killed()
         other = self.journal("other")
         run = self.opened("--journal", other)
-        run.tell(*registered)
+        run.send(*registered)
         self.assertEqual(run.ends(), 0)
         took = {self.folder: [], other: []}
         for number in range(5):
@@ -213,7 +213,7 @@ class Orphans(acting.Acting):
         agent, orphan = self.left(start)
         run = self.serves("--orphans", "1500")
         self.reports(run, agent)
-        run.tell(helper.action("r1", "stop"))
+        run.send(helper.action("r1", "stop"))
         self.is_released(run)
         self.stays_down([agent, orphan])
 
@@ -273,7 +273,7 @@ class Orphans(acting.Acting):
         os.kill(agent, signal.SIGKILL)
         run = self.serves("--orphans", "1500")
         run.ready()
-        run.tell(helper.action("r1", "stop"))
+        run.send(helper.action("r1", "stop"))
         self.is_released(run)
         self.stays_down([agent, orphan])
 
@@ -291,7 +291,7 @@ class Orphans(acting.Acting):
         self.assertTrue(helper.is_alive(daemon), "the daemon lives")
         self.assertEqual(self.done(run, "r1", "monitor")["code"], 0, "it is up")
         self.assertEqual(run.ends(), 0)
-        self.assertTrue(helper.is_alive(daemon), "it lives on behind the end of the executor")
+        self.assertTrue(helper.is_alive(daemon), "it lives on after the end of the executor")
 
     @unittest.skipUnless(shutil.which("setsid"), "install util-linux")
     def test_became_daemon(self):
@@ -302,7 +302,7 @@ class Orphans(acting.Acting):
         self.eventually("its agent ends", lambda: not helper.is_alive(agent))
         run = self.serves()
         self.reports(run)
-        run.tell(helper.action("r1", "stop"))
+        run.send(helper.action("r1", "stop"))
         self.is_released(run)
         self.assertTrue(helper.is_alive(daemon), "the daemon lives")
 
@@ -313,7 +313,7 @@ class Orphans(acting.Acting):
         daemon = self.pid("daemon")
         run = self.serves("--orphans", "1500")
         self.reports(run, agent)
-        run.tell(helper.action("r1", "stop"))
+        run.send(helper.action("r1", "stop"))
         self.is_released(run)
         self.stays_down([agent, orphan])
         self.assertTrue(helper.is_alive(daemon), "the daemon lives")
@@ -323,7 +323,7 @@ class Orphans(acting.Acting):
         agent, orphan = self.left(timeout=8000)
         run = self.serves()
         self.reports(run, agent)
-        run.tell(helper.action("r1", "stop"))
+        run.send(helper.action("r1", "stop"))
         self.is_released(run)
         self.stays_down([agent, orphan])
         self.assertEqual(self.done(run, "r1", "monitor")["code"], 7)
@@ -333,7 +333,7 @@ class Orphans(acting.Acting):
         agent, orphan = self.left()
         run = self.serves("--orphans", "0")
         run.ready()
-        run.tell(helper.action("r1", "stop"))
+        run.send(helper.action("r1", "stop"))
         self.is_released(run)
         self.stays_down([agent, orphan])
         self.goes_elsewhere(run)
@@ -346,7 +346,7 @@ class Orphans(acting.Acting):
         run.killed()
         run = self.serves("--orphans", "0")
         run.ready()
-        run.tell(helper.action("r1", "stop"))
+        run.send(helper.action("r1", "stop"))
         self.is_released(run)
         self.stays_down([agent, orphan])
 
@@ -371,7 +371,7 @@ class Orphans(acting.Acting):
         """in run the report has no number, and a drain waits for the orphan while another resource goes on"""
         agent, orphan = self.left()
         run = self.serves(way="run")
-        run.tell(helper.action("r1", "stop"), helper.action("r2", "start"), {"op": "drain"})
+        run.send(helper.action("r1", "stop"), helper.action("r2", "start"), {"op": "drain"})
         _, first = run.awaits(lambda value: True)
         self.assertEqual((first["outcome"], first.get("lives")), ("interrupted", None))
         [end] = self.ends_of(run, "r2", "start")
@@ -463,7 +463,7 @@ class Orphans(acting.Acting):
         agent, orphan = self.left()
         run = self.serves()
         self.is_held(run, [agent, orphan])
-        run.tell({"op": "leave"})
+        run.send({"op": "leave"})
         run.awaits(lambda value: value.get("end") == "left")
         self.assertEqual(run.ends(), 0)
         self.assertEqual(self.noted("stops"), [], "the stop has not begun")
@@ -476,12 +476,12 @@ class Orphans(acting.Acting):
     def test_recurring(self):
         """a recurring monitor of a held resource does not run, and one of another resource does"""
         run = self.serves()
-        run.tell(self.register(monitor="echo $$ >> UP/stops; [ -e UP/service ] || exit 7"),
+        run.send(self.register(monitor="echo $$ >> UP/stops; [ -e UP/service ] || exit 7"),
                  self.register("r2", monitor="echo $$ >> UP/others"))
         for name in ("r1", "r2"):
-            run.tell({"op": "recur", "id": name, "interval": 50})
+            run.send({"op": "recur", "id": name, "interval": 50})
         self.pid("stops"), self.pid("others")
-        run.tell({"op": "params", "id": "r1", "params": self.register(start=START, monitor="HERE/beside")["params"]},
+        run.send({"op": "params", "id": "r1", "params": self.register(start=START, monitor="HERE/beside")["params"]},
                  helper.action("r1", "start", timeout=600_000))
         pids = [self.pid("orphan-agent"), self.pid("orphan")]
         run.killed()
@@ -509,7 +509,7 @@ class Orphans(acting.Acting):
         """forty orphans hold their forty resources, and each is released by its own end"""
         names = [f"m{n}" for n in range(40)]
         run = self.serves()
-        run.tell(*[self.register(name, start=f"echo $$ > UP/orphan-{name}; exec sleep 600", stop="HERE/beside") for name in names],
+        run.send(*[self.register(name, start=f"echo $$ > UP/orphan-{name}; exec sleep 600", stop="HERE/beside") for name in names],
                  self.register("r2", start="exit 0"), *[helper.action(name, "start", timeout=600_000) for name in names])
         pids = {name: self.pid(f"orphan-{name}") for name in names}
         run.killed()
@@ -517,7 +517,7 @@ class Orphans(acting.Acting):
         run.ready()
         found = {value["id"]: value.get("lives") for value in map(helper.value_of, run.said[:-1])}
         self.assertEqual(found, pids)
-        run.tell(*[helper.action(name, "stop") for name in names])
+        run.send(*[helper.action(name, "stop") for name in names])
         self.goes_elsewhere(run)
         self.assertEqual(self.noted("stops"), [], "no stop has begun")
         for count, (name, pid) in enumerate(pids.items(), 1):
@@ -567,7 +567,7 @@ class Orphans(acting.Acting):
     def test_suspended_executor(self):
         """so does an action of an executor that lives: both count by one clock"""
         run = self.serves(env=self.clocks(SLEPT=0))
-        run.tell(self.register(start=START, stop="HERE/beside", monitor=acting.MONITOR), self.register("r2", start="exit 0"),
+        run.send(self.register(start=START, stop="HERE/beside", monitor=acting.MONITOR), self.register("r2", start="exit 0"),
                  helper.action("r1", "start", timeout=600_000))
         pids = [self.pid(name) for name in ("orphan-agent", "orphan")]
         self.clocks(SLEPT=DAY)
@@ -582,7 +582,7 @@ class Orphans(acting.Acting):
     def test_dies_along(self):
         """an agent that dies with its executor leaves only its child to be waited for"""
         run = self.serves("--via", os.path.join(helper.TOP, "examples/with-executor.sh"))
-        run.tell(self.register(start="echo $$ > UP/agent; WAITS orphan; echo $$ >> UP/service", stop="HERE/beside"),
+        run.send(self.register(start="echo $$ > UP/agent; WAITS orphan; echo $$ >> UP/service", stop="HERE/beside"),
                  self.register("r2", start="exit 0"), helper.action("r1", "start", timeout=600_000))
         agent, orphan = self.pid("agent"), self.pid("orphan")
         run.killed()
@@ -605,16 +605,16 @@ class Rounds(helper.Check):
         self.folder = self.journal()
 
     def opened(self):
-        return self.heard("run", "--journal", self.folder, "--root", self.here, start_new_session=True)
+        return self.started("run", "--journal", self.folder, "--root", self.here, start_new_session=True)
 
     def round(self):
         # stops, probes and starts, up to a kill at a random moment; returns the number of probes
         running = self.opened()
-        running.tell(*does("stop"), *does("monitor"), *does("start"))
+        running.send(*does("stop"), *does("monitor"), *does("start"))
         time.sleep(random.uniform(0, 0.3))
         running.killed()
-        codes = [value["code"] for value in running.told() if value["action"] == "monitor" and value["outcome"] == "done"]
-        self.assertEqual(set(codes) - {7}, set(), "down behind its stop")
+        codes = [value["code"] for value in running.notices() if value["action"] == "monitor" and value["outcome"] == "done"]
+        self.assertEqual(set(codes) - {7}, set(), "down after its stop")
         return len(codes)
 
     @helper.slow
@@ -623,16 +623,16 @@ class Rounds(helper.Check):
         random.seed(helper.number("SEED", 20261124))
         rounds, kills, probes, later = helper.number("ROUNDS", 100), 0, 0, time.monotonic() + 35
         first = self.opened()
-        first.tell(helper.register("r1", "Slow", log=self.log, time="0.05", up=self.up))
+        first.send(helper.register("r1", "Slow", log=self.log, time="0.05", up=self.up))
         self.assertEqual(first.ends(), 0)
         while kills < rounds and time.monotonic() < later:
             probes += self.round()
             kills += 1
         # (on a busy machine no round may have come so far)
         last = self.opened()
-        last.tell(*does("stop"), *does("monitor"), *does("start"))
+        last.send(*does("stop"), *does("monitor"), *does("start"))
         self.assertEqual(last.ends(), 0)
-        ends = [(value["action"], value["code"]) for value in last.told() if value["outcome"] == "done"]
+        ends = [(value["action"], value["code"]) for value in last.notices() if value["outcome"] == "done"]
         self.assertEqual(ends, [("stop", 0), ("monitor", 7), ("start", 0)])
         with open(self.log, encoding="ascii") as text:
             counts = [int(count) for count in text.read().split()]

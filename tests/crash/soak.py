@@ -38,7 +38,7 @@ class Resource:
     def __init__(self, there=False, params=None):
         self.there = there
         self.params = params
-        self.told = []  # the last results; a withdrawn action has no moments here before it is found, since no reply has them
+        self.results = []  # the last ones; a withdrawn action has no moments here before it is found, since no reply has them
         self.newest = 0  # the greatest run that was reported
         self.queued = {}  # the acknowledged actions that were not reported, by their calls
         self.monitors = {}  # the calls of its monitors, by their intervals
@@ -171,13 +171,13 @@ class Life:
 
     def take_notice(self, notice):
         known = self.all[notice["id"]]
-        assert known.there and notice["run"] > known.newest, ("told again, or of none", notice)
+        assert known.there and notice["run"] > known.newest, ("reported again, or of none", notice)
         assert notice.get("tag") == self.tags.get(notice["call"]), ("the tag of another call", notice)
         known.newest = notice["run"]
-        known.told = [*known.told, helper.result_of(notice)][-KEPT:]
+        known.results = [*known.results, helper.result_of(notice)][-KEPT:]
         if notice["interval"] == 0:
             assert known.queued.pop(notice["call"], None) == notice["action"], ("a result of no action", notice)
-        self.counts["told"] += 1
+        self.counts["reported"] += 1
 
     def take_reply(self, command, reply):
         name = command.get("id")
@@ -207,12 +207,12 @@ class Life:
             case "cancel":
                 del known.monitors[command["interval"]]
             case "withdraw":
-                known.told = [*known.told, withdrawn(command, known.queued.pop(command["call"]))][-KEPT:]
+                known.results = [*known.results, withdrawn(command, known.queued.pop(command["call"]))][-KEPT:]
                 self.counts["withdrawn"] += 1
             case "forget":
-                known.told = []
+                known.results = []
 
-    def hear(self, lines, out):
+    def take(self, lines, out):
         """Replies, one to a line, and between them notices, and ends of turns that no line requested."""
         asked, self.tags = iter(lines), {}
         for line in out:
@@ -258,7 +258,7 @@ class Life:
     def date(self, known, found):
         """Sets the moment of a withdrawn action to that at which it is found: a single one, as it neither began nor ran."""
         moments = {result["call"]: result["at"] for result in found if result["outcome"] == "cancelled"}
-        for result in known.told:
+        for result in known.results:
             if result["at"] is None and result["call"] in moments:
                 result["at"] = result["since"] = moments[result["call"]]
 
@@ -268,17 +268,17 @@ class Life:
         if not known.there:
             return []
         self.date(known, reply["results"])
-        found, old = reply["results"], set(map(str, known.told))
+        found, old = reply["results"], set(map(str, known.results))
         fresh = [result for result in found if str(result) not in old]
         booted = [result for result in fresh if is_booted(result)]
         more = [result for result in fresh if not is_booted(result)]
         ended = [result for result in more if result["outcome"] != "cancelled"]
-        assert len(ended) <= (0 if exact else 1), ("results that were not told", name, more)
+        assert len(ended) <= (0 if exact else 1), ("results that were not reported", name, more)
         for result in more:
             if result["outcome"] == "cancelled":
                 assert self.doubts("withdraw", name, call=result["call"]), ("withdrawn by itself", name, result)
-        told = [] if self.doubts("forget", name) and len(found) == len(fresh) else known.told
-        assert found == [*told, *more, *booted][-KEPT:], ("a history", name, known.told, found)
+        reported = [] if self.doubts("forget", name) and len(found) == len(fresh) else known.results
+        assert found == [*reported, *more, *booted][-KEPT:], ("a history", name, known.results, found)
         for result in more + booted:
             known.newest = max(known.newest, result["run"])
             self.next_call = max(self.next_call, result["call"] + 1)
@@ -286,8 +286,8 @@ class Life:
                 known.queued.pop(result["call"], None)
         # a start in doubt may be among the dropped ones, and nothing else may be left
         assert not known.queued, ("an acknowledged action is lost", name, known.queued)
-        known.told = found
-        self.counts["untold"] += len(more)
+        known.results = found
+        self.counts["unreported"] += len(more)
         self.counts["ended by an opening"] += len(booted)
         return booted
 
@@ -329,7 +329,7 @@ class Life:
         tidies = [(self.dice.randrange(2, HOUR), {"op": "tidy"})] if self.tidies else []
         stop = self.opening + self.dice.randrange(1, self.hourly) if stops else 0
         out, calls = self.incarnation(stop, 1, sorted([*lines, *tidies], key=lambda line: line[0]))
-        self.hear([line for _, line in lines], out)
+        self.take([line for _, line in lines], out)
         # an hour that crashed does not show how many calls it would have made: perhaps more than expected
         self.hourly = self.hourly * 101 // 100 if 0 < stop <= calls else max(500, calls - self.opening)
         self.counts["hours"] += 1
@@ -386,7 +386,7 @@ class Soak(helper.Check):
     def test_sanitized(self):
         """some hours of a history whose client tidies, with AddressSanitizer"""
         counts, _, _ = self.lived(2, plain=False, tidies=True)
-        self.assertGreater(counts["told"], 1000, "results that were told")
+        self.assertGreater(counts["reported"], 1000, "results that were reported")
         self.assertGreater(counts["epochs"], 2, "tidies")
 
 

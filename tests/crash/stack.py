@@ -32,7 +32,7 @@ class Stack(Limited):
         """The size of the stack of an action by itself, for which no journal is opened and no line is read."""
         self.agent("Begun", BEGUN)
         begun, until = self.place("begun"), self.place("until")
-        run = self.heard("once", "--root", self.here, "test:Begun", "start", f"begun={begun}", f"until={until}")
+        run = self.started("once", "--root", self.here, "test:Begun", "start", f"begun={begun}", f"until={until}")
         self.eventually("the action", lambda: os.path.exists(begun))
         found = size(run)
         with open(until, "wb"):
@@ -43,17 +43,17 @@ class Stack(Limited):
     def of_session(self, journal):
         """The same of a session after its opening, and after deep lines, questions, a tidy, and an agent that was killed with all that it
         started. It is killed while another one runs."""
-        run = self.heard("serve", "--root", self.here, "--journal", journal, "--orphans", "0")
+        run = self.started("serve", "--root", self.here, "--journal", journal, "--orphans", "0")
         run.ready()
         found = [size(run)]
-        run.send(DEEP)
-        run.tell(helper.register("r1", "Descendant"), helper.action("r1", "start", timeout=100), {"op": "meta", "id": "r1"},
+        run.write(DEEP)
+        run.send(helper.register("r1", "Descendant"), helper.action("r1", "start", timeout=100), {"op": "meta", "id": "r1"},
                  {"op": "status"}, {"op": "tidy"})
         run.awaits(lambda value: value.get("outcome") == "timed-out")
         found.append(size(run))
-        heard = len(run.values())
-        run.tell(helper.action("r1", "start"))
-        run.awaits(lambda value: "call" in value, after=heard)
+        before = len(run.values())
+        run.send(helper.action("r1", "start"))
+        run.awaits(lambda value: "call" in value, after=before)
         run.killed()
         return found
 
@@ -73,7 +73,7 @@ class Stack(Limited):
             room -= STEP
             status, _, err = self.fresh(room, LINES)
             if status != UNLOADED:
-                self.is_told(status, err, f"in {room} bytes")
+                self.is_explained(status, err, f"in {room} bytes")
             ends.add(status)
         self.assertIn(4, ends)
 

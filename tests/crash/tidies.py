@@ -32,7 +32,7 @@ def change(number):
 class Tidies(helper.Check):
     def session(self, folder, commands, *options):
         # the replies of a whole session
-        done = helper.run("run", "--journal", folder, *options, told=helper.lines(*commands))
+        done = helper.run("run", "--journal", folder, *options, sent=helper.lines(*commands))
         self.assertEqual(done.returncode, 0, done.stderr)
         return done.stdout.splitlines()
 
@@ -113,10 +113,10 @@ class Tidies(helper.Check):
         journal, length = self.past_half(names)
         slow = {**os.environ, "LD_PRELOAD": helper.shim("../../bench/slow_sync.c", self.here)}
         words = ["--journal", journal, "--root", self.here, "--tidy-at", str(length + 40000)]
-        run = self.heard("serve", *words, env=slow)
-        run.tell(helper.register("late", "Sleeper"), action("late", "start", timeout=1000))
+        run = self.started("serve", *words, env=slow)
+        run.send(helper.register("late", "Sleeper"), action("late", "start", timeout=1000))
         began, _ = run.awaits(lambda value: value.get("key") == "late_start_0", 60)
-        run.tell(*[large(name) for name in names[:5]])
+        run.send(*[large(name) for name in names[:5]])
         at, notice = run.awaits(lambda value: helper.is_notice(value, id="late"), 60)
         self.assertEqual(notice["outcome"], "timed-out")
         self.took_less(2, at - began, "a timeout beside a tidy")

@@ -45,7 +45,7 @@ class Script:
             yield self.broken() if self.dice.random() < 0.1 else line_of(self.command(place))
         yield line_of({"op": "drain"})
 
-    def hear(self, line, reply):
+    def take(self, line, reply):
         """Keeps the assigned calls."""
         if "call" in reply:
             self.calls = [*self.calls, (json.loads(line)["id"], reply["call"])][-8:]
@@ -142,7 +142,7 @@ class Served(Script):
 
 # The ways in which lines come.
 
-def one_by_one(words, lines, hear=lambda line, reply: None):
+def one_by_one(words, lines, take=lambda line, reply: None):
     """The output if each line waits for the reply to the one before it; lines without a byte have none. And the lines."""
     out, asked = [], []
     with subprocess.Popen([PROGRAM, *words], stdin=subprocess.PIPE, stdout=subprocess.PIPE) as run:
@@ -156,7 +156,7 @@ def one_by_one(words, lines, hear=lambda line, reply: None):
                 out.append(run.stdout.readline())
                 reply = json.loads(out[-1])
                 if not helper.is_notice(reply):
-                    hear(line, reply)
+                    take(line, reply)
                     break
         run.stdin.close()
         out.append(run.stdout.read())
@@ -228,9 +228,9 @@ def replies_alone(text):
     """The lines other than notices and the ready line of serve, and then the notices of one-time actions in one order, without their
     runs: when a notice comes, and whether a monitor begins before its cancel, is a matter of time."""
     found = [line for line in timeless(text).split(b"\n") if b'"ready":true' not in line]
-    told = [line for line in found if line.startswith(b'{"action"')]
-    once = [re.sub(rb',"run":[0-9]+', b"", line) for line in told if b'"interval":0,' in line]
-    return [line for line in found if line not in set(told)], sorted(once)
+    notices = [line for line in found if line.startswith(b'{"action"')]
+    once = [re.sub(rb',"run":[0-9]+', b"", line) for line in notices if b'"interval":0,' in line]
+    return [line for line in found if line not in set(notices)], sorted(once)
 
 
 def settled(text):
@@ -265,7 +265,7 @@ class Together(helper.Check):
 
     def in_all_ways(self, word, script, seen, left):
         """The replies to a script, and the content of its journal, are the same in whichever way its lines come."""
-        wanted, lines = one_by_one([word, "--memory", "--root", self.here], script.lines(), script.hear)
+        wanted, lines = one_by_one([word, "--memory", "--root", self.here], script.lines(), script.take)
         text, state = b"".join(line + b"\n" for line in lines), None
         self.note("lines", text)
         self.assertLess(len(text), 1 << 20)
@@ -319,9 +319,9 @@ class Together(helper.Check):
             params = {"a": str(number), **{chr(98 + place): "x" * 1024 for place in range(15)}}
             lines += [line_of({"op": "params", "id": "r1", "params": params})] + [line_of({"op": "list"})] * (number % 3)
         out = from_a_file(["run", "--tidy-at", "0", "--journal", folder], b"".join(line + b"\n" for line in lines))
-        told = [value for value in helper.replies(out) if "resources" not in value][1:]
-        count = told.index({"error": "journal-full", "number": 14})
-        self.assertEqual(told, [{"ok": True}] * count + [{"error": "journal-full", "number": 14}] * (changes - count))
+        replies = [value for value in helper.replies(out) if "resources" not in value][1:]
+        count = replies.index({"error": "journal-full", "number": 14})
+        self.assertEqual(replies, [{"ok": True}] * count + [{"error": "journal-full", "number": 14}] * (changes - count))
         again = at_once(["run", "--journal", folder], helper.lines({"op": "info", "id": "r1"}))
         self.assertEqual(helper.replies(again)[0]["params"]["a"], str(count - 1), "the last one that was accepted")
 
@@ -348,17 +348,17 @@ class Together(helper.Check):
         self.assertTrue((not changed or len(names) == count) and (not calls or len(changed) == count), "a front part")
         return len(names) + len(changed) + len(calls)
 
-    def stands(self, folder, count, out):
+    def is_found(self, folder, count, out):
         """Everything answered is found, and a prefix of the batch, at an opening, too: returns how many of its commands were answered,
         and how many are found."""
-        told = [value for value in helper.replies(out) if not helper.is_notice(value)]
-        self.assertEqual([value for value in told if "error" in value], [])
-        replied, found = sum("resources" not in value for value in told), self.front(folder, count)
+        replies = [value for value in helper.replies(out) if not helper.is_notice(value)]
+        self.assertEqual([value for value in replies if "error" in value], [])
+        replied, found = sum("resources" not in value for value in replies), self.front(folder, count)
         self.assertLessEqual(replied, found, "what was replied is found")
-        done = helper.run("run", "--journal", folder, told=helper.lines({"op": "list"}))
+        done = helper.run("run", "--journal", folder, sent=helper.lines({"op": "list"}))
         self.assertEqual((done.returncode, done.stderr), (0, b""), "an opening")
         self.assertLessEqual({value["outcome"] for value in helper.replies(done.stdout)[:-1]}, {"dropped", "interrupted"})
-        self.assertEqual(self.front(folder, count), found, "behind an opening")
+        self.assertEqual(self.front(folder, count), found, "after an opening")
         return replied, found
 
     def test_kills(self):
@@ -376,7 +376,7 @@ class Together(helper.Check):
             out += run.stdout.read()
             run.stdout.close(), run.wait()
             with self.subTest(number=number):
-                seen.append(self.stands(folder, count, out))
+                seen.append(self.is_found(folder, count, out))
         print(f"together: {len(seen)} kills; replied and found of {3 * count}: "
               + ", ".join(f"{replied} {found}" for replied, found in sorted(seen)), flush=True)
 
@@ -401,9 +401,9 @@ class Together(helper.Check):
         """How many syncs these commands take if they are written at once."""
         words, made = [*words, "--journal", self.journal()], []
         self.assertEqual(helper.run(*words).returncode, 0)
-        for told in ([], commands):
-            out, status, syncs, _ = self.counted(words, filled(helper.lines(*told)))
-            self.assertEqual((status, out.count(b'"ok":true')), (0, len(told)))
+        for sent in ([], commands):
+            out, status, syncs, _ = self.counted(words, filled(helper.lines(*sent)))
+            self.assertEqual((status, out.count(b'"ok":true')), (0, len(sent)))
             made.append(syncs)
         shutil.rmtree(words[-1])
         return made[1] - made[0]
@@ -430,7 +430,7 @@ class Together(helper.Check):
                 return seen
             with self.subTest(stop=stop):
                 self.assertEqual(status, -9)
-                seen.append(self.stands(folder, count, out))
+                seen.append(self.is_found(folder, count, out))
             shutil.rmtree(folder)
             stop += 1
 

@@ -55,7 +55,7 @@ class Made(directories.Directories):
         """an executor whose standard output is closed ends with 7, and writes nothing of it into a part"""
         folder = self.registered()
         before = directories.bytes_in(folder)
-        done = helper.run("run", "--journal", folder, told=helper.lines(REGISTER), preexec_fn=lambda: os.closerange(1, 3))
+        done = helper.run("run", "--journal", folder, sent=helper.lines(REGISTER), preexec_fn=lambda: os.closerange(1, 3))
         self.assertEqual(done.returncode, 7)
         self.assertEqual(directories.bytes_in(folder, but=["agents"]), {name: before[name] for name in set(before) - {"agents"}})
 
@@ -163,7 +163,7 @@ class Owners(directories.Directories):
                 # (a directory without a journal has no status)
                 done = helper.run("status", "--journal", folder)
                 self.assertEqual((done.returncode, done.stderr), (0, b"") if path else (9, b"ocfexec: no journal here yet\n"))
-                done = helper.run("run", "--journal", folder, "--any-owner", told=helper.lines(LIST))
+                done = helper.run("run", "--journal", folder, "--any-owner", sent=helper.lines(LIST))
                 self.assertEqual((done.returncode, done.stderr), (0, b""))
 
     @unittest.skipUnless(os.geteuid() == 0, "run as root")

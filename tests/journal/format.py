@@ -118,7 +118,7 @@ def spoilt(dice, text):
 
 class Format(helper.Check):
     def run_on(self, journal, *commands, status=0):
-        done = helper.run("run", "--journal", journal, "--root", self.here, "--orphans", "0", told=helper.lines(*commands))
+        done = helper.run("run", "--journal", journal, "--root", self.here, "--orphans", "0", sent=helper.lines(*commands))
         self.assertEqual(done.returncode, status, done.stderr)
 
     def current(self, journal):

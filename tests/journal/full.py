@@ -63,7 +63,7 @@ class Full(directories.Directories):
     def test_device(self):
         """on a full device a command is refused with the cause, and so is every later one; what was acknowledged is found again"""
         folder = self.registered()
-        done = helper.explained("run", "--journal", folder, told=LINES, preexec_fn=limited)
+        done = helper.explained("run", "--journal", folder, sent=LINES, preexec_fn=limited)
         self.assertEqual((done.returncode, done.stderr.decode()), (5, SAYS.format(folder)))
         self.assertEqual(directories.texts(done), REPLIES)
         self.assertEqual(self.replied(folder, LIST), [LISTED])
@@ -88,7 +88,7 @@ class Full(directories.Directories):
     def test_part(self):
         """a full part, which was never tidied, refuses one more command, and is opened in a short time and in little memory"""
         folder = self.registered()
-        done = helper.run("run", "--journal", folder, "--tidy-at", "0", told=helper.lines(*[LARGE] * (FULL + 1)))
+        done = helper.run("run", "--journal", folder, "--tidy-at", "0", sent=helper.lines(*[LARGE] * (FULL + 1)))
         self.assertEqual((done.returncode, done.stderr), (0, b""))
         self.assertEqual(directories.texts(done), [OK] * FULL + ['{"error":"journal-full","number":14}'])
         began = time.monotonic()

@@ -34,9 +34,9 @@ class Fuzz(helper.Check):
     def replay(self, reader):
         """Gives all inputs to a reader, in one process; if that fails, each in a process of its own, so that the input is named."""
         inputs = list(self.inputs(reader))
-        told = b"".join(len(text).to_bytes(4, "big") + text for _, text in inputs)
+        text = b"".join(len(one).to_bytes(4, "big") + one for _, one in inputs)
         try:
-            self.hand(told, "each", reader, said=b"%d inputs\n" % len(inputs))
+            self.hand(text, "each", reader, said=b"%d inputs\n" % len(inputs))
         except (AssertionError, subprocess.TimeoutExpired):
             for name, text in inputs:
                 self.hand(text, reader, name=name)

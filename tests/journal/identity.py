@@ -49,7 +49,7 @@ class Identity(helper.Check):
             return file.read()
 
     def used(self, folder, *commands):
-        done = helper.run("run", "--journal", folder, told=helper.lines(register("r1", "None"), *commands))
+        done = helper.run("run", "--journal", folder, sent=helper.lines(register("r1", "None"), *commands))
         self.assertEqual((done.returncode, b"error" in done.stdout), (0, False), done.stderr)
 
     def emptied(self, folder, part):

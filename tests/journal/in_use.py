@@ -103,7 +103,7 @@ class Busy(directories.Directories):
                 number += 1
                 commands.append(helper.register(f"r{number}", "Dummy", "pacemaker"))
             commands += [{"op": "params", "id": f"r{number}", "params": {"p": f"{value:0100}"}} for value in range(1, 5)]
-            run.tell(*commands, {"op": "tidy"})
+            run.send(*commands, {"op": "tidy"})
             time.sleep(0.01)
 
     def shown(self, folder, least):
@@ -120,7 +120,7 @@ class Busy(directories.Directories):
     def test_busy(self):
         """a show of a journal whose executor is busy has a prefix of what is registered, and not less than the one before"""
         folder, is_enough, last = self.journal(), threading.Event(), REGISTERED
-        run = self.heard("run", "--journal", folder, err=self.place("err"))
+        run = self.started("run", "--journal", folder, err=self.place("err"))
         feeder = threading.Thread(target=self.feeds, args=[run, is_enough])
         feeder.start()
         self.addCleanup(feeder.join)

@@ -134,7 +134,7 @@ class Journals(helper.Check):
     def test_reported(self):
         """the report of its opening, sent once"""
         folder = self.spelled("journal", busy(), b"")
-        self.assertEqual(helper.run(*self.words(folder), told=LIST).stdout, REPORT)
+        self.assertEqual(helper.run(*self.words(folder), sent=LIST).stdout, REPORT)
         self.assertEqual(helper.run(*self.words(folder)).stdout, b"", "opened again")
 
     def test_not_reported(self):

@@ -66,8 +66,8 @@ class Layouts(helper.Check):
         folder = self.unpack(old)
         self.assertEqual(helper.shown(folder), text, "what the old program showed")
         self.assertEqual(helper.parts(folder), old, "a show that writes nothing")
-        told = self.opened(folder)
-        self.assertEqual([(line["id"], line["action"], line["outcome"]) for line in told], report)
+        reported = self.opened(folder)
+        self.assertEqual([(line["id"], line["action"], line["outcome"]) for line in reported], report)
         new = helper.parts(folder)
         self.assertEqual(new[1], old[1])
         self.assertEqual(head_of(new[0]), (2, head_of(old[1])[1] + 1), "the second layout in the other part")
@@ -94,11 +94,11 @@ class Layouts(helper.Check):
             run.kill()
             run.wait()
             run.stdin.close()
-        self.assertEqual(helper.shown(folder), text, "what the old program showed, behind a kill")
+        self.assertEqual(helper.shown(folder), text, "what the old program showed, after a kill")
         found = helper.parts(folder)
         if found == old:
             return "before"
-        return "behind" if head_of(found[0]) == (2, head_of(old[1])[1] + 1) and found[0][0] == 1 else "amid"
+        return "after" if head_of(found[0]) == (2, head_of(old[1])[1] + 1) and found[0][0] == 1 else "amid"
 
     @helper.slow
     def test_kills(self):
@@ -110,11 +110,11 @@ class Layouts(helper.Check):
         began = time.monotonic()
         self.opened(folder)
         most = 1.2 * (time.monotonic() - began)
-        counts = {"before": 0, "amid": 0, "behind": 0}
+        counts = {"before": 0, "amid": 0, "after": 0}
         for _ in range(kills):
             counts[self.killed(old, text, most)] += 1
-        print("layouts: killed before, amid and behind the way over:", counts)
-        self.assertTrue(counts["before"] + counts["behind"] < kills or kills < 50, "a kill amid the way over")
+        print("layouts: killed before, amid and after the way over:", counts)
+        self.assertTrue(counts["before"] + counts["after"] < kills or kills < 50, "a kill amid the way over")
 
 
 if __name__ == "__main__":

@@ -1,6 +1,6 @@
 """Shared code of the checks with agents that do what their parameters say: numbers that their processes note, a gate that they wait at, a
 service that is up as soon as that gate was opened, and what the executor says on standard error. A process that waits at the gate makes no
-process for that, and the opening of the gate tells whether one still waits there: so whether a start may still come up is a fact, and not a
+process for that, and the opening of the gate shows whether one still waits there: so whether a start may still come up is a fact, and not a
 matter of time."""
 import contextlib
 import errno
@@ -161,7 +161,7 @@ class Acting(helper.Check):
     def opened(self, *words, way="serve", **how):
         """An executor in a session of its own, so that what an agent does to its group is not done to this check."""
         words = words if "--journal" in words else ("--memory", *words)
-        return self.heard(way, *words, "--root", self.here, **{"err": self.err, "start_new_session": True, **how})
+        return self.started(way, *words, "--root", self.here, **{"err": self.err, "start_new_session": True, **how})
 
     def opens_gate(self):
         """Opens the gate once, and returns whether a process waited there: what waits goes on, and its service comes up."""
@@ -184,7 +184,7 @@ class Acting(helper.Check):
         """The reply of `serve` to a command, which is found by its tag."""
         self.asked += 1
         before, tag = len(run.values()), f"asked{self.asked}"
-        run.tell({**command, "tag": tag})
+        run.send({**command, "tag": tag})
         _, reply = run.awaits(lambda value: not helper.is_notice(value) and value.get("tag") == tag, seconds, before)
         return {key: value for key, value in reply.items() if key != "tag"}
 
@@ -205,16 +205,16 @@ class Acting(helper.Check):
         return found
 
     def done(self, run, name, what, seconds=PATIENCE, **more):
-        """Tells an action, and returns its notice."""
-        before = len([value for value in run.told() if is_end(value, name, what)])
-        run.tell(helper.action(name, what, **more))
+        """Sends an action, and returns its notice."""
+        before = len([value for value in run.notices() if is_end(value, name, what)])
+        run.send(helper.action(name, what, **more))
         return self.ends_of(run, name, what, before + 1, seconds)[before]
 
     def is_down(self, run, name="r1"):
-        """The resource stays down behind its stop: a probe says so, and nothing waits at the gate that would bring it up."""
+        """The resource stays down after its stop: a probe says so, and nothing waits at the gate that would bring it up."""
         stop = self.done(run, name, "stop")
         self.assertEqual((stop["outcome"], stop["code"]), ("done", 0), self.seen())
-        self.assertFalse(self.opens_gate(), f"a process of the start waits at the gate behind the stop; {self.seen()}")
+        self.assertFalse(self.opens_gate(), f"a process of the start waits at the gate after the stop; {self.seen()}")
         probe = self.done(run, name, "monitor")
         self.assertEqual((probe["outcome"], probe["code"]), ("done", 7), self.seen())
         self.assertEqual(self.noted("service"), [], "the service never came up")

@@ -37,7 +37,7 @@ def attributes(folder):
 
 def texts(done):
     """The lines of a run, or of a running program so far, which conform to the schema of lines."""
-    lines = [line for _, line in done.lines] if isinstance(done, helper.Heard) else done.stdout.decode().splitlines(keepends=True)
+    lines = [line for _, line in done.lines] if isinstance(done, helper.Running) else done.stdout.decode().splitlines(keepends=True)
     for line in lines:
         helper.value_of(line)
     return [line.rstrip("\n") for line in lines]
@@ -52,7 +52,7 @@ def empty(path):
 class Directories(helper.Check):
     def replied(self, folder, *commands, **how):
         """The lines of a run on a journal, which ends well and says nothing else."""
-        done = helper.run("run", "--journal", folder, told=helper.lines(*commands), **how)
+        done = helper.run("run", "--journal", folder, sent=helper.lines(*commands), **how)
         self.assertEqual((done.returncode, done.stderr), (0, b""))
         return texts(done)
 
@@ -90,8 +90,8 @@ class Directories(helper.Check):
         with open(folder + ".err", "wb") as err:
             env = {**os.environ, **helper.journal_stream(err.fileno())}
         program, *words = *through, helper.PROGRAM, "run", "--journal", folder
-        run = self.heard(*words, program=program, err=folder + ".err", env=env)
-        run.tell(LIST)
+        run = self.started(*words, program=program, err=folder + ".err", env=env)
+        run.send(LIST)
         run.awaits(lambda value: "resources" in value)
         return run
 
@@ -101,7 +101,7 @@ class Directories(helper.Check):
 
     def loses(self, run, folder, cause, command=TIDY, reply=END_DISK):
         """It cannot do this, since its part A is no longer as it was, and ends."""
-        run.tell(command)
+        run.send(command)
         self.assertEqual((run.ends(), texts(run)), (5, [LISTED, reply]))
         with open(folder + ".err", encoding="utf-8") as err:
             self.assertEqual(err.read(), f"ocfexec: disk\n{folder}/part-a: {cause}\n{CHECK_DEVICE}\n")

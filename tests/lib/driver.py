@@ -10,7 +10,7 @@ like in Go is tests/lib/driver/main.go.
   kill, leave, close, wait   the status of the program, which the last one only awaits
   pause SECONDS
 
-Each may end with an error, by its name and its fields. When the library tells of another journal, that is a line, too.
+Each may end with an error, by its name and its fields. When the library reports another journal, that is a line, too.
 Use: driver.py executor|asyncio CASES NUMBER COMMAND.."""
 import asyncio
 import json
@@ -28,7 +28,7 @@ def say(value):
     print(json.dumps(value), flush=True)
 
 
-def told(result):
+def summary(result):
     return f"{result.id} {result.call} {result.run} {result.outcome}"
 
 
@@ -47,7 +47,7 @@ class Driver:
 
     def start(self):
         self.done(self.executor.start(PATIENCE))
-        say({"started": [told(result) for result in self.executor.reported]})
+        say({"started": [summary(result) for result in self.executor.reported]})
 
     def exec(self, name):
         say({"call": self.done(self.executor.exec(name, "start"))})
@@ -59,11 +59,11 @@ class Driver:
         self.done(self.executor.ask(command, timeout=SHORT))
 
     def result(self, call):
-        say(told(self.done(self.executor.result(call, PATIENCE))))
+        say(summary(self.done(self.executor.result(call, PATIENCE))))
 
     def events(self, count):
         for _ in range(count):
-            say(told(self.next()))
+            say(summary(self.next()))
 
     def next(self):
         """The next result of `events`."""
@@ -74,7 +74,7 @@ class Driver:
         # (its reply comes after all that was said before)
         self.done(self.executor.version())
         for result in self.executor.results():
-            say(told(result))
+            say(summary(result))
 
     def metadata(self, agent):
         say({"metadata": self.done(self.executor.metadata(agent))})

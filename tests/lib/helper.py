@@ -112,7 +112,7 @@ def opening(lines):
         values.append(value_of(line))
         if not is_notice(values[-1]):
             break
-    assert values and is_ready(values[-1]), f"it does not say behind its report that it is ready: {values[-3:]}"
+    assert values and is_ready(values[-1]), f"it does not say after its report that it is ready: {values[-3:]}"
     found = [value["outcome"] for value in values[:-1]]
     wanted = [values[-1][word] for word in ("interrupted", "dropped")]
     assert wanted == [found.count(word) for word in ("interrupted", "dropped")] and sum(wanted) == len(found), (found, values[-1])
@@ -136,9 +136,9 @@ def result_of(notice):
     return {key: part for key, part in notice.items() if key not in others}
 
 
-def run(*words, told=b"", **how):
+def run(*words, sent=b"", **how):
     """A whole run, which gets all its input at once; one of serve that ends well has sent its ready line."""
-    done = subprocess.run([PROGRAM, *words], input=told, capture_output=True, **{"timeout": WHOLE, **how})
+    done = subprocess.run([PROGRAM, *words], input=sent, capture_output=True, **{"timeout": WHOLE, **how})
     if words[:1] == ("serve",) and done.returncode == 0 and "--help" not in words:
         opened(done.stdout)
     return done
@@ -150,10 +150,10 @@ def journal_stream(err):
     return {"JOURNAL_STREAM": f"{found.st_dev}:{found.st_ino}"}
 
 
-def explained(*words, told=b"", **how):
+def explained(*words, sent=b"", **how):
     """A whole run whose standard error is named as the stream to the system's journal: so a fault is explained there."""
     with tempfile.TemporaryFile() as err:
-        done = subprocess.run([PROGRAM, *words], input=told, stdout=subprocess.PIPE, stderr=err,
+        done = subprocess.run([PROGRAM, *words], input=sent, stdout=subprocess.PIPE, stderr=err,
                               env={**os.environ, **journal_stream(err.fileno())}, **{"timeout": WHOLE, **how})
         err.seek(0)
         done.stderr = err.read()
@@ -285,7 +285,7 @@ def keep(folder, into):
         pass
 
 
-class Heard:
+class Running:
     """A running program, whose lines are kept with the moments at which they came, except its ready line: `said` is its opening, which
     is the report and that line. Its standard error goes to a file, by default one that no check reads."""
 
@@ -314,10 +314,10 @@ class Heard:
             self.is_over = True
             self.came.notify_all()
 
-    def tell(self, *commands):
-        self.send(lines(*commands))
+    def send(self, *commands):
+        self.write(lines(*commands))
 
-    def send(self, text):
+    def write(self, text):
         try:
             self.run.stdin.write(text)
             self.run.stdin.flush()
@@ -342,21 +342,21 @@ class Heard:
         with self.came:
             return [self.value_of(line) for _, line in self.lines if line.endswith("\n")]
 
-    def told(self):
+    def notices(self):
         """The notices that have come."""
         return [value for value in self.values() if is_notice(value)]
 
     def awaits(self, holds, seconds=PATIENCE, after=0):
         """The moment and the value of the first line for which this holds, after this many; it fails if none comes in time."""
-        found = self.hears(holds, seconds, after)
+        found = self.finds(holds, seconds, after)
         if found[0] is None:
-            found = self.hears(holds, more_patience(seconds), after)
+            found = self.finds(holds, more_patience(seconds), after)
         if found[0] is None:
             end = "before the end of its output" if self.is_over else f"within {seconds} s"
             raise AssertionError(f"no such line came {end}; {self.state()}")
         return found
 
-    def hears(self, holds, seconds=10, after=0):
+    def finds(self, holds, seconds=10, after=0):
         """The same, or two None if none comes in time, or the output has ended."""
         until, at = time.monotonic() + seconds, after
         with self.came:
@@ -466,9 +466,9 @@ class Check(unittest.TestCase):
             file.write("#!/bin/sh\n" + text)
         os.chmod(path, 0o755)
 
-    def heard(self, *words, **how):
+    def started(self, *words, **how):
         """A program that runs, and is ended at the end of the check."""
-        run = Heard(*words, **how)
+        run = Running(*words, **how)
         self.addCleanup(run.killed)
         return run
 
@@ -519,7 +519,7 @@ class Check(unittest.TestCase):
                                                         f"one, and held processes back for {held:.2f} s")
 
 
-class Told(unittest.TestResult):
+class Report(unittest.TestResult):
     """Prints each check with its time, and its failure."""
 
     test = None
@@ -573,14 +573,14 @@ def forked(count):
     return others if len(others) == count else []
 
 
-def run_in_parts(tests, told, parts):
+def run_in_parts(tests, report, parts):
     """Runs tests in this many processes, each of which takes the next test; returns whether all went well in the others."""
     left, into = os.pipe()
     os.write(into, bytes(range(len(tests))))
     os.close(into)
     others = forked(min(parts, len(tests)) - 1)
-    while not told.shouldStop and (place := os.read(left, 1)):
-        tests[place[0]].run(told)
+    while not report.shouldStop and (place := os.read(left, 1)):
+        tests[place[0]].run(report)
     return not any([os.waitpid(pid, 0)[1] for pid in others])
 
 
@@ -596,13 +596,13 @@ def main(failfast=False, in_memory=False, parts=1):
     # (a module may take further arguments of its own)
     words, _ = parser.parse_known_args(sys.argv[2:])
     tests = list(chosen(found, os.environ.get("ONLY", ""), words.k))
-    told = Told()
-    told.failfast = failfast or words.f
+    report = Report()
+    report.failfast = failfast or words.f
     if signal.getsignal(signal.SIGTERM) == signal.SIG_DFL:
-        signal.signal(signal.SIGTERM, lambda *_: told.end())
-    others_went_well = parts == 1 or run_in_parts(tests, told, parts)
+        signal.signal(signal.SIGTERM, lambda *_: report.end())
+    others_went_well = parts == 1 or run_in_parts(tests, report, parts)
     if parts == 1:
-        unittest.TestSuite(tests).run(told)
-    for test, trace in told.failures + told.errors:
+        unittest.TestSuite(tests).run(report)
+    for test, trace in report.failures + report.errors:
         print(f"{test.id()}:\n{trace}", file=sys.stderr)
-    sys.exit(0 if tests and told.wasSuccessful() and others_went_well else 1)
+    sys.exit(0 if tests and report.wasSuccessful() and others_went_well else 1)

@@ -47,7 +47,7 @@ class Keeping(helper.Check):
         return [*options, "--file", self.place("resources.json"), PROGRAM, "serve", "--journal", self.place("journal"), "--root", self.here]
 
     def client(self, *options, **how):
-        run = self.heard(*self.words(*options), program=CLIENT, err=self.place("err"), **how)
+        run = self.started(*self.words(*options), program=CLIENT, err=self.place("err"), **how)
         run.value_of = printed
         return run
 

@@ -14,13 +14,13 @@ LEFT_OUT = re.compile(r"^ocfexec: (cannot spawn the shell that ends processes|\S
                       re.MULTILINE)
 
 
-def limited(room, words, told):
+def limited(room, words, sent):
     """The status, the output and the errors of a run with this address space."""
     def limit():
         resource.setrlimit(resource.RLIMIT_AS, (room, room))
         resource.setrlimit(resource.RLIMIT_CORE, (0, 0))
 
-    done = helper.explained(*words, told=told, preexec_fn=limit)
+    done = helper.explained(*words, sent=sent, preexec_fn=limit)
     return done.returncode, done.stdout.decode(), done.stderr.decode()
 
 
@@ -35,14 +35,14 @@ def least(low, high, holds):
 class Limited(helper.Check):
     """A check of such runs."""
 
-    def fresh(self, room, told):
+    def fresh(self, room, sent):
         """The same of a run on a journal of its own, in files: a part in memory that cannot grow counts as a failed device."""
         folder = self.journal("fresh")
-        ended = limited(room, ["run", "--root", self.here, "--journal", folder], told)
+        ended = limited(room, ["run", "--root", self.here, "--journal", folder], sent)
         shutil.rmtree(folder)
         return ended
 
-    def is_told(self, status, err, where):
+    def is_explained(self, status, err, where):
         """Such a run ended well or for lack of memory, and its errors say so."""
         err = LEFT_OUT.sub("", err)
         self.assertIn(status, (0, *ENDS), f"{where}: {err}")

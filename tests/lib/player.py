@@ -60,11 +60,11 @@ class Player:
         sys.stdout.flush()
 
     def line(self, value, kind):
-        told = value if self.program.get("older") else {"kind": kind, **value}
-        self.write(json.dumps(told, separators=(",", ":"), sort_keys=True) + "\n")
+        line = value if self.program.get("older") else {"kind": kind, **value}
+        self.write(json.dumps(line, separators=(",", ":"), sort_keys=True) + "\n")
 
     def says(self, one, kind="notice"):
-        """Says a line of a case, or does what stands in its place."""
+        """Says a line of a case, or does what is in its place."""
         if isinstance(one, str):
             self.line(notice(one), kind)
         elif isinstance(one, list):

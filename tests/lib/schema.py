@@ -1,7 +1,6 @@
 """The lines of the program, validated against docs/protocol.schema.json if Debian's python3-jsonschema is installed. Of lines of one form,
 which differ only in numbers and texts, the first SAMPLES are checked, and then fewer and fewer, so that a check with a million lines is not
-slow. The first line is checked against all kinds of lines, which takes milliseconds, and the others against its own kind.
-Use: schema.py FILE, with lines of the program; or as a module."""
+slow. The first line is checked against all kinds of lines, which takes milliseconds, and the others against its own kind."""
 import functools
 import json
 import os
@@ -40,7 +39,7 @@ def schema():
 
 
 def validator_of(kind):
-    """A function that tells whether a value is of this kind, as `line` or `command`; None without the library."""
+    """A function that says whether a value is of this kind, as `line` or `command`; None without the library."""
     return None if library() is None else validator_at(f"#/$defs/{kind}")
 
 
@@ -69,7 +68,7 @@ def kind_of(value):
 
 @functools.cache
 def lines():
-    """A function that tells whether a value is a line of the program."""
+    """A function that says whether a value is a line of the program."""
     return validator_of("line") if os.path.exists(SCHEMA) else None
 
 
@@ -91,11 +90,3 @@ def hold(value):
     shape = form(value) if isinstance(value, dict) else None
     if is_sample(shape) and (shape not in kinds or not validator_at(kinds[shape]).is_valid(value)):
         kinds[shape] = kind_of(value)
-
-
-if __name__ == "__main__":
-    with open(sys.argv[1], encoding="utf-8") as told:
-        for text in told:
-            # (a line that the program could not finish does not count)
-            if text.endswith("\n"):
-                hold(json.loads(text))

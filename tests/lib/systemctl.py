@@ -78,16 +78,16 @@ class Manager:
     # The process that follows the unit
 
     def follow(self):
-        with socket.socket(socket.AF_UNIX, socket.SOCK_DGRAM) as told:
+        with socket.socket(socket.AF_UNIX, socket.SOCK_DGRAM) as messages:
             if os.path.exists(self.place("notify")):
                 os.unlink(self.place("notify"))
-            told.bind(self.place("notify"))
-            told.settimeout(0.05)
+            messages.bind(self.place("notify"))
+            messages.settimeout(0.05)
             self.write("asked", "")
-            while self.run(told) and not self.read("asked"):
+            while self.run(messages) and not self.read("asked"):
                 time.sleep(1)
 
-    def run(self, told):
+    def run(self, messages):
         """One run of the main process. Returns whether another one follows."""
         out = self.unit.get("Service.StandardOutput", "journal")
         err = self.unit.get("Service.StandardError", out)
@@ -101,13 +101,13 @@ class Manager:
         self.write("MainPID", str(main.pid))
         while main.poll() is None:
             try:
-                self.hear(told.recv(65536).decode())
+                self.receive(messages.recv(65536).decode())
             except TimeoutError:
                 pass
         self.write("ExecMainStatus", str(main.returncode))
         return main.returncode != 0 and str(main.returncode) not in self.unit.get("Service.RestartPreventExitStatus").split()
 
-    def hear(self, text):
+    def receive(self, text):
         """Notes what a message says: that the unit is ready comes last, so that whoever sees that it is active finds its status."""
         for line in sorted(text.split("\n"), key=lambda line: line == "READY=1"):
             if line == "READY=1":

@@ -22,7 +22,7 @@ class Written:
         self.last = max(self.last, self.now - age)
         self.text += book.record(book.event(word, self.last, **fields))
 
-    def registers(self, name: str, age: int, provider: str = "test", kind: str = "Told") -> None:
+    def registers(self, name: str, age: int, provider: str = "test", kind: str = "Ends") -> None:
         self.add("register", age, id=name, provider=provider, type=kind, params={})
 
     def queues(self, name: str, action: int, age: int, expect: int = 0) -> int:

@@ -24,12 +24,12 @@ class Drains(helper.Check):
 
     def test_waits(self):
         """the processor time of ten seconds of waiting"""
-        run = self.heard("run", "--memory", "--root", self.here)
-        run.tell(helper.register("r1", "Sleeper"), helper.action("r1", "start", timeout=20000), {"op": "drain"})
+        run = self.started("run", "--memory", "--root", self.here)
+        run.send(helper.register("r1", "Sleeper"), helper.action("r1", "start", timeout=20000), {"op": "drain"})
         _, end = run.awaits(lambda value: "end" in value)
         spent = round(helper.processor_time(run.run.pid) * 1000)
         print(f"drains: ten seconds of waiting: {spent} milliseconds of the processor (under 200 wanted)", flush=True)
-        self.assertEqual([(value["outcome"], value["code"]) for value in run.told()], [("done", 0)])
+        self.assertEqual([(value["outcome"], value["code"]) for value in run.notices()], [("done", 0)])
         self.assertEqual((end, run.ends()), ({"end": "idle"}, 0))
         self.assertLess(spent, 500 * helper.slowness(), "milliseconds of the processor")
 
@@ -38,7 +38,7 @@ class Drains(helper.Check):
         asked = [helper.register("r1", "Sleeper"), {"op": "recur", "id": "r1", "interval": 100, "timeout": TIMEOUT},
                  {"op": "watch", "limit": 3000}, {"op": "history", "id": "r1"}]
         began = milliseconds()
-        *_, end, history = helper.replies(helper.run("run", "--memory", "--root", self.here, told=helper.lines(*asked)).stdout)
+        *_, end, history = helper.replies(helper.run("run", "--memory", "--root", self.here, sent=helper.lines(*asked)).stdout)
         ended = milliseconds()
         runs = [(result["since"], result["at"]) for result in history["results"]]
         late = sorted(at - since - TIMEOUT for since, at in runs)
@@ -47,7 +47,7 @@ class Drains(helper.Check):
         self.came_often(3, len(late), "monitors that ran")
         self.took_less(0.021, late[len(late) // 2] / 1000 if late else 0, "noticing the middle end")
         moments = sorted(moment for run in runs for moment in run)
-        self.assertEqual(sorted([began, *moments, ended]), [began, *moments, ended], "moments between those before and behind the run")
+        self.assertEqual(sorted([began, *moments, ended]), [began, *moments, ended], "moments between those before and after the run")
 
 
 if __name__ == "__main__":

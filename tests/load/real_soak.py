@@ -108,15 +108,15 @@ class RealSoak(helper.Check):
     def opened(self):
         """An executor that is ready; its report is taken, and each history, since results may be recorded that were never sent."""
         shim = {"AHEAD": self.place("ahead"), "LD_PRELOAD": self.place("clock.so")}
-        run = helper.Heard("serve", "--journal", f"{self.disk}/journal", "--root", self.here, "--tidy-at", "300000", "--orphans", "3000",
-                           env={**os.environ, **shim})
+        run = helper.Running("serve", "--journal", f"{self.disk}/journal", "--root", self.here, "--tidy-at", "300000", "--orphans", "3000",
+                             env={**os.environ, **shim})
         run.ready()
         for result in map(helper.value_of, run.said[:-1]):
             self.book[result["id"]].take(result)
         if not self.counts["incarnations"]:
-            run.tell(*[helper.register(name, "Logged", folder=self.place(name)) for name in IDS],
+            run.send(*[helper.register(name, "Logged", folder=self.place(name)) for name in IDS],
                      *[{"op": "recur", "id": name, "interval": 1_000 + 100 * place, "timeout": TIMEOUT} for place, name in enumerate(IDS)])
-        run.tell(*[{"op": "history", "id": name, "tag": f"history {name}"} for name in IDS])
+        run.send(*[{"op": "history", "id": name, "tag": f"history {name}"} for name in IDS])
         run.awaits(lambda value: value.get("tag") == f"history {IDS[-1]}")
         self.counts["incarnations"] += 1
         return run
@@ -146,7 +146,7 @@ class RealSoak(helper.Check):
         """Sends random commands until this moment, or the end of the executor."""
         while time.monotonic() < until and run.run.poll() is None:
             with contextlib.suppress(AssertionError):  # an executor that has just ended takes no more lines
-                run.tell(*[self.chance_line() for _ in range(random.choice([1, 1, 1, 5]))])
+                run.send(*[self.chance_line() for _ in range(random.choice([1, 1, 1, 5]))])
             if random.random() < 0.01:
                 self.set_ahead(random.choice([0, 7_200, -7_200, 86_400 * 30]))
                 self.counts["clock steps"] += 1
@@ -210,7 +210,7 @@ class RealSoak(helper.Check):
     def rests(self):
         """Ends the monitors, and waits until each action has its result."""
         run = self.opened()
-        run.tell(*[{"op": "cancel", "id": name, "interval": 1_000 + 100 * place} for place, name in enumerate(IDS)])
+        run.send(*[{"op": "cancel", "id": name, "interval": 1_000 + 100 * place} for place, name in enumerate(IDS)])
 
         def is_idle():
             self.take(run)

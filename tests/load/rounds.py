@@ -20,7 +20,7 @@ class Rounds(helper.Check):
         with open(self.place("waits"), "wb") as file:
             file.write(bytes(8))
         environment = {**os.environ, "LD_PRELOAD": helper.shim("rounds.c", self.here), "WAITS": self.place("waits")}
-        return self.heard(*words, "--memory", "--root", self.here, env=environment)
+        return self.started(*words, "--memory", "--root", self.here, env=environment)
 
     def waits(self):
         with open(self.place("waits"), "rb") as file:
@@ -39,7 +39,7 @@ class Rounds(helper.Check):
         made = self.waited(wanted, lambda: run.run.poll() is None)
         self.assertIsNone(run.run.poll(), f"it ended after {made} rounds")
         self.assertGreaterEqual(made, wanted)
-        run.tell({"op": "list"})
+        run.send({"op": "list"})
         self.assertEqual(run.awaits(lambda value: True)[1], {"ok": True, "resources": []})
         self.assertEqual(run.ends(), 0)
 
@@ -48,22 +48,22 @@ class Rounds(helper.Check):
         # it ends if the check is gone, too
         self.agent("Waiting", 'until [ -e "$OCF_RESKEY_until" ] || [ ! -e "$0" ]; do sleep 0.05; done\n')
         run, wanted = self.hurried("run"), helper.number("TURNS", 20_000)
-        run.tell(helper.register("r1", "Waiting", until=self.place("until")), helper.action("r1", "start", timeout=300_000),
+        run.send(helper.register("r1", "Waiting", until=self.place("until")), helper.action("r1", "start", timeout=300_000),
                  {"op": "drain"})
         made = self.waited(wanted, lambda: run.run.poll() is None and not any("end" in value for value in run.values()))
         with open(self.place("until"), "wb"):
             pass
         self.assertEqual(run.awaits(lambda value: "end" in value)[1], {"end": "idle"}, f"after {made} turns")
         self.assertGreaterEqual(made, wanted)
-        self.assertEqual([(value["outcome"], value["code"]) for value in run.told()], [("done", 0)])
+        self.assertEqual([(value["outcome"], value["code"]) for value in run.notices()], [("done", 0)])
         self.assertEqual(run.ends(), 0)
 
     def test_alone(self):
         """a command is answered at once if nothing follows it"""
         for word in ("run", "serve"):
-            run = self.heard(word, "--memory")
+            run = self.started(word, "--memory")
             for names in (["a"], ["b", "c", "d"]):
-                run.tell(*[helper.register(name, "None") for name in names])
+                run.send(*[helper.register(name, "None") for name in names])
                 count = ord(names[-1]) - ord("a") + 1
                 self.eventually(f"{word}: replies to {names}", lambda: len(run.values()) >= count)
                 self.assertEqual(run.values(), [{"ok": True}] * count, f"{word}: {names}")
@@ -72,11 +72,11 @@ class Rounds(helper.Check):
     def test_moment(self):
         """an opening drops queued actions at its own moment"""
         folder = self.journal()
-        done = helper.run("run", "--journal", folder, told=helper.lines(helper.register("r1", "None"), helper.action("r1", "start")))
+        done = helper.run("run", "--journal", folder, sent=helper.lines(helper.register("r1", "None"), helper.action("r1", "start")))
         self.assertEqual(helper.replies(done.stdout)[1]["call"], 1)
         time.sleep(0.1)
         before = int(time.time() * 1000)
-        done = helper.run("run", "--journal", folder, told=helper.lines({"op": "history", "id": "r1"}))
+        done = helper.run("run", "--journal", folder, sent=helper.lines({"op": "history", "id": "r1"}))
         after = int(time.time() * 1000)
         notice, history = helper.replies(done.stdout)
         result, = history["results"]

@@ -24,12 +24,12 @@ class Serving(helper.Check):
         self.agent("Sleeper", '[ "$1" = start ] && exec sleep "${OCF_RESKEY_for:-0}"\nexit 0\n')
 
     def served(self, *journal):
-        return self.heard("serve", *(journal or ["--memory"]), "--root", self.here)
+        return self.started("serve", *(journal or ["--memory"]), "--root", self.here)
 
     def slow_and_quick(self):
         # a run in which the start of `slow` lasts, and a stop of `quick` is requested
         run = self.served()
-        run.tell(sleeper("slow", **{"for": "30"}), sleeper("quick"), action("slow", "start"), action("quick", "stop"))
+        run.send(sleeper("slow", **{"for": "30"}), sleeper("quick"), action("slow", "start"), action("quick", "stop"))
         return run
 
     def test_beside(self):
@@ -47,13 +47,13 @@ class Serving(helper.Check):
     def test_half_a_line(self):
         """monitors go on while half a line waits for its end"""
         run = self.slow_and_quick()
-        run.tell({"op": "recur", "id": "quick", "interval": 100})
+        run.send({"op": "recur", "id": "quick", "interval": 100})
         run.awaits(lambda value: value.get("key") == "quick_monitor_100")
-        run.send(b'{"op":"li')
-        seen = len(run.told())
+        run.write(b'{"op":"li')
+        seen = len(run.notices())
         self.eventually("six monitors while half a line waits for its end",
-                        lambda: sum(value["interval"] == 100 for value in run.told()[seen:]) >= 6)
-        run.send(b'st"}\n')
+                        lambda: sum(value["interval"] == 100 for value in run.notices()[seen:]) >= 6)
+        run.write(b'st"}\n')
         _, reply = run.awaits(lambda value: "resources" in value)
         self.assertEqual(reply, {"ok": True, "resources": ["slow", "quick"]}, "a line in two pieces")
         self.assertEqual(run.ends(), 0, "the end of input with an agent running")
@@ -63,31 +63,31 @@ class Serving(helper.Check):
         twice = (b'{"op":"list","op":"list"}\n', b'{"op":"list","id":{"a":[{"b":1,"\\u0062":2}]}}\n')
         refused = {"error": "syntax", "number": 1}
         for text in twice:
-            done = helper.run("serve", "--memory", told=text)
+            done = helper.run("serve", "--memory", sent=text)
             self.assertEqual([helper.bare(value) for value in helper.replies(done.stdout)], [refused], text)
-        done = helper.run("run", "--memory", told=b'{"op":"drain","op":"list"}\n' + twice[1])
+        done = helper.run("run", "--memory", sent=b'{"op":"drain","op":"list"}\n' + twice[1])
         self.assertEqual(helper.replies(done.stdout), [{"ok": True, "resources": []}] * 2)
 
     @helper.slow
     def test_flood(self):
         """a timeout of half a second in a flood of questions, which ends when it is reported, or after a million"""
-        run, flood, is_told = self.served(), b'{"op":"list"}\n' * 1000, threading.Event()
-        run.tell(sleeper("slow", **{"for": "30"}), action("slow", "start", timeout=500))
+        run, flood, is_reported = self.served(), b'{"op":"list"}\n' * 1000, threading.Event()
+        run.send(sleeper("slow", **{"for": "30"}), action("slow", "start", timeout=500))
         poured = []
 
         def pour():
-            while not is_told.is_set() and len(poured) < 1000:
-                run.send(flood)
+            while not is_reported.is_set() and len(poured) < 1000:
+                run.write(flood)
                 poured.append(flood)
 
         pouring = threading.Thread(target=pour)
         pouring.start()
         _, notice = run.awaits(lambda value: helper.is_notice(value, id="slow"))
-        is_told.set()
+        is_reported.set()
         pouring.join()
         self.assertIsNotNone(notice, "a notice of the timeout")
         late = notice["at"] - notice["since"] - 500
-        print(f"serve: a timeout in a flood of questions is told {late} ms late (50 wanted)", flush=True)
+        print(f"serve: a timeout in a flood of questions is reported {late} ms late (50 wanted)", flush=True)
         # (a timeout that is seen only after the flood comes many seconds late)
         self.took_less(1, late / 1000, "a timeout in a flood of questions, after its moment")
         self.assertEqual(run.ends(), 0, "the flood's end")
@@ -96,10 +96,10 @@ class Serving(helper.Check):
     def test_ends_at_once(self):
         """two hundred and fifty-six agents that end at once"""
         run, names = self.served(), [f"r{place}" for place in range(256)]
-        run.tell(*[sleeper(name, **{"for": "0.3"}) for name in names], *[action(name, "start") for name in names])
-        self.eventually("256 notices", lambda: len(run.told()) >= 256)
+        run.send(*[sleeper(name, **{"for": "0.3"}) for name in names], *[action(name, "start") for name in names])
+        self.eventually("256 notices", lambda: len(run.notices()) >= 256)
         self.assertEqual(run.ends(), 0, "the end of the many")
-        self.assertEqual([value["outcome"] for value in run.told()], ["done"] * 256)
+        self.assertEqual([value["outcome"] for value in run.notices()], ["done"] * 256)
 
     def test_reader_that_waits(self):
         """a reader that reads nothing for three seconds loses nothing"""
@@ -124,11 +124,11 @@ class Serving(helper.Check):
         """a line of 256 MiB is refused as syntax, in bounded memory, and the next one is answered"""
         run = self.served()
         run.ready()
-        run.send(b'{"op":"list","tag":"')
+        run.write(b'{"op":"list","tag":"')
         for _ in range(256):
-            run.send(bytes([0x61]) * 2 ** 20)
-        run.send(b'"}\n')
-        run.tell({"op": "list"})
+            run.write(bytes([0x61]) * 2 ** 20)
+        run.write(b'"}\n')
+        run.send({"op": "list"})
         run.awaits(lambda value: "resources" in value)
         self.assertEqual([value.get("error") for value in run.values()], ["syntax", None])
         self.assertLess(helper.kib(run.run.pid, "VmHWM"), 65_536, "KiB of memory")
@@ -137,15 +137,15 @@ class Serving(helper.Check):
     def test_withdraw(self):
         """a queued action is withdrawn while another one runs"""
         run = self.served()
-        run.tell(sleeper("r1", **{"for": "30"}), action("r1", "start"), action("r1", "stop"), action("r1", "stop"))
+        run.send(sleeper("r1", **{"for": "30"}), action("r1", "start"), action("r1", "stop"), action("r1", "stop"))
         for _ in range(600):
-            run.tell({"op": "info", "id": "r1"})
-            if run.hears(lambda value: value.get("running"), 0.1)[0]:
+            run.send({"op": "info", "id": "r1"})
+            if run.finds(lambda value: value.get("running"), 0.1)[0]:
                 break
         known = len(run.values())
         withdrawals = [{"op": "withdraw", "id": name, "call": call} for name, call in
                        (("r1", 3), ("r1", 3), ("r1", 1), ("r1", 0), ("zz", 3))]
-        run.tell(*withdrawals, {"op": "history", "id": "r1"}, {"op": "info", "id": "r1"}, {"op": "list"})
+        run.send(*withdrawals, {"op": "history", "id": "r1"}, {"op": "info", "id": "r1"}, {"op": "list"})
         run.awaits(lambda value: "resources" in value)
         *replies, history, info, _ = run.values()[known:]
         refusals = [("not-queued", 18), ("not-queued", 18), ("bad-value", 4), ("unknown-resource", 5)]
@@ -157,7 +157,7 @@ class Serving(helper.Check):
                                   "outcome": "cancelled", "run": 0, "since": result["at"]})
         self.assertEqual((info["failed"], info["queued"], info["running"]["call"]), (None, [2], 1))
         self.assertEqual(run.ends(), 0, "the end of input with an agent running")
-        self.assertEqual(run.told(), [], "a notice of a withdrawal")
+        self.assertEqual(run.notices(), [], "a notice of a withdrawal")
 
     def test_signals(self):
         """a notice of serve has the signal that ended its agent; one of run has none, and neither has one of another end"""
@@ -165,23 +165,23 @@ class Serving(helper.Check):
         asked = [helper.register("web", "Dies"), *[action("web", word) for word in ("start", "monitor", "stop")],
                  action("web", "demote", timeout=300)]
         run = self.served()
-        run.tell(*asked)
+        run.send(*asked)
         run.awaits(lambda value: helper.is_notice(value, call=4))
         self.assertEqual(run.ends(), 0)
         ends = [("signaled", 11), ("done", None), ("signaled", 15), ("timed-out", None)]
-        self.assertEqual([(value["outcome"], value.get("signal")) for value in run.told()], ends)
-        self.assertEqual(["signal" in value for value in run.told()], [True, False, True, False])
-        self.assertTrue(run.lines[-4][1].endswith(f',"signal":11,"since":{run.told()[0]["since"]}}}\n'), "keys ascending")
-        done = helper.run("run", "--memory", "--root", self.here, told=helper.lines(*asked, {"op": "drain"}))
-        told = [value for value in helper.replies(done.stdout) if helper.is_notice(value)]
-        self.assertEqual([value["outcome"] for value in told], [outcome for outcome, _ in ends])
-        self.assertFalse(any("signal" in value for value in told), "a notice of run")
+        self.assertEqual([(value["outcome"], value.get("signal")) for value in run.notices()], ends)
+        self.assertEqual(["signal" in value for value in run.notices()], [True, False, True, False])
+        self.assertTrue(run.lines[-4][1].endswith(f',"signal":11,"since":{run.notices()[0]["since"]}}}\n'), "keys ascending")
+        done = helper.run("run", "--memory", "--root", self.here, sent=helper.lines(*asked, {"op": "drain"}))
+        notices = [value for value in helper.replies(done.stdout) if helper.is_notice(value)]
+        self.assertEqual([value["outcome"] for value in notices], [outcome for outcome, _ in ends])
+        self.assertFalse(any("signal" in value for value in notices), "a notice of run")
 
     def test_kept(self):
         """sixty-four of sixty-five results are kept"""
         asked = [line for _ in range(65) for line in (action("a", "stop"), {"op": "drain"})]
-        told = helper.lines(sleeper("a"), *asked, {"op": "history", "id": "a"})
-        done = helper.run("run", "--memory", "--root", self.here, told=told)
+        sent = helper.lines(sleeper("a"), *asked, {"op": "history", "id": "a"})
+        done = helper.run("run", "--memory", "--root", self.here, sent=sent)
         results = helper.replies(done.stdout)[-1]["results"]
         self.assertEqual([result["call"] for result in results], list(range(2, 66)))
 
@@ -197,7 +197,7 @@ class Serving(helper.Check):
             return (helper.processor_time(run.run.pid) - before) / 3 * 100
 
         idle = cost()
-        run.tell(sleeper("slow", **{"for": "30"}), action("slow", "start"))
+        run.send(sleeper("slow", **{"for": "30"}), action("slow", "start"))
         time.sleep(0.5)
         asleep = cost()
         print(f"serve: of a core, idle {idle:.2f} % (0.1 wanted), with one agent asleep {asleep:.2f} % (2 wanted)", flush=True)
@@ -212,7 +212,7 @@ class Serving(helper.Check):
                               {"op": "watch", "limit": 1}, {"op": "tidy"}, {"op": "forget", "id": "a"}) + b"nonsense\n"
 
         def replies(word):
-            done = helper.run(word, "--memory", "--root", self.here, told=script)
+            done = helper.run(word, "--memory", "--root", self.here, sent=script)
             self.assertEqual(done.returncode, 0)
             return [helper.bare(value) for value in helper.replies(done.stdout) if not helper.is_notice(value)]
 
@@ -227,17 +227,17 @@ class Serving(helper.Check):
             # the call of that stop, for a journal whose calls begin with it: a monitor and three actions of each resource
             asked.append({"op": "withdraw", "id": name, "call": 4 if name == "a" else 8})
         self.note(f"{os.path.basename(journal)}.asked", helper.lines(*asked))
-        run.tell(asked[0])
+        run.send(asked[0])
         if not opens:
             run.awaits(lambda value: "resources" in value)
         for command in asked[1:]:
-            run.tell(command)
+            run.send(command)
             time.sleep(random.random() * 0.006)
         time.sleep(random.random() * 0.03)
         run.killed()
         return asked[1:], run.values()
 
-    def stands(self, command, reply, info, results):
+    def holds_command(self, command, reply, info, results):
         # what was acknowledged is in the journal
         if command["op"] == "withdraw":
             cancelled = [one["call"] for one in results if one["outcome"] == "cancelled"]
@@ -251,7 +251,7 @@ class Serving(helper.Check):
     def test_kills(self):
         """every reported result is found after kills at random moments"""
         random.seed(helper.number("SEED", 7))
-        lives, told = helper.number("LIVES", 60), 0
+        lives, lines = helper.number("LIVES", 60), 0
         for number in range(lives):
             journal = self.journal(f"life{number}")
             asked, values = self.life(journal, number % 2 == 0)
@@ -261,13 +261,13 @@ class Serving(helper.Check):
             notices = [value for value in values if helper.is_notice(value)]
             for command, reply in zip(asked, replies):
                 self.assertIn(command["id"], known)
-                self.stands(command, reply, *known[command["id"]])
+                self.holds_command(command, reply, *known[command["id"]])
             for notice in notices:
                 results = known[notice["id"]][1]
-                self.assertTrue(helper.result_of(notice) in results or len(results) == 64, f"{notice} was told")
-            told += len(replies) + len(notices)
-        print(f"serve: {lives} kills, {told} told lines stand", flush=True)
-        self.assertGreater(told, lives, "told lines")
+                self.assertTrue(helper.result_of(notice) in results or len(results) == 64, f"{notice} was sent")
+            lines += len(replies) + len(notices)
+        print(f"serve: {lives} kills, and the journal holds what {lines} lines said", flush=True)
+        self.assertGreater(lines, lives, "lines that were sent")
 
 
 if __name__ == "__main__":

@@ -60,7 +60,7 @@ class Busy(helper.Check):
         self.assertEqual(self.gives_up(20), 20)
 
     def test_burst(self):
-        """where processes waited since the test began, a bound is longer by as much, though no share tells of it yet"""
+        """where processes waited since the test began, a bound is longer by as much, though no share shows it yet"""
         for processor, disk in ((5.8, 0), (1, 4.8), (3, 2.8)):
             self.reports(0, processor, disk)
             self.took_less(1.5, 4.888, "what is timed")

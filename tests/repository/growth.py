@@ -28,7 +28,7 @@ KEPT = [("crates/growth/src/growth.rt", "pub ghost refused: { IsTrue A.refuses }
         ("crates/growth/src/growth.rt", "requires refuses { IsTrue A.refuses }"),
         ("crates/growth/src/growth.rt", "requires refused { IsErr answer → IsTrue A.refuses }"),
         ("crates/session_machine/src/system_edge.rt", "× (e.fault ≡ Memory → IsTrue ⟦<Global as Grows>⟧.refuses) };")]
-# A line that shows a refusal, and what stands above it in a function that cites the lemma.
+# A line that shows a refusal, and what is above it in a function that cites the lemma.
 SHOWN = re.compile(r"\bgranted\(|\bRefused::known\(|::(?:OutOf)?Memory\b")
 TRUSTED = "// TRUSTED:"
 

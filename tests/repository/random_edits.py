@@ -95,20 +95,20 @@ class RandomEdits(helper.Check):
                  (0, 1, refused, "refused by high: src/lib.rt:3:1: error: no"), (0, 1, (0, "proved"), "NOT REFUSED"),
                  (0, 1, (2, "no memory"), "NOT TRIED: high: no memory")]
         for library, differs, high, wanted in cases:
-            told = {"rt lib": (library, ""), "rt check": high, "diff -r": (differs, "")}
+            answers = {"rt lib": (library, ""), "rt check": high, "diff -r": (differs, "")}
             places = {"edited": lambda _: contextlib.nullcontext(Path("copy")),
-                      "called": lambda _, *words, of=told: of[" ".join(words[:2])]}
+                      "called": lambda _, *words, of=answers: of[" ".join(words[:2])]}
             with mock.patch.multiple(edits, **places):
                 self.assertEqual(edits.fate_above(edit, texts), wanted)
 
-    def judged(self, count, told):
-        """A call over the same edits, where this is told of those that are tried, by their numbers: what it found, and what it tried."""
+    def judged(self, count, fates):
+        """A call over the same edits, where those that are tried have these fates, by their numbers: what it found, and what it tried."""
         drawn, tried = [*edits.drawn(edits.edits_of("low", "src/lib.rt", SOURCE), 1)], []
 
         def judged(_, files):
             numbers = [next(at for at, edit in enumerate(drawn) if edit.name == file.name) for file in files]
             tried.extend(numbers)
-            return {drawn[at].name: told[at] for at in numbers if at in told}, "nothing"
+            return {drawn[at].name: fates[at] for at in numbers if at in fates}, "nothing"
 
         texts = SimpleNamespace(sum_of=lambda file, top=None: f"{file.name} {top}")
         judge = edits.Judge(texts, edits.Kept(Path(self.place("kept"))), False, 1)
@@ -120,14 +120,14 @@ class RandomEdits(helper.Check):
         """an edit that does not compile is replaced, what became of each is kept, and only what could not be tried is tried again"""
         os.makedirs(self.place("crates/low/src"))
         Path(self.place("crates/low/src/lib.rt")).write_text(SOURCE, encoding="utf-8")
-        told = {0: "refused, as it must be: src/lib.rt:20:5: error: not proved", 1: "BAD EDIT: it did not reach the prover",
-                2: "NOT REFUSED: it is still proved"}
+        fates = {0: "refused, as it must be: src/lib.rt:20:5: error: not proved", 1: "BAD EDIT: it did not reach the prover",
+                 2: "NOT REFUSED: it is still proved"}
         places = {"TOP": Path(self.here), "FOLDER": Path(self.place("edits")), "may_be_seen": lambda edit: False}
         with mock.patch.multiple(edits, **places), mock.patch.object(bodies, "TOP", Path(self.here)):
-            self.assertEqual(self.judged(3, told), ({0: "proof", 2: "alive", 3: "?"}, [0, 1, 2, 3]))
+            self.assertEqual(self.judged(3, fates), ({0: "proof", 2: "alive", 3: "?"}, [0, 1, 2, 3]))
             with open(self.place("kept"), "a", encoding="utf-8") as kept:
                 kept.write('\n{"sum": "half of a li')
-            self.assertEqual(self.judged(3, {3: told[0]}), ({0: "proof", 2: "alive", 3: "proof"}, [3]))
+            self.assertEqual(self.judged(3, {3: fates[0]}), ({0: "proof", 2: "alive", 3: "proof"}, [3]))
             self.assertEqual(self.judged(2, {}), ({0: "proof", 2: "alive"}, []))
 
 

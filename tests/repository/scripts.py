@@ -20,7 +20,7 @@ def checks():
     return [path for folder in FOLDERS for path in sorted((TOP / "tests" / folder).glob("*.py"))]
 
 
-def told(path, line, what):
+def at(path, line, what):
     return f"{os.path.relpath(path, TOP)}:{line}: {what}"
 
 
@@ -41,21 +41,21 @@ class Scripts(helper.Check):
         """each script of checks is a module of unittest, which runs its tests when it is called and not when it is imported"""
         self.assertEqual([path for folder in FOLDERS for path in (TOP / "tests" / folder).glob("*.sh")], [])
         for path, module in modules():
-            self.assertTrue(os.access(path, os.X_OK), told(path, 1, "it cannot be executed"))
-            self.assertRegex(ast.unparse(module.body[-1]), GUARD, told(path, module.body[-1].lineno, "its end"))
+            self.assertTrue(os.access(path, os.X_OK), at(path, 1, "it cannot be executed"))
+            self.assertRegex(ast.unparse(module.body[-1]), GUARD, at(path, module.body[-1].lineno, "its end"))
 
     def test_sentences(self):
         """each test has a sentence of one line, and no other test of its module has the same"""
         for path, module in modules():
             found = collections.Counter(ast.get_docstring(test) for test in cases(module))
             for sentence, count in found.items():
-                self.assertTrue(sentence and "\n" not in sentence, told(path, 1, f"a test of no sentence: {sentence}"))
-                self.assertEqual(count, 1, told(path, 1, sentence))
+                self.assertTrue(sentence and "\n" not in sentence, at(path, 1, f"a test of no sentence: {sentence}"))
+                self.assertEqual(count, 1, at(path, 1, sentence))
 
     def test_columns(self):
         """no line of a script is longer than 140 columns, except one that the program writes"""
         files = [path for ending in ("py", "sh", "c") for path in sorted((TOP / "tests").rglob(f"*.{ending}"))]
-        found = [told(path, number, line) for path in files if "out" not in path.parts
+        found = [at(path, number, line) for path in files if "out" not in path.parts
                  for number, line in enumerate(path.read_text(encoding="utf-8").splitlines(), 1) if len(line) > 140 and line[0] != "{"]
         self.assertEqual(found, [])
 
@@ -63,7 +63,7 @@ class Scripts(helper.Check):
         """an assertion of truth has a message that says what was wanted"""
         calls = [(path, call) for path, module in modules() for call in ast.walk(module)
                  if isinstance(call, ast.Call) and isinstance(call.func, ast.Attribute) and call.func.attr in ("assertTrue", "assertFalse")]
-        self.assertEqual([told(path, call.lineno, ast.unparse(call)) for path, call in calls if len(call.args) < 2], [])
+        self.assertEqual([at(path, call.lineno, ast.unparse(call)) for path, call in calls if len(call.args) < 2], [])
 
 
 if __name__ == "__main__":

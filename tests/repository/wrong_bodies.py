@@ -42,7 +42,7 @@ class WrongBodies(helper.Check):
         for script in ("tools/wrong_bodies.py", "tools/gate.sh"):
             self.write(f"top/{script}", "")
             shutil.copy(os.path.join(helper.TOP, script), self.place(f"top/{script}"))
-        self.write("top/crates.txt", "# name: what it stands on\n" + "".join(f"{name}: {below}\n" for name, below in CRATES.items()))
+        self.write("top/crates.txt", "# name: what it depends on\n" + "".join(f"{name}: {below}\n" for name, below in CRATES.items()))
         self.write("top/HANDLES", "")
         for name in CRATES:
             self.write(f"top/crates/{name}/src/lib.rt", SOURCE)

@@ -140,9 +140,9 @@ class Package(helper.Check):
         """an installed agent prints its metadata, and is started by the installed program"""
         root = str(self.root / "usr/lib/ocf")
         output(f"{root}/resource.d/ocfexec/Stateful", "meta-data", env={**os.environ, "OCF_RESOURCE_TYPE": "Stateful"})
-        told = helper.lines(helper.register("r1", "Dummy", "ocfexec", state=self.place("state")),
+        sent = helper.lines(helper.register("r1", "Dummy", "ocfexec", state=self.place("state")),
                             helper.action("r1", "start", timeout=5000), {"op": "drain"})
-        done = helper.run("run", "--memory", "--root", root, told=told, executable=self.root / "usr/bin/ocfexec")
+        done = helper.run("run", "--memory", "--root", root, sent=sent, executable=self.root / "usr/bin/ocfexec")
         self.assertEqual([value["outcome"] for value in helper.replies(done.stdout) if helper.is_notice(value)], ["done"], done.stderr)
 
     @unittest.skipUnless(shutil.which("cc"), "there is no C compiler")

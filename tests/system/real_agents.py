@@ -65,7 +65,7 @@ def registered(kind: str, **params: str) -> dict[str, object]:
 
 def answered(*commands: dict[str, object]) -> bytes:
     """The output of a run of these commands, which ends well."""
-    done = helper.run("run", "--memory", "--root", ROOT, "--meta-variables", told=helper.lines(*commands))
+    done = helper.run("run", "--memory", "--root", ROOT, "--meta-variables", sent=helper.lines(*commands))
     assert done.returncode == 0, f"it ended with {done.returncode}: {done.stderr.decode()}"
     return done.stdout
 

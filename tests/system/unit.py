@@ -112,9 +112,9 @@ class Keeper(helper.Check):
         os.chmod(self.place("bin/systemd-run"), 0o755)
         words = ("run", "--memory", "--root", self.here, "--via", os.path.join(EXAMPLES, "with-scope.sh"), "--path",
                  f"{self.place('bin')}:/usr/bin:/bin")
-        told = helper.lines(helper.register("web", "Dummy", state=self.place("web")), helper.action("web", "start"),
+        sent = helper.lines(helper.register("web", "Dummy", state=self.place("web")), helper.action("web", "start"),
                             helper.action("web", "monitor"), helper.action("web", "stop"), {"op": "drain"})
-        found = [value["code"] for value in helper.replies(helper.run(*words, told=told).stdout) if helper.is_notice(value)]
+        found = [value["code"] for value in helper.replies(helper.run(*words, sent=sent).stdout) if helper.is_notice(value)]
         self.assertEqual((found, self.called()), ([0, 0, 0], ["start", "stop"]))
         with open(self.place("scopes"), encoding="ascii") as file:
             self.assertRegex(file.read(), r"\A--quiet --scope --collect --unit=ocf-web-\d+ -- \S+/test/Dummy start\n\Z")
@@ -151,7 +151,7 @@ class Keeper(helper.Check):
         self.assertNotIn("read again", self.manager.read("log"))
 
     def test_killed(self):
-        """a killed client is started again, and keeps running services; told to leave, it is not started again, and they stay"""
+        """a killed client is started again, and keeps running services; ended by SIGUSR1, it is not started again, and they stay"""
         self.manager.start()
         main = self.manager.read("MainPID")
         self.manager.signal(signal.SIGKILL)

@@ -30,14 +30,14 @@ func say(value any) {
 	fmt.Println(string(text))
 }
 
-func told(result ocfexec.Result) string {
+func summary(result ocfexec.Result) string {
 	return fmt.Sprintf("%s %d %d %s", result.ID, result.Call, result.Run, result.Outcome)
 }
 
 func all(results []ocfexec.Result) []string {
 	found := []string{}
 	for _, result := range results {
-		found = append(found, told(result))
+		found = append(found, summary(result))
 	}
 	return found
 }
@@ -91,7 +91,7 @@ func (d driver) drained() error {
 		if err != nil {
 			return nil
 		}
-		say(told(result))
+		say(summary(result))
 	}
 }
 
@@ -129,11 +129,11 @@ func (d driver) does(word string, more any) error {
 		return err
 	case "result":
 		result, err := e.Result(ctx, int64(more.(float64)))
-		return answer(told(result), err)
+		return answer(summary(result), err)
 	case "events":
 		for count := int(more.(float64)); count > 0; count-- {
 			result, err := e.Next(ctx)
-			if err := answer(told(result), err); err != nil {
+			if err := answer(summary(result), err); err != nil {
 				return err
 			}
 		}

@@ -1,7 +1,7 @@
 #!/usr/bin/env python3
-"""The reasons of failures that serve tells, in a notice and in its status: with --logs those of the resource's log, and with --log those
+"""The reasons of failures that serve reports, in a notice and in its status: with --logs those of the resource's log, and with --log those
 lines of the log of all that no other run can have written.
-Use: told_reasons.py PROGRAM"""
+Use: notice_reasons.py PROGRAM"""
 import os
 import sys
 
@@ -27,7 +27,7 @@ exit "${OCF_RESKEY_code:-6}"
 TAIL = 65_536
 
 
-class Told(helper.Check):
+class NoticeReasons(helper.Check):
     def setUp(self):
         super().setUp()
         self.agent("Fails", FAILS)
@@ -35,28 +35,28 @@ class Told(helper.Check):
         self.ways = (("--logs", self.place("logs")), ("--log", self.place("log")))
 
     def serves(self, *words):
-        return self.heard("serve", *words, "--root", self.here)
+        return self.started("serve", *words, "--root", self.here)
 
     def registers(self, run, **named):
         """Registers resources, each with these parameters."""
-        run.tell(*[register(name, "Fails", **params) for name, params in named.items()])
+        run.send(*[register(name, "Fails", **params) for name, params in named.items()])
 
     def fails(self, run, *names):
         """The reasons in the notices of an action of each of these resources, and in a status after them."""
         before = len(run.lines)
-        run.tell(*[action(name, "start") for name in names])
+        run.send(*[action(name, "start") for name in names])
 
-        def notices():
+        def found_notices():
             found = [helper.value_of(line) for _, line in run.lines[before:] if '"kind":"notice"' in line]
             return found if len({value["id"] for value in found} & set(names)) == len(names) else None
-        told = {value["id"]: value["reason"] for value in self.eventually("the notices", notices)}
+        reported = {value["id"]: value["reason"] for value in self.eventually("the notices", found_notices)}
         found = self.status(run)
-        return [(told[name], found[name]) for name in names]
+        return [(reported[name], found[name]) for name in names]
 
     def status(self, run):
         """The reasons in a status, by resource."""
         before = len(run.lines)
-        run.tell(STATUS)
+        run.send(STATUS)
         reply = self.eventually("a status", lambda: next(
             (helper.value_of(line) for _, line in run.lines[before:] if '"status":' in line), None))
         return {value["id"]: value["failed"] and value["failed"]["reason"] for value in reply["status"]}
@@ -66,7 +66,7 @@ class Told(helper.Check):
         one, two = self.place("one"), self.place("two")
         return {"mine": one, "theirs": two, "reason": first}, {"mine": two, "theirs": one, "reason": second}
 
-    def test_told(self):
+    def test_reported(self):
         """the last reason of a run is in its notice and in the status, in either log; without a reason or a log it is null"""
         for words in (*self.ways, ()):
             with self.subTest(words):
@@ -76,10 +76,10 @@ class Told(helper.Check):
                 self.assertEqual(self.fails(run, "a"), [(reason, reason)])
                 self.assertEqual(self.fails(run, "b"), [(None, None)])
                 self.assertEqual(self.fails(run, "c"), [(None, None)])
-                run.tell({"op": "params", "id": "a", "params": {"reason": "another"}})
+                run.send({"op": "params", "id": "a", "params": {"reason": "another"}})
                 reason = "another" if words else None
                 self.assertEqual(self.fails(run, "a"), [(reason, reason)])
-                run.tell({"op": "params", "id": "a", "params": {}})
+                run.send({"op": "params", "id": "a", "params": {}})
                 self.assertEqual(self.fails(run, "a"), [(None, None)], "a reason of an earlier run")
                 self.assertEqual(run.ends(), 0)
 
@@ -100,7 +100,7 @@ class Told(helper.Check):
                 self.assertEqual(self.fails(run, "a", "b"), [(reason, reason) for reason in wanted])
                 for name in ("one1", "one2", "two1", "two2"):
                     os.remove(self.place(name))
-                run.tell({"op": "params", "id": "a", "params": {"reason": "alone"}})
+                run.send({"op": "params", "id": "a", "params": {"reason": "alone"}})
                 self.assertEqual(self.fails(run, "a"), [("alone", "alone")])
                 self.assertEqual(run.ends(), 0)
 
@@ -110,7 +110,7 @@ class Told(helper.Check):
         run = self.serves("--memory", *words)
         self.registers(run, long={"mine": self.place("one"), "theirs": self.place("two")}, fills={"bytes": str(TAIL + 100), "code": "0"},
                        a={"reason": "of a"})
-        run.tell(action("long", "start"))
+        run.send(action("long", "start"))
         self.eventually("it runs", lambda: os.path.exists(self.place("one1")))
         self.fails(run, "fills")
         self.assertEqual(self.fails(run, "a"), [(None, None)])
@@ -122,7 +122,7 @@ class Told(helper.Check):
         self.assertEqual(run.ends(), 0)
 
     def test_far(self):
-        """a reason that was told stays in the status when the log has grown past it, and is looked for again after an opening"""
+        """a reason that was reported stays in the status when the log has grown past it, and is looked for again after an opening"""
         for place, words in enumerate(self.ways):
             with self.subTest(words):
                 folder = self.journal(f"j{place}")
@@ -145,11 +145,11 @@ class Told(helper.Check):
         folder = self.journal()
         run = self.serves("--journal", folder, *words)
         self.registers(run, a={"mine": self.place("one"), "theirs": self.place("two")})
-        run.tell(action("a", "start"))
+        run.send(action("a", "start"))
         self.eventually("it runs", lambda: os.path.exists(self.place("one1")))
         run.killed()
         run = self.serves("--journal", folder, *words, "--orphans", "0")
-        run.tell({"op": "params", "id": "a", "params": {"reason": "of a"}})
+        run.send({"op": "params", "id": "a", "params": {"reason": "of a"}})
         self.assertEqual(self.fails(run, "a"), [("of a", "of a")])
         self.assertEqual(run.ends(), 0)
 

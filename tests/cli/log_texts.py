@@ -1,7 +1,7 @@
 #!/usr/bin/env python3
 """What `log` prints, word for word: all of it, --failed, --changes, -n, --since and --until, IDs, --json and --salvage, in a pipe and on
 terminals of 80 and 120 columns, over a journal with each kind of event, each outcome and an opening that interrupts and drops. The
-journal is written here from docs/FORMAT.md, and the texts are those of tests/data/log. Use: told_log.py PROGRAM"""
+journal is written here from docs/FORMAT.md, and the texts are those of tests/data/log. Use: log_texts.py PROGRAM"""
 import os
 import pty
 import subprocess
@@ -17,7 +17,7 @@ NOON = 1_764_244_800_000  # 2025-11-27 12:00:00
 LONG = "a-very-long-id-of-sixty-four-letters-" + "x" * 27
 
 
-class ToldLog(helper.Check):
+class LogTexts(helper.Check):
     def setUp(self) -> None:
         super().setUp()
         self.folder, self.written = self.journal(), Written()
