@@ -64,7 +64,7 @@ class Trusted(helper.Check):
 
     def test_each_method(self):
         """each method of the system's host with a promise in its trait says what is trusted of it"""
-        with open(os.path.join(helper.TOP, "crates/exec_program/src/host.rt"), encoding="utf-8") as file:
+        with open(os.path.join(helper.TOP, "crates/exec_host/src/host.rt"), encoding="utf-8") as file:
             promised = {part.split("(")[0] for part in file.read().split("    fn ")[1:] if "ensures" in part.split(";")[0]}
         with open(os.path.join(helper.TOP, HOST), encoding="utf-8") as file:
             parts = file.read().split("impl<'a> Host for")[1].split("    fn ")

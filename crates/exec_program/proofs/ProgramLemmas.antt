@@ -12,7 +12,7 @@ use Rattle.exec_options.specs.declared.arguments.Wanted.{Wanted}
 use Rattle.exec_options.specs.declared.arguments.Wanted.TheVariants as wanted
 use Rattle.exec_faults.specs.Faults.{HasCause}
 use Rattle.exec_faults.specs.declared.fault.Fault.{Fault}
-use Rattle.exec_program.specs.Asked.{System}
+use Rattle.exec_host.specs.Asked.{System}
 use Rattle.exec_program.specs.Program.{Does, RunsAt}
 use Rattle.exec_program.specs.Runs.{RunsOn}
 

@@ -8,9 +8,9 @@ use Rattle.exec_options.specs.declared.options.Options.{Options}
 use Rattle.exec_options.specs.declared.options.Subcommand.{Subcommand}
 use Rattle.exec_options.specs.declared.arguments.Wanted.{Wanted}
 use Rattle.exec_options.specs.declared.arguments.Wanted.TheVariants as wanted
-use Rattle.exec_program.specs.Asked.{Asked}
-use Rattle.exec_program.specs.Requests.{Allows, IsAskedFor, IsOfStreams, IsOfSubcommand, Request, RunOnce, WriteLine}
-use Rattle.exec_program.specs.Runs.{disk_line, served_directory}
+use Rattle.exec_host.specs.Asked.{Asked}
+use Rattle.exec_host.specs.Requests.{Allows, IsAskedFor, IsOfStreams, IsOfSubcommand, Request, RunOnce, WriteLine}
+use Rattle.exec_host.specs.Services.{disk_line, served_directory}
 
 -- where the arguments ask for a journal, the requests of its subcommand are allowed
 pub allows_journal : {F L A S R W K H : Type 0} (asked : Asked F L A S R W K H) (named : Option (List ℕ)) (arguments : List (List ℕ))

@@ -1,10 +1,10 @@
 -- What a session may ask for, from its options.
-use Rattle.std.proofs.Common.{◌≡◌, inl, inr, option_map, refl}
+use Rattle.std.proofs.Common.{inl, inr, option_map, refl}
 use Rattle.exec_options.specs.declared.options.Options.{Options}
-use Rattle.exec_program.specs.Asked.{Asked}
-use Rattle.exec_program.specs.Limits.{book_room}
-use Rattle.exec_program.specs.Requests.{Allows, IsOfRun, MakeAgents, OpenReader, Request}
-use Rattle.exec_program.specs.Upkeeps.{upkeep_of}
+use Rattle.exec_host.specs.Asked.{Asked}
+use Rattle.exec_host.specs.Limits.{book_room}
+use Rattle.exec_host.specs.Requests.{Allows, IsOfRun, MakeAgents, OpenReader, Request}
+use Rattle.exec_host.specs.Upkeeps.{upkeep_of}
 
 module _ {F L A S R W K H : Type 0} (asked : Asked F L A S R W K H) (may : Request L → Type 0) (o : Options) where
   -- standard input

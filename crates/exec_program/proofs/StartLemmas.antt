@@ -1,10 +1,7 @@
 -- Why the program ends as it does.
 use Rattle.std.proofs.Common.{inl, inr, ⊎_elim, ◌||◌, ℕ, List, Result, Ok, Err, Option, ap, refl, subst, sym, ◌≡◌, is_some, Bool, IsTrue, true}
-use Rattle.store_model.specs.StoreView.{StoreView}
-use Rattle.child_model.specs.Children.{ChildrenView}
 use Rattle.executor.specs.declared.opening.OpenError.{OpenError}
 use Rattle.executor.specs.declared.opening.OpenError.TheVariants as opening
-use Rattle.executor.specs.declared.report.Report.{Report}
 use Rattle.exec_options.specs.Faults.{IsFault}
 use Rattle.exec_options.specs.Arguments.{AsksFor, Gives, GivesOnce, directory_of, is_once}
 use Rattle.exec_options.specs.declared.once.OnceOptions.{OnceOptions}
@@ -15,36 +12,8 @@ use Rattle.exec_options.specs.declared.options.Options.{Options}
 use Rattle.exec_faults.specs.Faults.{HasCause, IsRunEnd}
 use Rattle.exec_faults.specs.declared.fault.Fault.{Fault}
 use Rattle.exec_faults.specs.declared.fault.Fault.TheVariants as fault
-use Rattle.session_machine.specs.Behaviours.{Trace}
-use Rattle.exec_session.specs.Ends.{Ended, IsEnd}
 use Rattle.journal_directory.specs.Ends.{IsDirectoryEnd}
 use Rattle.exec_program.specs.Starts.{EndsFor, IsEndOf, IsWrittenAs, StartEndsFor, opening_fault, with_status}
-
--- a session does not end because of its arguments
-ends : {S T : Type 0} (t : Trace S) (r : Result T Fault) → IsEnd t r → IsRunEnd r
-ends t (Ok done) how = tt
-ends t (Err fault.Usage) how = absurd how
-ends t (Err fault.Choice) how = absurd how
-ends t (Err fault.NotText) how = absurd how
-ends t (Err fault.Log) how = absurd how
-ends t (Err fault.NoResource) how = absurd how
-ends t (Err fault.NotOpened) how = absurd how
-ends t (Err fault.NoJournal) how = absurd how
-ends t (Err fault.NotExisting) how = absurd how
-ends t (Err fault.NotWell) how = absurd how
-ends t (Err (fault.Damaged damage)) how = absurd how
-ends t (Err fault.Memory) how = absurd how
-ends t (Err fault.Disk) how = tt
-ends t (Err fault.Full) how = absurd how
-ends t (Err fault.InputOrOutput) how = tt
-ends t (Err fault.ReplyMemory) how = tt
-ends t (Err fault.ChildrenIgnored) how = absurd how
-ends t (Err fault.NoExecutor) how = absurd how
-ends t (Err fault.Failed) how = absurd how
-
-pub run_ends : {S C : Type 0} (view : S → StoreView) (tend : C → ChildrenView) (old new : Trace S) (ended : Result Unit Fault) (store : S) (children : C)
-    → Ended view tend old new ended store children → IsRunEnd ended
-run_ends view tend old new ended store children ends_so = ends new ended ends_so.is_end
 
 -- neither does one that ended as sessions do
 pub same_ends : {T : Type 0} (r s : Result T Fault) → r ≡ s → IsRunEnd s → IsRunEnd r

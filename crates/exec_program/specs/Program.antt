@@ -1,5 +1,5 @@
 -- What the program does.
-use Rattle.std.specs.Prelude.{◌≡◌, ◌⊎◌, ◌||◌, ℕ, ⊤, Bool, true, false, IfErr, IsTrue, List, [], Option, Some, None, option_map, is_some, Result, Ok, Err}
+use Rattle.std.specs.Prelude.{◌≡◌, ◌⊎◌, ◌||◌, ℕ, ⊤, true, false, IfErr, IsTrue, List, [], Option, Some, None, option_map, is_some, Result, Ok, Err}
 use Rattle.std.specs.declared.alloc.Global.{Global}
 use Rattle.file_disk.specs.RamDisk.{IsFresh, view_of}
 use Rattle.file_disk.specs.declared.ram.RamDisk.{RamDisk}
@@ -16,7 +16,7 @@ use Rattle.exec_options.specs.declared.options.Subcommand.TheVariants as subcomm
 use Rattle.exec_faults.specs.Faults.{HasCause}
 use Rattle.exec_faults.specs.declared.fault.Fault.{Fault}
 use Rattle.exec_faults.specs.declared.fault.Fault.TheVariants as fault
-use Rattle.exec_program.specs.Asked.{Asked, System}
+use Rattle.exec_host.specs.Asked.{Asked, System}
 use Rattle.exec_program.specs.Runs.{RunsOn}
 use Rattle.exec_program.specs.Starts.{IsWrittenAs, with_status}
 

@@ -1,6 +1,5 @@
 -- From the arguments to a session.
-use Rattle.std.specs.Prelude.{◌≡◌, ◌⊎◌, ◌||◌, ℕ, ⊤, Bool, true, false, List, Option, is_some, option_map, Result, Ok, Err}
-use Rattle.ocf_env.specs.Locations.{SiteView}
+use Rattle.std.specs.Prelude.{◌≡◌, ◌⊎◌, ◌||◌, ℕ, ⊤, Bool, true, false, List, Option, is_some, Result, Ok, Err}
 use Rattle.exec_options.specs.Faults.{IsFault}
 use Rattle.exec_options.specs.Arguments.{Gives, GivesOnce, directory_of, is_once}
 use Rattle.exec_options.specs.declared.fault.ArgumentsFault.{ArgumentsFault}
@@ -23,14 +22,6 @@ status_of_end (Err f) = status_of f
 abbrev pub with_status : {T : Type 0} → Result T Fault → Result ℕ Fault
 with_status (Ok done) = Ok 0
 with_status (Err f) = Err f
-
--- the site of these options
-abbrev pub site_of : Options → SiteView
-site_of o = record { root = o.root.now; path = o.path.now; via = option_map (λ s. s.now) o.via; meta = o.meta_variables }
-
--- the site of one action by itself
-abbrev pub once_site_of : OnceOptions → SiteView
-once_site_of o = record { root = o.root.now; path = o.path.now; via = option_map (λ s. s.now) o.via; meta = o.meta_variables }
 
 -- the fault of an executor that was not opened; fresh agents are never of another journal
 abbrev pub opening_fault : OpenError → Fault

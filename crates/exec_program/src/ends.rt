@@ -1,14 +1,14 @@
 //! How a session ends.
 ghost use Rattle.std.specs.Prelude.{◌≡◌, ◌<◌, true, Err, IfErr, IsErrOf};
 ghost use Rattle.exec_faults.specs.Faults.{HasCause, IsRunEnd};
-ghost use Rattle.exec_program.specs.Places.{at_check, at_close};
-ghost use Rattle.exec_program.specs.Requests.{Allows, IsOfStreams};
-ghost use Rattle.exec_program.specs.Runs.{EndsBy, judged, served_directory};
+ghost use Rattle.exec_host.specs.Places.{at_check, at_close};
+ghost use Rattle.exec_host.specs.Requests.{Allows, IsOfStreams};
+ghost use Rattle.exec_program.specs.Runs.{EndsBy, judged};
+ghost use Rattle.exec_host.specs.Services.{served_directory};
 ghost use Rattle.exec_program.specs.Starts.{opening_fault};
 
-use crate::host::Host;
-use crate::options::served_directory;
 use exec_faults::Fault;
+use exec_host::{Host, served_directory};
 use exec_options::Options;
 use executor::OpenError;
 use file_disk::ReportsError;

@@ -1,14 +1,14 @@
 //! From the arguments to a session.
 ghost use Rattle.std.specs.Prelude.{◌≡◌, ◌<◌, map, option_map, string_bytes};
-ghost use Rattle.exec_program.specs.Asked.{system_of};
-ghost use Rattle.exec_program.specs.Places.{at_log};
+ghost use Rattle.exec_host.specs.Asked.{system_of};
+ghost use Rattle.exec_host.specs.Places.{at_log};
 ghost use Rattle.exec_program.specs.Program.{Does, DoesAs, Looks, Prints, RunsFor};
-ghost use Rattle.exec_program.specs.Requests.{Allows, IsAskedFor, IsOfFault, IsOfLook, IsOfRun, IsOfSubcommand};
+ghost use Rattle.exec_host.specs.Requests.{Allows, IsAskedFor, IsOfFault, IsOfLook, IsOfRun, IsOfSubcommand};
 ghost use Rattle.exec_program.specs.Starts.{IsEndOf, IsWrittenAs, StartEndsFor, misused, with_status};
 
-use crate::host::Host;
 use crate::run::serve_agents;
 use exec_faults::Fault;
+use exec_host::Host;
 use exec_options::{
     ArgumentsFault, JournalLocation, Options, Subcommand, Wanted, is_once, read_arguments,
 };

@@ -3,7 +3,7 @@ use Rattle.std.specs.Prelude.{◌≡◌, ℕ, List, Option, Result}
 use Rattle.std.specs.Process.{exit_status}
 use Rattle.std.specs.declared.process.ExitCode.{ExitCode}
 use Rattle.exec_faults.specs.declared.fault.Fault.{Fault}
-use Rattle.exec_program.specs.Asked.{System}
+use Rattle.exec_host.specs.Asked.{System}
 use Rattle.exec_program.specs.Program.{Does}
 use Rattle.exec_program.specs.Starts.{status_of_end}
 

@@ -15,11 +15,11 @@ use diagnostics::{
     FirstError, Noted, children_ignored, is_journal, report_ignored, report_run, report_shown,
 };
 use exec_faults::Fault;
+use exec_host::{Host, Upkeep};
 use exec_lines::{
     ClockTicker, LineInput, Patient, ReadAhead, SessionClock, moment_now, write_flushed,
 };
 use exec_options::{OnceOptions, Options};
-use exec_program::{Host, Upkeep};
 use exec_replies::JournalId;
 use file_disk::{FileDisk, FileError, JournalPaths, RamDisk};
 use growth::Refused;

@@ -3,9 +3,9 @@
 
 ghost use Rattle.std.specs.Prelude.{◌≡◌, ◌<◌, map, option_map, string_bytes};
 ghost use Rattle.std.specs.Process.{exit_status};
-ghost use Rattle.exec_program.specs.Asked.{system_of};
-ghost use Rattle.exec_program.specs.Places.{at_log};
-ghost use Rattle.exec_program.specs.Requests.{Allows, IsAskedFor};
+ghost use Rattle.exec_host.specs.Asked.{system_of};
+ghost use Rattle.exec_host.specs.Places.{at_log};
+ghost use Rattle.exec_host.specs.Requests.{Allows, IsAskedFor};
 ghost use Rattle.exec_program.specs.Starts.{status_of_end};
 ghost use Rattle.ocfexec.specs.Ends.{EndsWith};
 
@@ -24,7 +24,8 @@ mod stack;
 use arguments::{arguments_of, named_journal};
 use diagnostics::{FirstError, report, report_cause};
 use exec_faults::Fault;
-use exec_program::{Host, program};
+use exec_host::Host;
+use exec_program::program;
 use growth::Grows;
 use host::SystemHost;
 use process_ends::System;

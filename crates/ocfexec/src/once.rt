@@ -2,12 +2,12 @@
 use agent_system::leading_of;
 use diagnostics::{children_ignored, report, report_ignored};
 use exec_faults::Fault;
+use exec_host::site_of_once;
 use exec_once::{
     OnceCall, OnceEnd, OnceFault, OnceSite, read_agent, read_id, read_parameters, read_what,
     run_once,
 };
 use exec_options::{JournalResource, NamedAgent, OnceOptions, OnceTarget};
-use exec_program::site_of_once;
 use journal_directory::registered;
 use ocf_env::Site;
 use process_ends::{System, SystemAgents};

@@ -1,7 +1,7 @@
 use Rattle.std.proofs.Common.{subst, sym}
-use Rattle.exec_program.specs.Limits.{book_room}
-use Rattle.exec_program.specs.Requests.{MakeAgents}
-use Rattle.exec_program.specs.Upkeeps.{UpkeepView}
+use Rattle.exec_host.specs.Limits.{book_room}
+use Rattle.exec_host.specs.Requests.{MakeAgents}
+use Rattle.exec_host.specs.Upkeeps.{UpkeepView}
 use Rattle.exec_program.proofs.run.prepared.Goals as goal
 
 pub agents-requires-clause-may : goal.agents-requires-clause-may

@@ -1,5 +1,5 @@
-use Rattle.std.proofs.Common.{◌∙◌, ℕ, List, Option, inl, inr, ap, subst, refl, Err}
-use Rattle.exec_program.specs.Requests.{WatchPaths}
+use Rattle.std.proofs.Common.{◌∙◌, ℕ, List, Option, inl, inr, ap, subst, Err}
+use Rattle.exec_host.specs.Requests.{WatchPaths}
 use Rattle.exec_program.proofs.SessionLemmas.{allows_agents, allows_reader}
 use Rattle.exec_program.proofs.run.serve_agents.Goals as goal
 

@@ -1,5 +1,5 @@
 use Rattle.std.proofs.Common.{Bool, inr, map, option_map, string_bytes, subst}
-use Rattle.exec_program.specs.Asked.{system_of}
+use Rattle.exec_host.specs.Asked.{system_of}
 use Rattle.exec_program.specs.Starts.{IsWrittenAs}
 use Rattle.exec_program.proofs.ProgramLemmas.{does_once}
 use Rattle.exec_program.proofs.RequestLemmas.{allows_journal, allows_once}

@@ -1,7 +1,7 @@
 use Rattle.std.proofs.Common.{ap, inl, inr, option_map, refl, subst}
 use Rattle.exec_options.specs.Arguments.{directory_of}
-use Rattle.exec_program.specs.Asked.{system_of}
-use Rattle.exec_program.specs.Requests.{OpenFiles, OpenLog}
+use Rattle.exec_host.specs.Asked.{system_of}
+use Rattle.exec_host.specs.Requests.{OpenFiles, OpenLog}
 use Rattle.exec_program.proofs.ProgramLemmas.{runs_in_memory}
 use Rattle.exec_program.proofs.start.start_agents.Goals as goal
 

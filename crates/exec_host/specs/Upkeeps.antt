@@ -2,7 +2,7 @@
 use Rattle.std.specs.Prelude.{ℕ, Bool, List, Option, not, option_map}
 use Rattle.exec_options.specs.Arguments.{directory_of}
 use Rattle.exec_options.specs.declared.options.Options.{Options}
-use Rattle.exec_program.specs.declared.host.Upkeep.{Upkeep}
+use Rattle.exec_host.specs.declared.host.Upkeep.{Upkeep}
 
 -- The directory in which it is recorded which agents run, if there is one; how long a resource waits at most for the processes of an
 -- interrupted action, in milliseconds; whether these are left alone instead; and whether each agent runs in a session and process group

@@ -1,7 +1,7 @@
 //! How a session looks after its agents, by the options.
 ghost use Rattle.std.specs.Prelude.{◌≡◌, option_map};
 ghost use Rattle.exec_options.specs.Arguments.{directory_of};
-ghost use Rattle.exec_program.specs.Upkeeps.{upkeep_of, upkeep_view};
+ghost use Rattle.exec_host.specs.Upkeeps.{upkeep_of, upkeep_view};
 
 use crate::host::Upkeep;
 use exec_options::{JournalLocation, Options};

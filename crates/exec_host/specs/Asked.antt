@@ -11,7 +11,7 @@ use Rattle.exec_faults.specs.declared.fault.Fault.{Fault}
 use Rattle.exec_lines.specs.Inputs.{InputView}
 use Rattle.exec_lines.specs.Tickers.{TickerEvent}
 use Rattle.session_machine.specs.Starts.{Gives, SourceView}
-use Rattle.exec_program.specs.Upkeeps.{UpkeepView}
+use Rattle.exec_host.specs.Upkeeps.{UpkeepView}
 
 -- What a system was asked for, with its answers: each relation holds of the arguments and the answer of one method. Texts are bytes,
 -- times are milliseconds.

@@ -1,6 +1,6 @@
 //! Where agents are.
 ghost use Rattle.std.specs.Prelude.{◌≡◌, IfOk, option_map};
-ghost use Rattle.exec_program.specs.Starts.{once_site_of, site_of};
+ghost use Rattle.exec_host.specs.Sites.{once_site_of, site_of};
 
 use exec_options::{OnceOptions, Options};
 use growth::{Refused, text_of};

@@ -3,9 +3,9 @@ use Rattle.ocf_env.specs.Locations.{SiteView}
 use Rattle.exec_replies.specs.JournalIds.{id_digits}
 use Rattle.exec_client.specs.ClientView.{ClientView}
 use Rattle.exec_events.specs.Failures.{tell_failure}
-use Rattle.exec_program.specs.Requests.{AskIdentity, AskSite, OpenWriter, StartClock}
-use Rattle.exec_program.proofs.RunLemmas.{held_of, lent_digits}
-use Rattle.exec_program.proofs.lines.answer_lines.Goals as goal
+use Rattle.exec_host.specs.Requests.{AskIdentity, AskSite, OpenWriter, StartClock}
+use Rattle.exec_host.proofs.LineLemmas.{held_of, lent_digits}
+use Rattle.exec_host.proofs.lines.answer_lines.Goals as goal
 
 pub ticker-ticker-requires-clause-may : goal.ticker-ticker-requires-clause-may
 ticker-ticker-requires-clause-may g c = c.requires.may (StartClock _ _) (inl c.directory_of.ensures)

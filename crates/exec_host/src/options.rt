@@ -1,6 +1,6 @@
 //! What the options set for a session.
 ghost use Rattle.std.specs.Prelude.{◌≡◌, option_map};
-ghost use Rattle.exec_program.specs.Runs.{IsHeldTo, found_identity, served_directory, service_in, service_of, way_of};
+ghost use Rattle.exec_host.specs.Services.{IsHeldTo, found_identity, served_directory, service_in, service_of, way_of};
 
 use crate::host::Host;
 use crate::limits::MOST_TURNS;

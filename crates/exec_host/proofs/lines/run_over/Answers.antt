@@ -1,7 +1,7 @@
 use Rattle.std.proofs.Common.{ap, refl}
 use Rattle.session_machine.specs.EdgeView.{EdgeView}
-use Rattle.exec_program.proofs.RunLemmas.{ended_from, opens_so}
-use Rattle.exec_program.proofs.lines.run_over.Goals as goal
+use Rattle.exec_host.proofs.LineLemmas.{ended_from, opens_so}
+use Rattle.exec_host.proofs.lines.run_over.Goals as goal
 
 pub run_lines-run-requires-clause-begun : goal.run_lines-run-requires-clause-begun
 run_lines-run-requires-clause-begun g c = opens_so (ap (λ (v : EdgeView _). v.trace) c.new-edge.ensures) c.requires.new

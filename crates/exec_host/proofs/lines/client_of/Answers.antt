@@ -1,7 +1,7 @@
 use Rattle.std.proofs.Common.{◌∙◌, ℕ, List, Option, ap, subst, sym}
 use Rattle.exec_client.specs.ClientView.{ClientView}
-use Rattle.exec_program.specs.Requests.{OpenWriter}
-use Rattle.exec_program.proofs.lines.client_of.Goals as goal
+use Rattle.exec_host.specs.Requests.{OpenWriter}
+use Rattle.exec_host.proofs.lines.client_of.Goals as goal
 
 pub writer-writer-requires-clause-may : goal.writer-writer-requires-clause-may
 writer-writer-requires-clause-may g c =

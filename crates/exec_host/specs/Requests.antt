@@ -10,11 +10,11 @@ use Rattle.exec_options.specs.declared.once.OnceOptions.{OnceOptions}
 use Rattle.exec_options.specs.declared.options.Options.{Options}
 use Rattle.exec_options.specs.declared.options.Subcommand.{Subcommand}
 use Rattle.exec_options.specs.declared.options.Subcommand.TheVariants as subcommand
-use Rattle.exec_program.specs.Asked.{Asked}
-use Rattle.exec_program.specs.Limits.{book_room}
-use Rattle.exec_program.specs.Runs.{disk_line, served_directory}
-use Rattle.exec_program.specs.Starts.{site_of}
-use Rattle.exec_program.specs.Upkeeps.{UpkeepView, upkeep_of}
+use Rattle.exec_host.specs.Asked.{Asked}
+use Rattle.exec_host.specs.Limits.{book_room}
+use Rattle.exec_host.specs.Services.{disk_line, served_directory}
+use Rattle.exec_host.specs.Sites.{site_of}
+use Rattle.exec_host.specs.Upkeeps.{UpkeepView, upkeep_of}
 
 -- A request to open, spawn, read, write or show something, with its arguments. Texts are bytes, times are milliseconds.
 pub data Request (Log : Type 0) : Type 0 where

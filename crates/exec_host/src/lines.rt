@@ -6,11 +6,12 @@ ghost use Rattle.exec_events.specs.Failures.{tell_failure};
 ghost use Rattle.session_machine.specs.Behaviours.{opening};
 ghost use Rattle.session_machine.specs.First.{IsNew};
 ghost use Rattle.exec_session.specs.Steps.{IsReportOf};
-ghost use Rattle.exec_program.specs.Asked.{system_of};
-ghost use Rattle.exec_program.specs.Places.{at_check, at_moment, at_writer};
-ghost use Rattle.exec_program.specs.Requests.{Allows, IsOfRun, OpenWriter};
-ghost use Rattle.exec_program.specs.Runs.{RunsLines, RunsSession, served_directory};
-ghost use Rattle.exec_program.specs.Starts.{site_of};
+ghost use Rattle.exec_host.specs.Asked.{system_of};
+ghost use Rattle.exec_host.specs.Places.{at_check, at_moment, at_writer};
+ghost use Rattle.exec_host.specs.Requests.{Allows, IsOfRun, OpenWriter};
+ghost use Rattle.exec_host.specs.Lines.{RunsLines, RunsSession};
+ghost use Rattle.exec_host.specs.Services.{served_directory};
+ghost use Rattle.exec_host.specs.Sites.{site_of};
 
 use crate::host::Host;
 use crate::options::{Findings, events_of, rules_of, served_directory};
@@ -119,7 +120,7 @@ fn run_over<'a, H: Host, S: Store + Drop, T: Client<S, H::Agents> + Drop>(
 }
 
 /// Sends the report of an executor that was just opened, and answers the lines of standard input.
-#[tactic(auto, using(crate::proofs::StartLemmas::run_ends))]
+#[tactic(auto, using(crate::proofs::LineLemmas::run_ends))]
 pub fn answer_lines<H: Host, S: Store + Drop>(
     host: &mut H,
     options: Options,
