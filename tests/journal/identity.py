@@ -160,6 +160,24 @@ class Identity(helper.Check):
         self.assertIn(done.returncode, (0, -signal.SIGKILL), done.stderr)
         return done.returncode != 0
 
+    def test_synced(self):
+        """a new identity is synced before it has its name, and its directory before a line is answered, or none is; it is marked in time"""
+        if not shutil.which("cc"):
+            self.skipTest("install a C compiler (apt-get install gcc)")
+        env = {**os.environ, "LD_PRELOAD": helper.shim("real_syncs.c", self.here), "IDENTITY": "counts"}
+        for name, fault, wanted in (("synced", "", (0, True)), ("failing", "eio 2", (5, False))):
+            folder, log = self.journal(name), self.place(f"{name}.log")
+            done = subprocess.run([PROGRAM, "run", "--journal", folder], env={**env, "LOG": log, "FAULT": fault}, capture_output=True,
+                                  timeout=helper.PATIENCE, input=helper.lines({"op": "list"}))
+            with open(log, encoding="utf-8") as file:
+                calls = [line.split(" ")[:2] for line in file]
+            self.assertEqual((done.returncode, done.stdout != b""), wanted, done.stderr)
+            synced = [os.path.basename(path) for call, path in calls if call == "fsync"]
+            self.assertEqual(synced[:2], ["identity.new", name])
+            # (a part is marked before its head is written, and after the byte that closes its gate)
+            written = [os.path.basename(path) for call, path in calls if call == "pwrite"]
+            self.assertEqual(written[:3], [] if fault else ["part-a", "identity", "part-a"])
+
     def test_kills(self):
         """no kill in a creation or a first tidy leads to a refusal, or to another identity of what was acknowledged"""
         if not shutil.which("cc"):
