@@ -29,7 +29,7 @@ check:
 # Tries the wrong bodies of one crate, make mutants NAME=recurring; without a name those that the gate tries. NAME=every tries, for all
 # crates, those that were not seen refused in their present state, JOBS=n crates at once. NAME=show lists these and tries nothing. NAME=CRATE/EDIT is one edit.
 # NAME=random tries COUNT=m random edits of one line, of the product or of CRATES="a b", drawn with SEED=n, by the proofs; with TESTS=1 also
-# by the fast checks of the program compiled with each that no proof refuses.
+# by the fast checks of one program that has all those which no proof refuses.
 mutants:
 	@$(if $(filter random,$(NAME)),tools/random_edits.py --seed $(or $(SEED),1) --count $(or $(COUNT),20) $(if $(TESTS),--tests) \
 		$(if $(JOBS),-j $(JOBS)) $(CRATES),tools/wrong_bodies.py $(if $(JOBS),-j $(JOBS)) $(if $(filter show,$(NAME)),show every,$(if $(filter every,$(NAME)),check every,all $(NAME))))

@@ -17,6 +17,7 @@ import itertools
 import json
 import random
 import re
+import shutil
 import signal
 import sys
 import time
@@ -24,6 +25,7 @@ from collections.abc import Iterable, Iterator
 from dataclasses import dataclass
 from pathlib import Path
 
+import one_program
 import wrong_bodies as bodies
 from wrong_bodies import MUTANTS, TOP, called
 
@@ -35,8 +37,28 @@ PAIRS = {"(": ")", "[": "]", "{": "}"}
 SWAPS = {one: other for pair in ("< <=", "> >=", "== !=", "&& ||", "+ -", "+= -=") for one, other in zip(pair.split(), pair.split()[::-1])}
 PLAIN = {"bool": ["true", "false"], "Option": ["None"], "Result<()": ["Ok(())"], **{f"{sign}{size}": ["0"] for sign in "iu"
          for size in (8, 16, 32, 64, "size")}}
-# What `make check FAST=1` has of the program itself: the checks of the repository would see the text of an edit.
-CHECKS = ["cli", "journal", "agents", "crash", "load"]
+# the place of an error in a source that does not compile
+ERROR = re.compile(r"^(?:\./)?(src/[^\s:]+):(\d+):\d+: error", re.MULTILINE)
+# the answer of a proof file in which the kit found an error
+ANSWER = re.compile(r"([^:]+):\d+:\d+: error: `([\w-]+)`:")
+# what the kit says of a goal for which it found values that make it false
+FALSE = "allow values at which this goal is false"
+
+
+class Written(bodies.Edit):
+    """A random edit as a file. One of a constant has to be refused by a function that has it."""
+
+    @property
+    def wanted(self) -> set[str]:
+        return super().wanted or {name for path in (TOP / "crates" / self.crate / "src").glob("**/*.rt")
+                                  for name in self.users(path.read_text(encoding="utf-8"))}
+
+    def users(self, text: str) -> Iterator[str]:
+        """The functions of a source that have the constants which it changes."""
+        constants = [found[1] for _, old, _ in self.pairs if (found := re.search(r"\bconst (\w+):", old))]
+        for name, start, end in bodies.functions(text):
+            if any(re.search(rf"\b{constant}\b", text[start:end]) for constant in constants):
+                yield name
 
 
 @dataclass(frozen=True)
@@ -68,9 +90,9 @@ class Edit:
         return TOP / "crates" / self.crate / self.path
 
     @property
-    def file(self) -> bodies.Edit:
+    def file(self) -> Written:
         """The edit as a file, once it is written."""
-        return bodies.Edit(FOLDER / f"{self.name}.edit")
+        return Written(FOLDER / f"{self.name}.edit")
 
     def __str__(self) -> str:
         place = f"{self.crate}/{self.path}:{self.number} {self.function or '-'}"
@@ -266,6 +288,70 @@ def edited(edit: Edit | None) -> Iterator[Path]:
         yield copy
 
 
+def at_fault(edits: list[Edit], printed: str) -> list[Edit]:
+    """The edits at whose lines the compiler found errors, or else those in whose functions it did."""
+    places = {(path, int(number)) for path, number in ERROR.findall(printed)}
+    functions = {(path, bodies.goal(edits[0].crate, f"{path}:{number}:1:")) for path, number in places}
+    return ([edit for edit in edits if (edit.path, edit.number) in places] or
+            [edit for edit in edits if (edit.path, edit.function) in functions])
+
+
+def not_compiled(folder: Path, edits: list[Edit]) -> dict[Edit, str]:
+    """Those of edits of different lines that do not compile in a copy of their crate, each with what the compiler says."""
+    for edit in edits:
+        edit.file.applied(folder)
+    printed = called(folder, "rt", "check", "--jobs", "1", "--only", "")[1]
+    for path in {edit.path for edit in edits}:
+        shutil.copy2(TOP / "crates" / edits[0].crate / path, folder / path)
+    if bodies.COMPILED.search(printed):
+        return {}
+    wrong = at_fault(edits, printed) or edits
+    if wrong == edits and len(edits) > 1:
+        half = len(edits) // 2
+        return not_compiled(folder, edits[:half]) | not_compiled(folder, edits[half:])
+    left = [edit for edit in edits if edit not in wrong]
+    return {edit: f"BAD EDIT: {printed[-200:]}" for edit in wrong} | (not_compiled(folder, left) if left else {})
+
+
+def by_lines(edits: Iterable[Edit]) -> list[list[Edit]]:
+    """Groups of edits of different lines."""
+    groups: list[list[Edit]] = []
+    for edit in edits:
+        group = next((group for group in groups if all((one.path, one.number) != (edit.path, edit.number) for one in group)), None)
+        if group is None:
+            groups.append(group := [])
+        group.append(edit)
+    return groups
+
+
+def without_answers(path: Path, names: set[str]) -> None:
+    """Removes answers of a proof file: the lines that begin with their names, and those that go on with them."""
+    kept, is_of_them = [], False
+    for text in path.read_text(encoding="utf-8").split("\n"):
+        if re.match(r"[\w-]", text):
+            is_of_them = text.removeprefix("pub ").split(" ")[0] in names
+        kept += [] if is_of_them else [text]
+    path.write_text("\n".join(kept), encoding="utf-8")
+
+
+def fate_by_search(edit: Edit, texts: bodies.Texts) -> str:
+    """What becomes of an edit that changes names which answers have, where those goals are searched instead: it is refused if one of them
+    is false. That the search did not find a proof which a person wrote before shows nothing."""
+    with bodies.copied(texts.at_or_below(edit.crate)) as copy:
+        folder, kept = copy / "crates" / edit.crate, Path("crates", edit.crate, "out/incremental")
+        shutil.copytree(TOP / kept, copy / kept)
+        edit.file.applied(folder)
+        for _ in range(5):
+            found = bodies.GOAL.findall(bodies.checked(folder, [edit.file]))
+            gone = [line for line in found if bodies.GONE.match(line)]
+            for path, name in (answer.groups() for line in gone if (answer := ANSWER.match(line))):
+                without_answers(folder / path, {name})
+            if not gone:
+                break
+    by = next((line for line in found if FALSE in line), None)
+    return f"refused: {by[:200]}" if by else f"ONLY BY A NAME: {found[0][:200]}" if found else "NOT REFUSED: its functions are still proved"
+
+
 def fate_above(edit: Edit, texts: bodies.Texts) -> str:
     """What the crates that name the edit's crate say of it, if its library has another interface: the first one that refuses it."""
     own, library = Path("crates", edit.crate), Path("crates", edit.crate, "out", "rlib", f"{edit.crate}.rlib", "interface", "lang")
@@ -283,6 +369,15 @@ def fate_above(edit: Edit, texts: bodies.Texts) -> str:
     return "NOT REFUSED"
 
 
+def body_of(text: str, edit: Edit) -> tuple[int, int] | None:
+    """Where the body of a function begins and ends that an edit is in; none for a constant, and for a function that is computed in types."""
+    if may_be_seen(edit):
+        return None
+    at, end = text.find(edit.old), text.find(edit.old) + len(edit.old)
+    return next(((begin, last) for begin, last, _ in regions(code_of(text))
+                 if begin < end and at + len(edit.old) - len(edit.old.lstrip()) < last), None)
+
+
 @functools.cache
 def failing(edit: Edit | None) -> frozenset[str] | None:
     """The checks of `make check FAST=1` that fail with a program that was compiled with this edit, or with none; none where it was not."""
@@ -292,7 +387,7 @@ def failing(edit: Edit | None) -> frozenset[str] | None:
         (copy / "crates/ocf_agents/out/ocf_agents").unlink(missing_ok=True)
         if called(copy, "package/program.sh", str(folder))[0]:
             return None
-        return frozenset(re.findall(r"^failed +[0-9.]+ s  (.*)$", called(copy, "tests/check.sh", "--fast", *CHECKS)[1], re.MULTILINE))
+        return frozenset(re.findall(r"^failed +[0-9.]+ s  (.*)$", called(copy, "tests/check.sh", "--fast", *one_program.CHECKS)[1], re.MULTILINE))
 
 
 def fate_of_tests(edit: Edit) -> str:
@@ -317,13 +412,15 @@ class Judge:
 
     def stage(self, edit: Edit) -> tuple[str, str]:
         """The stage that decided about an edit, or the one to be tried, with the sum of what its answer will rest on."""
+        weak = False
         for stage, total in self.stages(edit):
             fate = self.kept.fates.get(total)
             if fate is None:
                 return stage, total
-            if not fate.startswith("NOT REFUSED"):
-                return "bad" if fate.startswith("BAD EDIT") else "weak" if fate.startswith("ONLY BY A NAME") else stage, ""
-        return "alive", ""
+            weak = weak or fate.startswith("ONLY BY A NAME")
+            if not fate.startswith(("NOT REFUSED", "ONLY BY A NAME")):
+                return "bad" if fate.startswith("BAD EDIT") else stage, ""
+        return "weak" if weak else "alive", ""
 
     def stages(self, edit: Edit) -> Iterator[tuple[str, str]]:
         """The stages of an edit, each with the sum of what its answer rests on."""
@@ -339,14 +436,23 @@ class Judge:
             self.kept.keep(self.stage(edit)[1], edit, fate, seconds)
         print(f"  {edit}\n    {fate[:200]}", flush=True)
 
+    def not_compiled(self, crate: str, edits: list[Edit]) -> dict[str, str]:
+        with bodies.copied(self.texts.at_or_below(crate)) as copy:
+            return {edit.name: fate for group in by_lines(edits) for edit, fate in not_compiled(copy / "crates" / crate, group).items()}
+
     def prove(self, crate: str, edits: dict[str, Edit]) -> None:
         """Tries edits of one crate by its proof."""
         began = time.monotonic()
-        fates, printed = bodies.judged(crate, [edit.file for edit in edits.values()])
+        wrong = self.not_compiled(crate, [*edits.values()])
+        left = [edit.file for name, edit in edits.items() if name not in wrong]
+        fates, printed = bodies.judged(crate, left) if left else ({}, "")
+        fates |= wrong
         seconds, after = time.monotonic() - began, bodies.Texts()
         print(f"{crate}: {len(edits)} tried in {seconds:.0f} s", *([] if fates else printed.splitlines()[-20:]), sep="\n", flush=True)
         for name, edit in edits.items():
             fate = fates.get(name, "NOT TRIED: nothing was printed of it")
+            if fate.startswith("ONLY BY A NAME"):
+                fate = fate_by_search(edit, self.texts)
             if after.sum_of(edit.file) != self.texts.sum_of(edit.file):
                 fate = "NOT TRIED: a file that it rests on changed meanwhile"
             by = bodies.goal(crate, fate) if fate.startswith("refused") else None
@@ -354,15 +460,18 @@ class Judge:
 
     def try_all(self, edits: Iterable[Edit]) -> None:
         """Moves each of these on by one stage."""
-        by_crate = collections.defaultdict(dict)
+        by_crate, tested = collections.defaultdict(dict), []
         for edit in edits:
-            stage = self.stage(edit)[0]
+            stage, began = self.stage(edit)[0], time.monotonic()
             if stage == "proof":
                 by_crate[edit.crate][edit.name] = edit
-                continue
-            began = time.monotonic()
-            fate = fate_above(edit, self.texts) if stage == "above" else fate_of_tests(edit)
-            self.note(edit, fate, time.monotonic() - began)
+            elif stage == "test" and not may_be_seen(edit) and edit.crate in self.texts.at_or_below(bodies.PROGRAM):
+                tested.append(edit)
+            else:
+                fate = fate_above(edit, self.texts) if stage == "above" else fate_of_tests(edit)
+                self.note(edit, fate, time.monotonic() - began)
+        for edit, fate in one_program.fates(tested, body_of, self.lanes) if tested else []:
+            self.note(edit, fate, 0)
         if by_crate:
             collections.deque(bodies.in_lanes(by_crate, self.lanes, self.prove), maxlen=0)
 

@@ -7,8 +7,9 @@ names passes without it and fails with it. `mutants/tried` has the stamp of each
 texts that its proof rests on, the date and the kit. `check` tries the edits whose stamp is missing or old, `all` every one, and `show` lists
 those that `check` would try. NAME is `gate` for mutants/gate (where there is none), `every`, a crate, `tests`, or CRATE/EDIT.
 
-A crate is checked first in the work tree; its edits begin with what that check keeps. Edits that touch and name different functions are
-tried by one check: none changes a contract, so each of them fails by itself or not at all. The last line counts.
+A check is of the functions that edits touch and name, with those that they call; first in the work tree, where it has to prove them, and
+the edits begin with what that check keeps. Edits that touch and name different functions are tried by one check: none changes a contract, so
+each of them fails by itself or not at all. The last line counts.
 
 Use: wrong_bodies.py check|all|show [-j CRATES] [NAME..]"""
 import argparse
@@ -41,6 +42,9 @@ PLACE, PROOF = re.compile(r"(?:^|[\s:])(?:\./)?((?:src|proofs)/[^\s:]+):(\d+):\d
 # a refused goal, and one that is refused since a name in a proof file is gone, so that no contract was tried
 GOAL = re.compile(r"^(?:note: \S+:\d+:\d+: |\S+:\d+:\d+: error: ).*", re.MULTILINE)
 GONE = re.compile(r"(?:\./)?proofs/.*(?:has no field|is not in scope|has no `|was not admitted)")
+# what a check ends with of a text that compiles, and of one that is proved; and a name that several functions have
+COMPILED, PROVED = re.compile(r"^(?:only|logic)=", re.MULTILINE), re.compile(r"^(?:only=(\d+) proved=\1|logic=proved.*)$", re.MULTILINE)
+SEVERAL = re.compile(r"several functions are named `(\w+)`: help: write one of (.*)")
 NAMED, CHECK = re.compile(r"^# refused by: (.+)$", re.MULTILINE), re.compile(r"^refused by: ([^,\n]+), (.+)$", re.MULTILINE)
 
 
@@ -259,21 +263,39 @@ def copied(crates: list[str] | None = None) -> Iterator[Path]:
         yield copy
 
 
-def tried(crate: str, edits: list[Edit]) -> dict[str, str]:
-    """The fates of edits of one crate by one check. Of several edits, those that are not among the refused goals are then tried alone."""
-    with copied(Texts().at_or_below(crate)) as copy:
-        shutil.copytree(TOP / "crates" / crate / "out/incremental", copy / "crates" / crate / "out/incremental")
-        bad = {edit.name: why for edit in edits if (why := edit.applied(copy / "crates" / crate))}
-        status, printed = called(copy / "crates" / crate, "rt", "check")
-    found = GOAL.findall(printed) if "\nlogic=not-proved" in printed else []
-    goals = [line for line in found if not GONE.match(line)]
-    fates = {edit.name: f"refused: {line[:200]}" for edit in edits for line in goals[::-1] if goal(crate, line) in edit.wanted} | bad
+def checked(folder: Path, edits: list[Edit]) -> str:
+    """What a check says of the functions that these edits touch or name, and of those that they call."""
+    names = {name for edit in edits for name in edit.wanted | edit.touched if name}
+    while True:
+        printed = called(folder, "rt", "check", "--jobs", "1", *(word for name in sorted(names) for word in ("--only", name)))[1]
+        several = SEVERAL.search(printed)
+        if not several:
+            return printed
+        names = names - {several[1]} | set(re.findall(r"`(\S+)`", several[2]))
+
+
+def tried(folder: Path, edits: list[Edit]) -> dict[str, str]:
+    """The fates of edits of one crate by one check in a copy of its directory. If they do not compile together, or a goal is refused that
+    belongs to none of them, those that were not refused are then tried alone."""
+    crate, bad = edits[0].crate, {edit.name: why for edit in edits if (why := edit.applied(folder))}
+    printed = checked(folder, edits)
+    for file in {file for edit in edits for file, _, _ in edit.pairs}:
+        shutil.copy2(TOP / "crates" / crate / file, folder / file)
+    compiled = COMPILED.search(printed)
+    found = [(line, goal(crate, line)) for line in GOAL.findall(printed)] if compiled else []
+    fates = {edit.name: fate for edit in edits if (fate := refusal([line for line, function in found if function in edit.wanted]))} | bad
+    others = [line for line, function in found if not any(function in edit.wanted for edit in edits)]
     left = [edit for edit in edits if edit.name not in fates]
-    if len(edits) > 1:
-        return {name: fate for edit in left for name, fate in tried(crate, [edit]).items()} | fates
-    fate = (f"refused: {goals[0][:200]}" if goals else f"ONLY BY A NAME in a proof file that is gone: {found[0][:200]}" if found else
-            f"BAD EDIT: {printed[-300:]}" if status else "NOT REFUSED: the crate is still proved")
+    if len(edits) > 1 and (others or not compiled):
+        return {name: fate for edit in left for name, fate in tried(folder, [edit]).items()} | fates
+    fate = f"BAD EDIT: {printed[-300:]}" if not compiled else refusal(others) or "NOT REFUSED: its functions are still proved"
     return {edit.name: fate for edit in left} | fates
+
+
+def refusal(found: list[str]) -> str | None:
+    """The fate that these refused goals mean, if there are any."""
+    line = next((line for line in found if not GONE.match(line)), None)
+    return f"refused: {line[:200]}" if line else f"ONLY BY A NAME in a proof file that is gone: {found[0][:200]}" if found else None
 
 
 def apart(edits: list[Edit]) -> list[list[Edit]]:
@@ -291,11 +313,14 @@ def apart(edits: list[Edit]) -> list[list[Edit]]:
 
 
 def judged(crate: str, edits: list[Edit]) -> tuple[dict[str, str], str]:
-    """The fates of edits of one crate by their names, and what was printed if the crate itself is not proved."""
-    status, printed = called(TOP / "crates" / crate, "rt", "check")
-    if status:
+    """The fates of edits of one crate by their names, and what was printed if their functions are not proved without them."""
+    printed = checked(TOP / "crates" / crate, edits)
+    if not PROVED.search(printed):
         return {}, printed
-    return {name: fate for group in apart(edits) for name, fate in tried(crate, group).items()}, ""
+    with copied(Texts().at_or_below(crate)) as copy:
+        kept = Path("crates", crate, "out/incremental")
+        shutil.copytree(TOP / kept, copy / kept)
+        return {name: fate for group in apart(edits) for name, fate in tried(copy / "crates" / crate, group).items()}, ""
 
 
 def passes(edit: Edit, copy: Path) -> bool:

@@ -12,6 +12,7 @@ sys.path[0] += "/../lib"
 import helper  # noqa: E402
 
 sys.path.append(os.path.join(helper.TOP, "tools"))
+import one_program  # noqa: E402
 import random_edits as edits  # noqa: E402
 import wrong_bodies as bodies  # noqa: E402
 
@@ -101,6 +102,90 @@ class RandomEdits(helper.Check):
             with mock.patch.multiple(edits, **places):
                 self.assertEqual(edits.fate_above(edit, texts), wanted)
 
+    def source(self, text):
+        """A crate with this source, and a copy of it."""
+        for top in (self.here, self.place("copy")):
+            os.makedirs(os.path.join(top, "crates/low/src"))
+            os.makedirs(os.path.join(top, "crates/low/out"))
+            Path(top, "crates/low/src/lib.rt").write_text(text, encoding="utf-8")
+        os.mkdir(self.place("crates/low/out/incremental"))
+        places = {"TOP": Path(self.here), "FOLDER": Path(self.place("edits"))}
+        return mock.patch.multiple(edits, **places), mock.patch.object(bodies, "TOP", Path(self.here)), Path(self.place("copy/crates/low"))
+
+    def test_not_compiled(self):
+        """of edits that do not compile together those are found at whose line or in whose function there is an error; others by halves"""
+        text = "".join(f"fn f{number}() {{\n    f({number}, {number + 9});\n}}\n" for number in range(6))
+        random, sources, copy = self.source(text)
+        drawn = [next(edit for edit in line if edit.kind == "arguments exchanged") for line in edits.edits_of("low", "src/lib.rt", text)]
+
+        def called(_, *words):
+            """Says of the first, by its line, and of the second, by a line of its function, that they are wrong; of the sixth nothing."""
+            now = (copy / "src/lib.rt").read_text(encoding="utf-8")
+            said = [f"src/lib.rt:{line}:1: error: no" for line, wrong in ((2, "(9, 0)"), (4, "(10, 1)")) if wrong in now]
+            return 1, "\n".join(said[:1]) or ("no" if "(14, 5)" in now else "only=0 proved=0")
+
+        with random, sources, mock.patch.object(edits, "called", called):
+            found = edits.not_compiled(copy, [edits.written(edit) for edit in drawn])
+            self.assertEqual([drawn.index(edit) for edit in found], [0, 1, 5])
+            self.assertEqual((copy / "src/lib.rt").read_text(encoding="utf-8"), text)
+
+    def test_by_search(self):
+        """answers that have a name which is gone are removed, and the edit counts as refused only if a goal is false then"""
+        random, sources, copy = self.source(SOURCE)
+        answers = copy / "proofs/is_open/Answers.antt"
+        drawn = edits.edits_of("low", "src/lib.rt", SOURCE)[0][0]
+        old = "use A.{a}\n\npub first : goal.first\nfirst c =\n    a\n\npub last : goal.last\nlast c = a\n"
+        gone = "./proofs/is_open/Answers.antt:3:1: error: `first`: record `In` has no field `x`"
+        for after, wanted in (("", "NOT REFUSED"), ("note: src/lib.rt:20:5: it is not proved", "ONLY BY A NAME"),
+                              (f"note: src/lib.rt:20:5: the facts {edits.FALSE}", "refused: note")):
+            answers.parent.mkdir(parents=True, exist_ok=True)
+            answers.write_text(old, encoding="utf-8")
+            checked = mock.Mock(side_effect=[gone, after])
+            top = contextlib.nullcontext(Path(self.place("copy")))
+            with random, sources, mock.patch.multiple(bodies, checked=checked, copied=lambda _, top=top: top):
+                self.assertIn(wanted, edits.fate_by_search(edits.written(drawn), SimpleNamespace(at_or_below=lambda _: [])))
+            self.assertEqual(answers.read_text(encoding="utf-8"), "use A.{a}\n\npub last : goal.last\nlast c = a\n")
+            Path(copy, "src/lib.rt").write_text(SOURCE, encoding="utf-8")
+            os.rmdir(copy / "out/incremental")
+
+    def test_one_program(self):
+        """edits of one program are bodies that a number chooses, and its copy with another number has other bytes at one place"""
+        random, sources, copy = self.source(SOURCE)
+        drawn = [edit for line in edits.edits_of("low", "src/lib.rt", SOURCE) for edit in line]
+        with random, sources:
+            numbers = one_program.put_in(Path(self.place("copy")), drawn, edits.body_of)
+        self.assertEqual([*numbers.values()], [edit for edit in drawn if "LIMIT" not in edit.old])
+        text = (copy / "src/lib.rt").read_text(encoding="utf-8")
+        for number, edit in numbers.items():
+            self.assertIn(f"if crate::wrong_body() == {number}u64 {{", text)
+            self.assertIn(edit.new, text)
+        self.assertEqual(text.count(f"    {one_program.MARK}\n"), 1)
+        body = "\n    // put(1, 2);\n    say"
+        self.assertEqual(text[:SOURCE.index(body)], SOURCE[:SOURCE.index(body)])
+        self.assertIn(f"else {{{body}", text)
+
+    def test_trial(self):
+        """a check shows an edit if it fails twice with it, and not without it"""
+        bodies_of = {"always": 'echo "failed    1.00 s  always: it fails"',
+                     "right": '[ "$number" != 2 ] && word=ok || word=failed; echo "$word   1.00 s  right: it is right"',
+                     "ended": '[ "$number" != 3 ] || exit 7; echo "ok   1.00 s  ended: it ends"',
+                     "once": '[ "$number" != 4 ] || mkdir there && echo "ok  1.00 s  once: twice" || echo "failed  1.00 s  once: twice"'}
+        for name, body in bodies_of.items():
+            path = Path(self.place(f"top/tests/cli/{name}.py"))
+            path.parent.mkdir(parents=True, exist_ok=True)
+            path.write_text(f'#!/bin/sh\nnumber=$(($(od -An -t u8 "$1")))\n{body}\n', encoding="utf-8")
+            path.chmod(0o755)
+        os.makedirs(self.place("marked/build"))
+        Path(self.place("marked/build/ocfexec")).write_bytes(one_program.MARK.to_bytes(8, "little"))
+        marks = {**dict.fromkeys(bodies_of, set()), "none": {"slow"}}
+        found = [SimpleNamespace(path=f"tests/cli/{name}.py", folder="cli", marks=of_it) for name, of_it in marks.items()]
+        places = {"TOP": Path(self.place("top")), "FILES": {"": ["ocfexec"]}, "scripts": lambda: found}
+        with mock.patch.multiple(one_program, **places):
+            trial = one_program.Trial(Path(self.place("marked")), Path(self.place("room")), 1)
+            self.assertEqual([trial.fate(number) for number in (1, 2, 3, 4)], [
+                "NOT REFUSED", "refused by tests/cli/right.py: right: it is right", "refused by tests/cli/ended.py: it ended with status 7",
+                "NOT REFUSED"])
+
     def judged(self, count, fates):
         """A call over the same edits, where those that are tried have these fates, by their numbers: what it found, and what it tried."""
         drawn, tried = [*edits.drawn(edits.edits_of("low", "src/lib.rt", SOURCE), 1)], []
@@ -112,7 +197,8 @@ class RandomEdits(helper.Check):
 
         texts = SimpleNamespace(sum_of=lambda file, top=None: f"{file.name} {top}")
         judge = edits.Judge(texts, edits.Kept(Path(self.place("kept"))), False, 1)
-        with mock.patch.multiple(bodies, judged=judged, Texts=lambda: texts), mock.patch.object(edits, "print", create=True):
+        with mock.patch.multiple(bodies, judged=judged, Texts=lambda: texts), mock.patch.object(edits, "print", create=True), \
+                mock.patch.object(edits.Judge, "not_compiled", lambda *_: {}):
             found = edits.judged(iter(drawn), count, judge)
         return {drawn.index(edit): stage for edit, stage in found.items()}, tried
 

@@ -139,6 +139,19 @@ class WrongBodies(helper.Check):
         self.assertIn("FAILED   high/one: NOT REFUSED", self.tries(EVERY, 3, 1))
         self.assertEqual(sorted(self.lines()), ["beside/one", "high/two", "low/one"])
 
+    def test_several(self):
+        """a function that shares its name is checked by its whole name; of edits that do not compile together each is tried alone"""
+        several = "several functions are named `first`: help: write one of `low::first`, `low::other::first`"
+        begins = """    if "first" in sys.argv:
+        sys.exit(print("rattle: error: SEVERAL") or 2)
+    if "BROKEN" in open("src/lib.rt").read():
+        sys.exit(print("src/lib.rt:1:1: error: no") or 1)
+"""
+        line = 'if sys.argv[1] == "check":\n'
+        self.write("bin/rt", RT.replace(line, line + begins.replace("SEVERAL", several)))
+        self.edit("high/one", new="BROKEN")
+        self.assertIn("FAILED   high/one: BAD EDIT", self.tries(EVERY, 3, 1))
+
     def test_not_tried(self):
         """edits of a crate that is not proved fail, and keep the stamps that they had; one that is gone loses it"""
         self.tries(EVERY, 4, 0)

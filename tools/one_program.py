@@ -1,0 +1,201 @@
+#!/usr/bin/env python3
+"""One program that has many edits in it, each to be had by its number, so that all of them are compiled together and each is tried by the
+checks of the built program; a part of random_edits.py.
+
+A function with edits has a body for each of them, and the first one. Which one runs is said by a number in the program's data that the
+compiler cannot foresee: sources have a function that gives MARK, and the kit's clang is replaced by a script that has it read those eight
+bytes instead. A copy of the program with other bytes there is the program with one edit. So are the trials and the player of scenarios."""
+import collections
+import concurrent.futures
+import contextlib
+import os
+import queue
+import re
+import shutil
+import signal
+import subprocess
+import sys
+import tempfile
+import time
+from collections.abc import Callable, Iterable, Iterator
+from dataclasses import dataclass
+from pathlib import Path
+from typing import Protocol
+
+from wrong_bodies import TOP, copied
+
+sys.path.append(str(TOP / "tests/lib"))
+from runner import CHECK, LATE, Script, scripts, slowness  # noqa: E402
+
+# the bytes that stand for a number, as they are in the sources; the number of no edit is 0
+MARK = 0x5EED_5EED_7777_0000
+CLANG = f"""
+if [ -f module.bc ]; then
+    # (two programs may be made of one module, at once)
+    exec 9> module.lock
+    flock 9
+    if [ ! -f module.ll ]; then
+        "$tool" --no-default-config -S -emit-llvm -Xclang -disable-llvm-passes -O0 -x ir module.bc -o module.ll
+        sed -i 's/store i64 {MARK}, ptr/%wrong_body = load volatile i64, ptr @the_wrong_body\\n  store i64 %wrong_body, ptr/' module.ll
+        if grep -q the_wrong_body module.ll; then
+            echo '@the_wrong_body = global i64 {MARK}, align 8' >> module.ll
+            "$tool" --no-default-config -c -emit-llvm -Xclang -disable-llvm-passes -O0 -x ir module.ll -o module.bc
+        fi
+    fi
+    exec 9>&-
+fi
+exec "$tool" "$@"
+"""
+# the directories of checks that see the program itself: those of the repository would see the text of an edit; and how many seconds a
+# script of them may take
+CHECKS, LIMIT = ["cli", "journal", "agents", "crash", "load"], 240
+# what is built, by which script, and the files that a copy has of it
+BUILDS = {"": "package/program.sh build", "trials": "tests/trials/build.sh", "scenarios": "tests/scenarios/build.sh"}
+FILES = {"": ["ocfexec", "ocfexec-run-agent"], "trials": ["trials", "plain"], "scenarios": ["scenarios"]}
+
+
+class Edit(Protocol):
+    """An edit of one line of a source, which has that line once."""
+    crate: str
+    path: str
+    old: str
+    new: str
+
+
+def with_bodies(text: str, bodies: dict[tuple[int, int], list[tuple[int, Edit]]]) -> str:
+    """A source where the bodies at these places, each from its brace to the closing one, are chosen by a number."""
+    for (begin, last), edits in sorted(bodies.items(), reverse=True):
+        chosen = ""
+        for number, edit in edits:
+            at = text.find(edit.old)
+            # (the line of a short body has its braces, too)
+            whole = text[:at] + edit.new + text[at + len(edit.old):]
+            chosen += f"if crate::wrong_body() == {number}u64 {{{whole[begin:last + len(edit.new) - len(edit.old)]}}} else "
+        text = f"{text[:begin]}\n{chosen}{{{text[begin:last]}}}\n{text[last:]}"
+    return text
+
+
+def put_in(top: Path, edits: Iterable[Edit], body_of: Callable[[str, Edit], tuple[int, int] | None]) -> dict[int, Edit]:
+    """Puts edits into the sources of a copy, and returns them by their numbers; those that are in no body of a function are left out."""
+    by_file: dict[Path, list[Edit]] = {}
+    for edit in edits:
+        by_file.setdefault(top / "crates" / edit.crate / edit.path, []).append(edit)
+    numbers: dict[int, Edit] = {}
+    for path, of_file in by_file.items():
+        text, bodies = path.read_text(encoding="utf-8"), {}
+        for edit in of_file:
+            if body := body_of(text, edit):
+                numbers[len(numbers) + 1] = edit
+                bodies.setdefault(body, []).append((len(numbers), edit))
+        path.write_text(with_bodies(text, bodies), encoding="utf-8")
+    for crate in {edit.crate for edit in numbers.values()}:
+        root = next(path for name in ("lib", "main") if (path := top / "crates" / crate / f"src/{name}.rt").exists())
+        with open(root, "a", encoding="utf-8") as file:
+            file.write(f"\npub(crate) fn wrong_body() -> u64 {{\n    {MARK}\n}}\n")
+    return numbers
+
+
+def build(top: Path) -> bool:
+    """Compiles the programs of a copy, with a kit that makes MARK a number in memory. Returns whether it could."""
+    kit = top / "build/marked-kit"
+    words = ["bash", "-euc", f". tests/lib/kit.sh; mkdir -p build; copy_kit {kit}; check_nothing {kit}; replace_tool {kit} clang"]
+    subprocess.run(words, cwd=top, input=CLANG, text=True, check=True)
+    environment = {**os.environ, "PATH": f"{kit}/bin:{os.environ['PATH']}"}
+    with open(top / "build/log", "w", encoding="utf-8") as log:
+        calls = [subprocess.Popen(words.split(), cwd=top, env=environment, stdin=subprocess.DEVNULL, stdout=log, stderr=log)
+                 for words in BUILDS.values()]
+        return not any([call.wait() for call in calls])
+
+
+def numbered(top: Path, number: int, to: Path) -> None:
+    """Writes the programs of a copy with this number into a directory."""
+    for kind, files in FILES.items():
+        (to / kind).mkdir(parents=True, exist_ok=True)
+        for name in files:
+            content = (top / (f"tests/{kind}/out" if kind else "build") / name).read_bytes()
+            # (a program that is there already may be running)
+            (to / kind / name).unlink(missing_ok=True)
+            (to / kind / name).write_bytes(content.replace(MARK.to_bytes(8, "little"), number.to_bytes(8, "little")))
+            (to / kind / name).chmod(0o755)
+
+
+@dataclass
+class Lane:
+    """A copy of the repository in which checks run, and a directory for programs."""
+    top: Path
+    programs: Path
+
+    def failed(self, script: Script) -> set[str]:
+        """The checks of a script that fail with the programs."""
+        environment = {**os.environ, "FAST": "1", "PROGRAM": str(self.programs / "ocfexec"), "PYTHONDONTWRITEBYTECODE": "1",
+                       **{f"BUILT_{kind.upper()}": str(self.programs / kind / kind) for kind in BUILDS if kind}}
+        with open(self.programs / "said", "w+", encoding="utf-8", errors="replace") as said:
+            running = subprocess.Popen([self.top / script.path, self.programs / "ocfexec"], cwd=self.top, env=environment,
+                                       stdin=subprocess.DEVNULL, stdout=said, stderr=said, start_new_session=True)
+            try:
+                status = running.wait(LIMIT * slowness())
+            except subprocess.TimeoutExpired:
+                status = LATE
+            with contextlib.suppress(ProcessLookupError):
+                os.killpg(running.pid, signal.SIGKILL)
+            running.wait()
+            said.seek(0)
+            found = {name for word, _, name in CHECK.findall(said.read()) if word == "failed"}
+        return found or ({f"it ended with status {status}"} if status else set())
+
+
+class Trial:
+    """The programs of a copy, and the fast checks of them: each with what fails of it without an edit, the quickest first."""
+
+    def __init__(self, top: Path, room: Path, lanes: int):
+        self.top, self.lanes, self.shown = top, queue.SimpleQueue(), collections.Counter()
+        for number in range(lanes):
+            self.lanes.put(Lane(room / f"top{number}", room / f"programs{number}"))
+            shutil.copytree(TOP, room / f"top{number}", symlinks=True, ignore=shutil.ignore_patterns(".git", "out", "build"))
+        self.pool = concurrent.futures.ThreadPoolExecutor(lanes)
+        found = [script for script in scripts() if script.folder in CHECKS and "slow" not in script.marks]
+        self.always = [(script, always) for script, (always, _) in sorted(zip(found, self.pool.map(self.without, found)),
+                                                                         key=lambda pair: pair[1][1])]
+
+    @contextlib.contextmanager
+    def lane(self, number: int) -> Iterator[Lane]:
+        lane = self.lanes.get()
+        try:
+            numbered(self.top, number, lane.programs)
+            yield lane
+        finally:
+            self.lanes.put(lane)
+
+    def without(self, script: Script) -> tuple[set[str], float]:
+        """What fails without an edit, and the seconds that it took."""
+        began = time.monotonic()
+        with self.lane(0) as lane:
+            return lane.failed(script), time.monotonic() - began
+
+    def fate(self, number: int) -> str:
+        """What the checks say of an edit. One counts if it fails twice, and not beside the same load without the edit. The scripts come
+        first that showed most edits so far."""
+        with self.lane(number) as lane:
+            for script, always in sorted(self.always, key=lambda pair: -self.shown[pair[0].path]):
+                found = lane.failed(script) - always
+                if not found or not (found := found & lane.failed(script)):
+                    continue
+                numbered(self.top, 0, lane.programs)
+                if found := found - lane.failed(script):
+                    self.shown[script.path] += 1
+                    return f"refused by {script.path}: {min(found)}"
+                numbered(self.top, number, lane.programs)
+        return "NOT REFUSED"
+
+
+def fates(edits: Iterable[Edit], body_of: Callable[[str, Edit], tuple[int, int] | None], lanes: int) -> Iterator[tuple[Edit, str]]:
+    """What the fast checks of the built program say of edits that compile, as they come. Those that are in no body are left out."""
+    with copied() as top, tempfile.TemporaryDirectory() as room:
+        numbers = put_in(top, edits, body_of)
+        if not numbers:
+            return
+        if not build(top):
+            sys.exit((top / "build/log").read_text(encoding="utf-8")[-2000:])
+        trial = Trial(top, Path(room), lanes)
+        calls = {trial.pool.submit(trial.fate, number): edit for number, edit in numbers.items()}
+        yield from ((calls[call], call.result()) for call in concurrent.futures.as_completed(calls))
