@@ -226,7 +226,8 @@ class Shown(helper.Check):
             self.assertEqual("".join(letter if there else "-" for letter, there in found), has, words)
 
     def test_watch(self):
-        """--watch prints anew after so many seconds"""
+        """--watch prints anew after so many seconds, and ends where there is no journal to show"""
+        self.assertEqual(helper.run("status", "--journal", self.place("nowhere"), "--watch", "1").returncode, 5)
         for seconds, count in (("1", 3), ("86400", 1)):
             run = subprocess.Popen([helper.PROGRAM, "status", "--journal", self.folder, "--watch", seconds], stdout=subprocess.PIPE)
             for _ in range(count):

@@ -2,9 +2,11 @@
 """A device that fails under serve, in a turn of its own and in a command, a drain and a tidy: serve sends the line of the fault and ends at
 once, its agents are gone, and the next opening reports the running action. A run goes on answering, to the end of its input. A full
 journal: serve reports it once, and again after it was not full.
+Files that cannot be read.
 Use: faults.py PROGRAM"""
 import errno
 import os
+import subprocess
 import sys
 import time
 
@@ -60,6 +62,16 @@ class Faults(helper.Check):
         done = helper.run("run", "--journal", journal, "--root", self.here)
         self.assertEqual(done.returncode, 0, done.stderr)
         return {(value["id"], value["action"]) for value in helper.replies(done.stdout) if value["outcome"] == "interrupted"}
+
+    def test_unread(self):
+        """a part that cannot be read is not opened, and of the file agents it is said that it cannot"""
+        journal = self.journal("unread")
+        self.assertEqual(helper.run("run", "--journal", journal, sent=helper.lines(register("r1", "Quick"))).returncode, 0)
+        for name, status, said in (("part-a", 5, "ocfexec: disk\n"), ("agents", 0, f"ocfexec: {journal}/agents: Input/output error")):
+            done = subprocess.run([helper.PROGRAM, "run", "--journal", journal], input=helper.lines({"op": "list"}), capture_output=True,
+                                  env={**os.environ, "LD_PRELOAD": self.shim, "UNREAD": f"/{name}"}, timeout=helper.PATIENCE)
+            self.assertEqual((done.returncode, done.stdout == b""), (status, status > 0), name)
+            self.assertEqual(done.stderr.decode()[:len(said)], said)
 
     def test_own_turn(self):
         """the device fails as a monitor is recorded: the line, status 5, no agent left, the running action is reported"""
