@@ -47,8 +47,8 @@ fi
 exec "$tool" "$@"
 """
 # the directories of checks that see the program itself: those of the repository would see the text of an edit; and how many seconds a
-# script of them may take
-CHECKS, LIMIT = ["cli", "journal", "agents", "crash", "load"], 240
+# script of them may take, as with `make check`
+CHECKS, LIMIT = ["cli", "journal", "agents", "crash", "load"], 300
 # what is built, by which script, and the files that a copy has of it
 BUILDS = {"": "package/program.sh build", "trials": "tests/trials/build.sh", "scenarios": "tests/scenarios/build.sh"}
 FILES = {"": ["ocfexec", "ocfexec-run-agent"], "trials": ["trials", "plain"], "scenarios": ["scenarios"]}
@@ -172,17 +172,17 @@ class Trial:
         with self.lane(0) as lane:
             return lane.failed(script), time.monotonic() - began
 
-    def fate(self, number: int) -> str:
+    def fate(self, number: int, crate: str = "") -> str:
         """What the checks say of an edit. One counts if it fails twice, and not beside the same load without the edit. The scripts come
-        first that showed most edits so far."""
+        first that showed most edits so far, of this crate and then of others."""
         with self.lane(number) as lane:
-            for script, always in sorted(self.always, key=lambda pair: -self.shown[pair[0].path]):
+            for script, always in sorted(self.always, key=lambda pair: [-self.shown[crate, pair[0].path], -self.shown[pair[0].path]]):
                 found = lane.failed(script) - always
                 if not found or not (found := found & lane.failed(script)):
                     continue
                 numbered(self.top, 0, lane.programs)
                 if found := found - lane.failed(script):
-                    self.shown[script.path] += 1
+                    self.shown.update([script.path, (crate, script.path)])
                     return f"refused by {script.path}: {min(found)}"
                 numbered(self.top, number, lane.programs)
         return "NOT REFUSED"
@@ -197,5 +197,5 @@ def fates(edits: Iterable[Edit], body_of: Callable[[str, Edit], tuple[int, int] 
         if not build(top):
             sys.exit((top / "build/log").read_text(encoding="utf-8")[-2000:])
         trial = Trial(top, Path(room), lanes)
-        calls = {trial.pool.submit(trial.fate, number): edit for number, edit in numbers.items()}
+        calls = {trial.pool.submit(trial.fate, number, edit.crate): edit for number, edit in numbers.items()}
         yield from ((calls[call], call.result()) for call in concurrent.futures.as_completed(calls))

@@ -238,6 +238,13 @@ class Logs(WithLogs):
         self.ends_with(done, code=0)
         self.assertEqual(without_moments(done.stderr.decode()), OF_WEB)
 
+    def test_no_temporary_directory(self):
+        """with --log - and a TMPDIR that is not there the reason is named, and the action is done"""
+        done = helper.run("run", "--memory", "--root", self.here, "--log", "-", env={**os.environ, "TMPDIR": self.place("gone")},
+                          sent=helper.lines(helper.register("web", "Says"), helper.action("web", "start"), {"op": "drain"}))
+        self.ends_with(done, code=0)
+        self.assertIn("ocfexec: log of agents: No such file or directory", done.stderr.decode())
+
     def test_both(self):
         """with --log and --logs the output is in the logs of the directory"""
         log = self.place("log")

@@ -3,13 +3,12 @@
 terminals of 80 and 120 columns, over a journal with each kind of event, each outcome and an opening that interrupts and drops. The
 journal is written here from docs/FORMAT.md, and the texts are those of tests/data/log. Use: log_texts.py PROGRAM"""
 import os
-import pty
-import subprocess
 import sys
 
 sys.path[0] += "/../lib"
 import helper  # noqa: E402
 import journal_format as book  # noqa: E402
+from shown import Shown  # noqa: E402
 from written_journal import HOUR, MINUTE, NOT_RUNNING, SECOND, Written, keep  # noqa: E402
 
 TEXTS = os.path.join(helper.TOP, "tests/data/log")
@@ -17,7 +16,9 @@ NOON = 1_764_244_800_000  # 2025-11-27 12:00:00
 LONG = "a-very-long-id-of-sixty-four-letters-" + "x" * 27
 
 
-class LogTexts(helper.Check):
+class LogTexts(Shown):
+    WORD = "log"
+
     def setUp(self) -> None:
         super().setUp()
         self.folder, self.written = self.journal(), Written()
@@ -55,24 +56,6 @@ class LogTexts(helper.Check):
         book_of.queues("web", book.STOP, 19 * MINUTE)
         book_of.add("boot", 10 * MINUTE)
         book_of.save(self.folder)
-
-    def command(self, *words: str) -> list[str]:
-        return [helper.PROGRAM, "log", "--journal", self.folder, *words]
-
-    def piped(self, *words: str, ends: int = 0, **variables: str) -> str:
-        done = subprocess.run(self.command(*words), capture_output=True, env={**os.environ, **variables}, timeout=helper.WHOLE)
-        self.assertEqual((done.returncode, done.stderr), (ends, b""), done.stdout)
-        return done.stdout.decode()
-
-    def on_terminal(self, columns: int, *words: str, **variables: str) -> str:
-        env = {key: value for key, value in os.environ.items() if key != "NO_COLOR"}
-        env |= {"TERM": "xterm", "COLUMNS": str(columns), **variables}
-        mine, theirs = pty.openpty()
-        run = subprocess.Popen(self.command(*words), stdin=theirs, stdout=theirs, stderr=theirs, env=env)
-        os.close(theirs)
-        text = helper.terminal_text(mine)
-        self.assertEqual(run.wait(helper.PATIENCE), 0)
-        return text
 
     def is_text(self, name: str, text: str) -> None:
         path = os.path.join(TEXTS, f"{name}.txt")
@@ -125,7 +108,7 @@ class LogTexts(helper.Check):
         """a terminal has a first line more, whatever its width, and no colours"""
         self.story()
         for columns, variables in ((80, {}), (120, {}), (80, {"NO_COLOR": "1"}), (120, {"TERM": "dumb"})):
-            first, rest = self.on_terminal(columns, **variables).split("\n", 1)
+            first, rest = self.on_terminal(columns=columns, **variables).split("\n", 1)
             self.assertRegex(first, r"^records since 2025-11-27 07:00:00 \(\d+ days\)$")
             self.assertEqual(rest, self.text_of("all"))
 

@@ -4,14 +4,13 @@ as a table and as JSON, of all resources and of one, with colours only on a term
 Use: status.py PROGRAM"""
 import json
 import os
-import pty
 import re
-import subprocess
 import sys
 
 sys.path[0] += "/../lib"
 import helper  # noqa: E402
 from helper import action, register  # noqa: E402
+from shown import Shown  # noqa: E402
 
 MOMENTS, IDENTITY = re.compile(r'"(at|since)":\d+'), re.compile(r'"identity":"[0-9a-f]{32}"')
 RED = "\x1b[31m"
@@ -113,7 +112,7 @@ class Nothing(helper.Check):
         self.assertEqual((done.returncode, done.stdout), (10, b"no executor has this journal; it has no record\n0 resources\n"))
 
 
-class InUse(helper.Check):
+class InUse(Shown):
     """A journal that an executor has."""
 
     def setUp(self) -> None:
@@ -178,16 +177,6 @@ class InUse(helper.Check):
                 done = helper.run("status", *more, "--journal", self.folder, name)
                 self.assertEqual((done.returncode, done.stderr, done.stdout), (2, NO_RESOURCE, b""), (more, name))
         self.is_unchanged()
-
-    def on_terminal(self) -> str:
-        variables = {key: value for key, value in os.environ.items() if key != "NO_COLOR"} | {"TERM": "xterm"}
-        mine, theirs = pty.openpty()
-        run = subprocess.Popen([helper.PROGRAM, "status", "--journal", self.folder], stdin=theirs, stdout=theirs, stderr=theirs,
-                               env=variables)
-        os.close(theirs)
-        text = helper.terminal_text(mine)
-        self.assertEqual(run.wait(helper.WHOLE), 0)
-        return text
 
     def test_colours(self) -> None:
         """a failure is red on a terminal, and nothing has a colour in a pipe"""

@@ -3,17 +3,15 @@
 with lines below it only where something is wrong; the last line, --failed, several IDs, a folded history, --times, --watch and colours. The
 tables are those of tests/data/status. Use: tables.py PROGRAM"""
 import os
-import pty
 import re
-import signal
 import subprocess
 import sys
-import time
 import unicodedata
 
 sys.path[0] += "/../lib"
 import helper  # noqa: E402
 import journal_format as book  # noqa: E402
+from shown import Shown  # noqa: E402
 from written_journal import HOUR, MINUTE, NOT_RUNNING, SECOND, Written  # noqa: E402
 
 TABLES = os.path.join(helper.TOP, "tests/data/status")
@@ -27,36 +25,13 @@ def width(line: str) -> int:
     return sum(0 if unicodedata.combining(each) else 2 if unicodedata.east_asian_width(each) in "WF" else 1 for each in line)
 
 
-class Tables(helper.Check):
+class Tables(Shown):
     def setUp(self) -> None:
         super().setUp()
         self.folder, self.written = self.journal(), Written()
 
     def save(self) -> None:
         self.written.save(self.folder)
-
-    def command(self, *words: str) -> list[str]:
-        return [helper.PROGRAM, "status", "--journal", self.folder, *words]
-
-    def piped(self, *words: str, ends: int = 0, **variables: str) -> str:
-        done = subprocess.run(self.command(*words), capture_output=True, env={**os.environ, **variables}, timeout=helper.WHOLE)
-        self.assertEqual((done.returncode, done.stderr), (ends, b""), done.stdout)
-        return done.stdout.decode()
-
-    def on_terminal(self, *words: str, columns: int | None = None, seconds: float | None = None, **variables: str) -> str:
-        """What a terminal gets; with `seconds` the program is interrupted after that time."""
-        env = {key: value for key, value in os.environ.items() if key not in ("NO_COLOR", "COLUMNS")} | {"TERM": "xterm", **variables}
-        if columns:
-            env["COLUMNS"] = str(columns)
-        mine, theirs = pty.openpty()
-        run = subprocess.Popen(self.command(*words), stdin=theirs, stdout=theirs, stderr=theirs, env=env)
-        os.close(theirs)
-        if seconds:
-            time.sleep(seconds)
-            run.send_signal(signal.SIGINT)
-        text = helper.terminal_text(mine)
-        run.wait(helper.PATIENCE)
-        return text
 
     def eleven(self) -> None:
         """Eleven resources: of a cluster's kind, one with an id of 64 letters, one that failed and was stopped, one that was never run."""
