@@ -4,8 +4,8 @@ An edit that does not compile is replaced by the next one of the seed, so a seed
 
 What becomes of each: the proof of its crate refuses it; or, where it changes what other crates see, the proof of a crate that names its
 crate; or, with --tests, a check of `make check FAST=1` of the program compiled with it; or it is alive. Edits of one crate are tried
-together. mutants/out/random has the edits, and in its file `kept` what became of each, with the sum of the crates' texts that this rests
-on, so an interrupted run goes on. The table is over the edits of this call.
+together. mutants/random_tried has what became of each, with the sum of the crates' texts that this rests on, so an interrupted run goes
+on, on another machine, too; mutants/out/random has the edits. The table is over the edits of this call.
 
 Use: random_edits.py [--seed N] [--count M] [--tests] [-j CRATES] [CRATE..]"""
 import argparse
@@ -29,7 +29,7 @@ import one_program
 import wrong_bodies as bodies
 from wrong_bodies import MUTANTS, TOP, called
 
-FOLDER = MUTANTS / "out/random"
+FOLDER, KEPT = MUTANTS / "out/random", MUTANTS / "random_tried"
 NO_CODE = re.compile(r'//[^\n]*|/\*.*?\*/|\bb?r(#*)".*?"\1|"(?:\\.|[^"\\])*"|\'(?:\\(?:x\w\w|u\{\w+\}|.)|[^\\\'\n])\'', re.DOTALL)
 NO_BODY = re.compile(r"\bghost use [^;]*;|#!?(?=\[)|\b(?:requires|ensures)(?: \*)?(?:\s+\w+)?\s*(?=\{)|\bghost\s+\w+\s*[:=]\s*(?=\{)")
 CONSTANT = re.compile(r"^ *(?:pub(?:\([a-z]+\))? )?const \w+: [^=;\n]*=([^;\n]*);", re.MULTILINE)
@@ -261,7 +261,7 @@ def drawn(lines: list[list[Edit]], seed: int) -> Iterator[Edit]:
 
 
 class Kept:
-    """What became of edits, by the sum of the texts that it rests on."""
+    """What became of edits, by the beginning of the sum of the texts that it rests on."""
 
     def __init__(self, path: Path):
         self.path, self.fates = path, {}
@@ -271,18 +271,22 @@ class Kept:
                     one = json.loads(line)
                     self.fates[one["sum"]] = one["fate"]
 
-    def keep(self, total: str, edit: Edit, fate: str, seconds: float) -> None:
-        self.fates[total] = fate
+    def of(self, stage: str, total: str) -> str | None:
+        return self.fates.get(f"{stage} {total[:16]}")
+
+    def keep(self, stage: str, total: str, edit: Edit, fate: str) -> None:
+        one = {"sum": f"{stage} {total[:16]}", "fate": fate[:160], "edit": str(edit)}
+        self.fates[one["sum"]] = fate
         with open(self.path, "a", encoding="utf-8") as file:
             # (what is before it may be half of a line)
-            file.write("\n" + json.dumps({"sum": total, "edit": str(edit), "fate": fate, "seconds": round(seconds)}))
+            file.write("\n" + json.dumps(one))
 
 
 @contextlib.contextmanager
-def edited(edit: Edit | None) -> Iterator[Path]:
-    """A copy of the repository with an edit, or with none."""
+def edited(*edits: Edit) -> Iterator[Path]:
+    """A copy of the repository with edits of different lines."""
     with bodies.copied() as copy:
-        if edit:
+        for edit in edits:
             path = copy / edit.source.relative_to(TOP)
             path.write_text(path.read_text(encoding="utf-8").replace(edit.old, edit.new), encoding="utf-8")
         yield copy
@@ -379,22 +383,34 @@ def body_of(text: str, edit: Edit) -> tuple[int, int] | None:
 
 
 @functools.cache
-def failing(edit: Edit | None) -> frozenset[str] | None:
-    """The checks of `make check FAST=1` that fail with a program that was compiled with this edit, or with none; none where it was not."""
-    with edited(edit) as copy:
-        folder = copy / "crates" / bodies.PROGRAM / "out"
+def failing(*edits: Edit) -> frozenset[str] | None:
+    """The checks of `make check FAST=1` that fail twice with a program that was compiled with these edits; none where it was not."""
+    with edited(*edits) as copy:
         # (tests/check.sh builds it anew)
         (copy / "crates/ocf_agents/out/ocf_agents").unlink(missing_ok=True)
-        if called(copy, "package/program.sh", str(folder))[0]:
+        if called(copy, "package/program.sh", str(copy / "crates" / bodies.PROGRAM / "out"))[0]:
             return None
-        return frozenset(re.findall(r"^failed +[0-9.]+ s  (.*)$", called(copy, "tests/check.sh", "--fast", *one_program.CHECKS)[1], re.MULTILINE))
+        found = failed(copy, one_program.CHECKS)
+        return found & failed(copy, sorted({name.partition(":")[0] for name in found})) if found else found
 
 
-def fate_of_tests(edit: Edit) -> str:
-    found, always = failing(edit), failing(None)
+def failed(top: Path, names: list[str]) -> frozenset[str]:
+    """The checks of these scripts and directories that fail, each after its script."""
+    said = called(top, "tests/check.sh", "--fast", *names)[1].partition("\nfailed ")[2]
+    return frozenset(re.findall(r"^    (tests/\S+\.py: .*)$", said, re.MULTILINE))
+
+
+def fates_of_tests(edits: list[Edit]) -> dict[Edit, str]:
+    """What the checks say of edits of different lines, all in one program; by halves if one of them fails."""
+    found, always = failing(*edits), failing()
     if found is None or always is None:
-        return "NOT TRIED: the program was not compiled"
-    return f"refused by {min(found - always)}" if found - always else "NOT REFUSED"
+        return dict.fromkeys(edits, "NOT TRIED: the program was not compiled")
+    if not found - always:
+        return dict.fromkeys(edits, "NOT REFUSED")
+    if len(edits) == 1:
+        return {edits[0]: f"refused by {min(found - always)}"}
+    half = len(edits) // 2
+    return fates_of_tests(edits[:half]) | fates_of_tests(edits[half:])
 
 
 def may_be_seen(edit: Edit) -> bool:
@@ -414,7 +430,7 @@ class Judge:
         """The stage that decided about an edit, or the one to be tried, with the sum of what its answer will rest on."""
         weak = False
         for stage, total in self.stages(edit):
-            fate = self.kept.fates.get(total)
+            fate = self.kept.of(stage, total)
             if fate is None:
                 return stage, total
             weak = weak or fate.startswith("ONLY BY A NAME")
@@ -424,56 +440,59 @@ class Judge:
 
     def stages(self, edit: Edit) -> Iterator[tuple[str, str]]:
         """The stages of an edit, each with the sum of what its answer rests on."""
-        yield "proof", self.texts.sum_of(edit.file)
-        whole = self.texts.sum_of(edit.file, bodies.PROGRAM)
+        own, whole = self.texts.sum_of(edit.file), self.texts.sum_of(edit.file, bodies.PROGRAM)
+        yield from (("compiler", own), ("proof", own))
         if may_be_seen(edit):
-            yield "above", f"above {whole}"
+            yield "above", whole
         if self.with_tests:
-            yield "test", f"test {whole}"
+            yield "test", whole
 
-    def note(self, edit: Edit, fate: str, seconds: float) -> None:
+    def note(self, edit: Edit, fate: str) -> None:
         if not fate.startswith("NOT TRIED"):
-            self.kept.keep(self.stage(edit)[1], edit, fate, seconds)
+            self.kept.keep(*self.stage(edit), edit, fate)
         print(f"  {edit}\n    {fate[:200]}", flush=True)
 
-    def not_compiled(self, crate: str, edits: list[Edit]) -> dict[str, str]:
+    def compile(self, crate: str, edits: list[Edit]) -> None:
+        """Has the compiler try edits of one crate."""
         with bodies.copied(self.texts.at_or_below(crate)) as copy:
-            return {edit.name: fate for group in by_lines(edits) for edit, fate in not_compiled(copy / "crates" / crate, group).items()}
+            wrong = {edit: fate for group in by_lines(edits) for edit, fate in not_compiled(copy / "crates" / crate, group).items()}
+        for edit in edits:
+            self.kept.keep(*self.stage(edit), edit, "BAD EDIT" if edit in wrong else "NOT REFUSED")
 
-    def prove(self, crate: str, edits: dict[str, Edit]) -> None:
+    def prove(self, crate: str, edits: list[Edit]) -> None:
         """Tries edits of one crate by its proof."""
         began = time.monotonic()
-        wrong = self.not_compiled(crate, [*edits.values()])
-        left = [edit.file for name, edit in edits.items() if name not in wrong]
-        fates, printed = bodies.judged(crate, left) if left else ({}, "")
-        fates |= wrong
-        seconds, after = time.monotonic() - began, bodies.Texts()
-        print(f"{crate}: {len(edits)} tried in {seconds:.0f} s", *([] if fates else printed.splitlines()[-20:]), sep="\n", flush=True)
-        for name, edit in edits.items():
-            fate = fates.get(name, "NOT TRIED: nothing was printed of it")
+        fates, printed = bodies.judged(crate, [edit.file for edit in edits])
+        after = bodies.Texts()
+        print(f"{crate}: {len(edits)} tried in {time.monotonic() - began:.0f} s", *([] if fates else printed.splitlines()[-20:]), sep="\n")
+        for edit in edits:
+            fate = fates.get(edit.name, "NOT TRIED: nothing was printed of it").replace("BAD EDIT", "NOT TRIED")
             if fate.startswith("ONLY BY A NAME"):
                 fate = fate_by_search(edit, self.texts)
             if after.sum_of(edit.file) != self.texts.sum_of(edit.file):
                 fate = "NOT TRIED: a file that it rests on changed meanwhile"
             by = bodies.goal(crate, fate) if fate.startswith("refused") else None
-            self.note(edit, f"{fate} [goal of {by}]" if by else fate, seconds / len(edits))
+            self.note(edit, f"{fate} [goal of {by}]" if by else fate)
+
+    def test(self, edits: list[Edit]) -> Iterator[tuple[Edit, str]]:
+        """What the checks of the built program say of edits."""
+        together = [edit for edit in edits if not may_be_seen(edit) and edit.crate in self.texts.at_or_below(bodies.PROGRAM)]
+        for group in by_lines(edit for edit in edits if edit not in together):
+            yield from fates_of_tests(group).items()
+        if together:
+            yield from one_program.fates(together, body_of, self.lanes)
 
     def try_all(self, edits: Iterable[Edit]) -> None:
         """Moves each of these on by one stage."""
-        by_crate, tested = collections.defaultdict(dict), []
+        by_stage = collections.defaultdict(lambda: collections.defaultdict(list))
         for edit in edits:
-            stage, began = self.stage(edit)[0], time.monotonic()
-            if stage == "proof":
-                by_crate[edit.crate][edit.name] = edit
-            elif stage == "test" and not may_be_seen(edit) and edit.crate in self.texts.at_or_below(bodies.PROGRAM):
-                tested.append(edit)
-            else:
-                fate = fate_above(edit, self.texts) if stage == "above" else fate_of_tests(edit)
-                self.note(edit, fate, time.monotonic() - began)
-        for edit, fate in one_program.fates(tested, body_of, self.lanes) if tested else []:
-            self.note(edit, fate, 0)
-        if by_crate:
-            collections.deque(bodies.in_lanes(by_crate, self.lanes, self.prove), maxlen=0)
+            by_stage[self.stage(edit)[0]][edit.crate].append(edit)
+        for stage, call in (("compiler", self.compile), ("proof", self.prove)):
+            collections.deque(bodies.in_lanes(by_stage[stage], self.lanes, call), maxlen=0)
+        for edit in itertools.chain(*by_stage["above"].values()):
+            self.note(edit, fate_above(edit, self.texts))
+        for edit, fate in self.test([*itertools.chain(*by_stage["test"].values())]):
+            self.note(edit, fate)
 
 
 def written(edit: Edit) -> Edit:
@@ -483,31 +502,35 @@ def written(edit: Edit) -> Edit:
     return edit
 
 
+def compiling(edits: Iterator[Edit], count: int, judge: Judge) -> list[Edit]:
+    """The first edits that compile: of some of them, twice as many as are wanted are tried together."""
+    found: list[Edit] = []
+    while len(found) < count and (more := [written(edit) for edit in itertools.islice(edits, 2 * (count - len(found)))]):
+        judge.try_all(edit for edit in more if judge.stage(edit)[0] == "compiler")
+        found += [edit for edit in more if judge.stage(edit)[0] != "bad"]
+    return found[:count]
+
+
 def judged(edits: Iterator[Edit], count: int, judge: Judge) -> dict[Edit, str]:
     """The first edits that compile, each with the stage that decided about it; ? stands for what could not be tried."""
-    chosen, stuck = [], set()
-    while True:
-        chosen = [edit for edit in chosen if judge.stage(edit)[0] != "bad"]
-        more = [written(edit) for edit in itertools.islice(edits, count - len(chosen))]
-        chosen += more
-        left = {edit: judge.stage(edit) for edit in chosen if edit not in stuck and judge.stage(edit)[1]}
-        if left:
-            judge.try_all(left)
-            stuck |= {edit for edit, stage in left.items() if judge.stage(edit) == stage}
-        elif not more:
-            return {edit: "?" if edit in stuck else judge.stage(edit)[0] for edit in chosen}
+    chosen, stuck = compiling(edits, count, judge), set()
+    while left := {edit: judge.stage(edit) for edit in chosen if edit not in stuck and judge.stage(edit)[1]}:
+        judge.try_all(left)
+        stuck |= {edit for edit, stage in left.items() if judge.stage(edit) == stage}
+    return {edit: "?" if edit in stuck else judge.stage(edit)[0] for edit in chosen}
 
 
-def table(found: dict[Edit, str]) -> str:
-    """The numbers by kind, and the edits that are alive."""
-    columns = {"edits": None, "refused by the crate": "proof", "only by a name": "weak", "above it": "above",
-               "by a test": "test", "alive": "alive", "not tried": "?"}
-    lines = [f"{'':24}  {'  '.join(columns)}"]
-    for kind in [*KINDS, "all"]:
-        stages = [stage for edit, stage in found.items() if kind in (edit.kind, "all")]
-        numbers = [stages.count(stage) if stage else len(stages) for stage in columns.values()]
-        lines.append(f"{kind:24}  {'  '.join(f'{number:{len(head)}}' for head, number in zip(columns, numbers))}")
-    return "\n".join([*lines, *[f"{stage}: {edit}" for edit, stage in found.items() if stage in ("alive", "?")]])
+def table(found: dict[Edit, str], below: list[str]) -> str:
+    """The numbers by kind, and of some crates, in Markdown; and the edits that are alive."""
+    columns = {"edits": None, "refused by their proof": "proof", "by one above": "above", "by a check": "test", "only by a name": "weak",
+               "alive": "alive", "not tried": "?"}
+    rows = {kind: [stage for edit, stage in found.items() if edit.kind == kind] for kind in KINDS}
+    rows |= {f"in the {len(below)} crates up to `executor`": [stage for edit, stage in found.items() if edit.crate in below],
+             "**all**": [*found.values()]}
+    lines = [["", *columns], ["---", *("---:" for _ in columns)]]
+    lines += [[name, *(str(stages.count(stage) if stage else len(stages)) for stage in columns.values())] for name, stages in rows.items()]
+    return "\n".join([*(f"| {' | '.join(line)} |" for line in lines),
+                      *(f"{stage}: {edit}" for edit, stage in found.items() if stage in ("alive", "weak", "?"))])
 
 
 def main() -> int:
@@ -523,8 +546,8 @@ def main() -> int:
     lines = all_edits(words.crates or product(texts))
     if not lines:
         sys.exit("random_edits.py: these crates have no line to edit")
-    found = judged(drawn(lines, words.seed), words.count, Judge(texts, Kept(FOLDER / "kept"), words.tests, words.j))
-    print(table(found))
+    found = judged(drawn(lines, words.seed), words.count, Judge(texts, Kept(KEPT), words.tests, words.j))
+    print(table(found, [crate for crate in product(texts) if crate in texts.at_or_below("executor")]))
     return 1 if "?" in found.values() else 0
 
 

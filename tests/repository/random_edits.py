@@ -187,20 +187,26 @@ class RandomEdits(helper.Check):
                 "NOT REFUSED"])
 
     def judged(self, count, fates):
-        """A call over the same edits, where those that are tried have these fates, by their numbers: what it found, and what it tried."""
-        drawn, tried = [*edits.drawn(edits.edits_of("low", "src/lib.rt", SOURCE), 1)], []
+        """A call over the same edits, where those that are tried have these fates, by their numbers: what it found, which were compiled, and
+        which were tried by a proof."""
+        drawn, compiled, tried = [*edits.drawn(edits.edits_of("low", "src/lib.rt", SOURCE), 1)], [], []
+
+        def not_compiled(_, group):
+            compiled.extend(map(drawn.index, group))
+            return {edit: fate for edit in group if (fate := fates.get(drawn.index(edit), "")).startswith("BAD EDIT")}
 
         def judged(_, files):
             numbers = [next(at for at, edit in enumerate(drawn) if edit.name == file.name) for file in files]
             tried.extend(numbers)
             return {drawn[at].name: fates[at] for at in numbers if at in fates}, "nothing"
 
-        texts = SimpleNamespace(sum_of=lambda file, top=None: f"{file.name} {top}")
+        texts = SimpleNamespace(sum_of=lambda file, top=None: f"{file.name} {top}", at_or_below=lambda _: [])
         judge = edits.Judge(texts, edits.Kept(Path(self.place("kept"))), False, 1)
-        with mock.patch.multiple(bodies, judged=judged, Texts=lambda: texts), mock.patch.object(edits, "print", create=True), \
-                mock.patch.object(edits.Judge, "not_compiled", lambda *_: {}):
+        copied = mock.Mock(return_value=contextlib.nullcontext(Path(self.here)))
+        with mock.patch.multiple(bodies, judged=judged, Texts=lambda: texts, copied=copied), \
+                mock.patch.multiple(edits, not_compiled=not_compiled), mock.patch.object(edits, "print", create=True):
             found = edits.judged(iter(drawn), count, judge)
-        return {drawn.index(edit): stage for edit, stage in found.items()}, tried
+        return {drawn.index(edit): stage for edit, stage in found.items()}, sorted(compiled), sorted(tried)
 
     def test_goes_on(self):
         """an edit that does not compile is replaced, what became of each is kept, and only what could not be tried is tried again"""
@@ -210,11 +216,28 @@ class RandomEdits(helper.Check):
                  2: "NOT REFUSED: it is still proved"}
         places = {"TOP": Path(self.here), "FOLDER": Path(self.place("edits")), "may_be_seen": lambda edit: False}
         with mock.patch.multiple(edits, **places), mock.patch.object(bodies, "TOP", Path(self.here)):
-            self.assertEqual(self.judged(3, fates), ({0: "proof", 2: "alive", 3: "?"}, [0, 1, 2, 3]))
+            self.assertEqual(self.judged(3, fates), ({0: "proof", 2: "alive", 3: "?"}, [*range(6)], [0, 2, 3]))
             with open(self.place("kept"), "a", encoding="utf-8") as kept:
                 kept.write('\n{"sum": "half of a li')
-            self.assertEqual(self.judged(3, {3: fates[0]}), ({0: "proof", 2: "alive", 3: "proof"}, [3]))
-            self.assertEqual(self.judged(2, {}), ({0: "proof", 2: "alive"}, []))
+            self.assertEqual(self.judged(3, {3: fates[0]}), ({0: "proof", 2: "alive", 3: "proof"}, [], [3]))
+            self.assertEqual(self.judged(2, {}), ({0: "proof", 2: "alive"}, [], []))
+
+    def test_together(self):
+        """constants are tried together, and by halves if a check fails; the table counts them by kind, and in the crates up to a limit"""
+        drawn = [edits.Edit(crate, "src/lib.rt", number, "another operator", "<", "<=") for number, crate in enumerate(["low"] * 4 + ["high"])]
+
+        def failing(*tried):
+            return frozenset({"always"} | {f"check {edit.number}" for edit in tried if edit.number in (1, 4)})
+
+        with mock.patch.object(edits, "failing", failing), mock.patch.object(edits.Edit, "function", "f"):
+            fates = edits.fates_of_tests(drawn)
+            found = {edit: "test" if fate.startswith("refused") else "alive" for edit, fate in fates.items()}
+            lines = edits.table(found, ["low"]).splitlines()
+        self.assertEqual([fates[edit] for edit in drawn],
+                         ["NOT REFUSED", "refused by check 1", "NOT REFUSED", "NOT REFUSED", "refused by check 4"])
+        self.assertIn("| another operator | 5 | 0 | 0 | 2 | 0 | 3 | 0 |", lines)
+        self.assertIn("| in the 1 crates up to `executor` | 4 | 0 | 0 | 1 | 0 | 3 | 0 |", lines)
+        self.assertEqual(lines[-1], "alive: low/src/lib.rt:3 f: another operator: < => <=")
 
 
 if __name__ == "__main__":
