@@ -187,8 +187,8 @@ class RandomEdits(helper.Check):
                 "NOT REFUSED"])
 
     def judged(self, count, fates):
-        """A call over the same edits, where those that are tried have these fates, by their numbers: what it found, which were compiled, and
-        which were tried by a proof."""
+        """A call over the same edits, where those that are tried have these fates, by their numbers: what it found, which were compiled,
+        and which were tried by a proof."""
         drawn, compiled, tried = [*edits.drawn(edits.edits_of("low", "src/lib.rt", SOURCE), 1)], [], []
 
         def not_compiled(_, group):
@@ -224,7 +224,8 @@ class RandomEdits(helper.Check):
 
     def test_together(self):
         """constants are tried together, and by halves if a check fails; the table counts them by kind, and in the crates up to a limit"""
-        drawn = [edits.Edit(crate, "src/lib.rt", number, "another operator", "<", "<=") for number, crate in enumerate(["low"] * 4 + ["high"])]
+        drawn = [edits.Edit(crate, "src/lib.rt", number, "another operator", "<", "<=")
+                 for number, crate in enumerate(["low"] * 4 + ["high"])]
 
         def failing(*tried):
             return frozenset({"always"} | {f"check {edit.number}" for edit in tried if edit.number in (1, 4)})
