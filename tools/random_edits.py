@@ -317,15 +317,8 @@ def not_compiled(folder: Path, edits: list[Edit]) -> dict[Edit, str]:
     return {edit: f"BAD EDIT: {printed[-200:]}" for edit in wrong} | (not_compiled(folder, left) if left else {})
 
 
-def by_lines(edits: Iterable[Edit]) -> list[list[Edit]]:
-    """Groups of edits of different lines."""
-    groups: list[list[Edit]] = []
-    for edit in edits:
-        group = next((group for group in groups if all((one.path, one.number) != (edit.path, edit.number) for one in group)), None)
-        if group is None:
-            groups.append(group := [])
-        group.append(edit)
-    return groups
+def line_of(edit: Edit) -> set[tuple[str, str, int]]:
+    return {(edit.crate, edit.path, edit.number)}
 
 
 def without_answers(path: Path, names: set[str]) -> None:
@@ -341,7 +334,7 @@ def without_answers(path: Path, names: set[str]) -> None:
 def fate_by_search(edit: Edit, texts: bodies.Texts) -> str:
     """What becomes of an edit that changes names which answers have, where those goals are searched instead: it is refused if one of them
     is false. That the search did not find a proof which a person wrote before shows nothing."""
-    with bodies.copied(texts.at_or_below(edit.crate)) as copy:
+    with bodies.copied() as copy:
         folder, kept = copy / "crates" / edit.crate, Path("crates", edit.crate, "out/incremental")
         shutil.copytree(TOP / kept, copy / kept)
         edit.file.applied(folder)
@@ -454,8 +447,8 @@ class Judge:
 
     def compile(self, crate: str, edits: list[Edit]) -> None:
         """Has the compiler try edits of one crate."""
-        with bodies.copied(self.texts.at_or_below(crate)) as copy:
-            wrong = {edit: fate for group in by_lines(edits) for edit, fate in not_compiled(copy / "crates" / crate, group).items()}
+        with bodies.copied() as copy:
+            wrong = {edit for group in bodies.apart(edits, line_of) for edit in not_compiled(copy / "crates" / crate, group)}
         for edit in edits:
             self.kept.keep(*self.stage(edit), edit, "BAD EDIT" if edit in wrong else "NOT REFUSED")
 
@@ -477,7 +470,7 @@ class Judge:
     def test(self, edits: list[Edit]) -> Iterator[tuple[Edit, str]]:
         """What the checks of the built program say of edits."""
         together = [edit for edit in edits if not may_be_seen(edit) and edit.crate in self.texts.at_or_below(bodies.PROGRAM)]
-        for group in by_lines(edit for edit in edits if edit not in together):
+        for group in bodies.apart((edit for edit in edits if edit not in together), line_of):
             yield from fates_of_tests(group).items()
         if together:
             yield from one_program.fates(together, body_of, self.lanes)

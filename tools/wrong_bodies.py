@@ -1,15 +1,9 @@
 #!/usr/bin/env python3
-"""Tries wrong bodies: edits of the sources that the proof of their crate, or a check of the built program, has to refuse; see
+"""Tries wrong bodies: edits of the sources that the proof of their crate, or a check of the built program, has to refuse; see "Stamps" in
 mutants/README.md.
 
-An edit counts as refused if a refused goal belongs to a function that it names in `# refused by:`; one of mutants/tests if the check that it
-names passes without it and fails with it. `mutants/tried` has the stamp of each edit that was seen refused: the sum of its change and of the
-texts that its proof rests on, the date and the kit. `check` tries the edits whose stamp is missing or old, `all` every one, and `show` lists
-those that `check` would try. NAME is `gate` for mutants/gate (where there is none), `every`, a crate, `tests`, or CRATE/EDIT.
-
-A check is of the functions that edits touch and name, with those that they call; first in the work tree, where it has to prove them, and
-the edits begin with what that check keeps. Edits that touch and name different functions are tried by one check: none changes a contract, so
-each of them fails by itself or not at all. The last line counts.
+`check` tries the edits whose stamp in mutants/tried is missing or old, `all` every one, and `show` lists those that `check` would try. NAME
+is `gate` for mutants/gate (where there is none), `every`, a crate, `tests`, or CRATE/EDIT.
 
 Use: wrong_bodies.py check|all|show [-j CRATES] [NAME..]"""
 import argparse
@@ -17,6 +11,7 @@ import collections
 import concurrent.futures
 import contextlib
 import datetime
+import functools
 import hashlib
 import os
 import re
@@ -26,7 +21,7 @@ import subprocess
 import sys
 import tempfile
 import time
-from collections.abc import Callable, Iterator
+from collections.abc import Callable, Iterable, Iterator
 from dataclasses import dataclass
 from pathlib import Path
 
@@ -163,32 +158,25 @@ class Texts:
     def __init__(self) -> None:
         pairs = [line.split("#")[0].partition(":") for line in (TOP / "crates.txt").read_text(encoding="utf-8").splitlines()]
         self.words = {name.split()[0]: (name.split()[1:], below.split()) for name, _, below in pairs if name.strip()}
-        self.sums: dict[str, str] = {}
 
-    def at_or_below(self, crate: str) -> list[str]:
-        """The names of a crate and of all crates below it, in order."""
-        found, left = set(), [crate]
-        while left:
-            name = left.pop()
-            if name in self.words and name not in found:
-                found.add(name)
-                left += self.words[name][1]
-        return sorted(found)
+    @functools.cache
+    def at_or_below(self, crate: str) -> frozenset[str]:
+        """The names of a crate and of all crates below it."""
+        return frozenset([crate]).union(*(self.at_or_below(name) for name in self.words[crate][1] if name in self.words))
 
+    @functools.cache
     def sum_of_crate(self, crate: str) -> str:
         """The sum of a crate's own files, by name and content."""
-        if crate not in self.sums:
-            paths = [path for part in ("src", "specs", "proofs") for path in (TOP / "crates" / crate / part).glob("**/*") if path.is_file()]
-            total = hashlib.sha256()
-            for path in sorted(paths):
-                total.update(repr((str(path.relative_to(TOP)), path.read_bytes())).encode())
-            self.sums[crate] = total.hexdigest()
-        return self.sums[crate]
+        paths = [path for part in ("src", "specs", "proofs") for path in (TOP / "crates" / crate / part).glob("**/*") if path.is_file()]
+        total = hashlib.sha256()
+        for path in sorted(paths):
+            total.update(repr((str(path.relative_to(TOP)), path.read_bytes())).encode())
+        return total.hexdigest()
 
     def sum_of(self, edit: Edit, top: str | None = None) -> str:
         """The sum that an edit's stamp has, if it was seen refused with these texts by its crate, or by this one above it."""
         top = top or (PROGRAM if edit.crate == TESTS else edit.crate)
-        crates = [(name, self.words[name], self.sum_of_crate(name)) for name in self.at_or_below(top)]
+        crates = [(name, self.words[name], self.sum_of_crate(name)) for name in sorted(self.at_or_below(top))]
         return hashlib.sha256(repr((edit.name, edit.change, crates)).encode()).hexdigest()
 
 
@@ -196,17 +184,13 @@ class Stamps:
     """The lines of mutants/tried: of each edit its sum, the date, and the kit."""
 
     def __init__(self) -> None:
-        self.kit = output("rt", "version").split()[0]
+        self.kit = called(TOP, "rt", "version")[1].split()[0]
         self.lines = self.read()
-        self.found = dict(self.lines)
 
     @staticmethod
     def read() -> dict[str, list[str]]:
         text = TRIED.read_text(encoding="utf-8") if TRIED.exists() else ""
         return {edit: rest for edit, *rest in map(str.split, text.splitlines()) if rest}
-
-    def has(self, edit: Edit, total: str) -> bool:
-        return self.lines.get(edit.name, [""])[0] == total
 
     def settle(self, fates: dict[Edit, str | None], sums: dict[Edit, str]) -> None:
         """Notes the edits that were refused, removes the lines of others, and of edits that are gone, and writes the file."""
@@ -235,16 +219,11 @@ def called(where: Path, *words: str, **how) -> tuple[int, str]:
 running: set[subprocess.Popen] = set()
 
 
-def output(*words: str) -> str:
-    return subprocess.run(words, check=True, capture_output=True, text=True, stdin=subprocess.DEVNULL).stdout
-
-
 @contextlib.contextmanager
-def copied(crates: list[str] | None = None) -> Iterator[Path]:
-    """A copy of the repository, or only of these crates, with the libraries as they were built here."""
+def copied() -> Iterator[Path]:
+    """A copy of the repository, with the libraries as they were built here."""
     def passed_over(at: str, names: list[str]) -> set[str]:
-        others = set(names) - {*crates} if crates and Path(at) == TOP / "crates" else set()
-        return others | {".git", "incremental", "must-fail"} | ({"out"} if Path(at).parent != TOP / "crates" else set())
+        return {".git", "incremental", "must-fail"} | ({"out"} if Path(at).parent != TOP / "crates" else set())
 
     def linked(one: str, other: str) -> None:
         # (what was built is replaced and never changed)
@@ -255,23 +234,17 @@ def copied(crates: list[str] | None = None) -> Iterator[Path]:
     with tempfile.TemporaryDirectory() as room:
         copy = Path(room, "top")
         shutil.copytree(TOP, copy, symlinks=True, copy_function=linked, ignore=passed_over)
-        if crates:
-            lines = (TOP / "crates.txt").read_text(encoding="utf-8").splitlines()
-            kept = [line for line in lines if line.partition(":")[0].split()[:1] in [[crate] for crate in crates]]
-            (copy / "crates.txt").write_text("\n".join(kept) + "\n", encoding="utf-8")
-        output("git", "init", "-q", str(copy))
+        called(copy, "git", "init", "-q")
         yield copy
 
 
 def checked(folder: Path, edits: list[Edit]) -> str:
     """What a check says of the functions that these edits touch or name, and of those that they call."""
     names = {name for edit in edits for name in edit.wanted | edit.touched if name}
-    while True:
-        printed = called(folder, "rt", "check", "--jobs", "1", *(word for name in sorted(names) for word in ("--only", name)))[1]
-        several = SEVERAL.search(printed)
-        if not several:
-            return printed
+    words = ("rt", "check", "--jobs", "1")
+    while several := SEVERAL.search(printed := called(folder, *words, *(word for name in sorted(names) for word in ("--only", name)))[1]):
         names = names - {several[1]} | set(re.findall(r"`(\S+)`", several[2]))
+    return printed
 
 
 def tried(folder: Path, edits: list[Edit]) -> dict[str, str]:
@@ -298,18 +271,15 @@ def refusal(found: list[str]) -> str | None:
     return f"refused: {line[:200]}" if line else f"ONLY BY A NAME in a proof file that is gone: {found[0][:200]}" if found else None
 
 
-def apart(edits: list[Edit]) -> list[list[Edit]]:
-    """Groups of edits which touch and name different functions."""
-    groups: list[tuple[list[Edit], set[str | None]]] = []
+def apart(edits: Iterable, taken: Callable[..., set]) -> list[list]:
+    """Groups of edits that take different things."""
+    groups: list[list] = []
     for edit in edits:
-        taken = edit.touched | edit.wanted
-        group = next((group for group in groups if not group[1] & taken), None)
+        group = next((group for group in groups if not any(taken(edit) & taken(one) for one in group)), None)
         if group is None:
-            group = ([], set())
-            groups.append(group)
-        group[0].append(edit)
-        group[1].update(taken)
-    return [group for group, _ in groups]
+            groups.append(group := [])
+        group.append(edit)
+    return groups
 
 
 def judged(crate: str, edits: list[Edit]) -> tuple[dict[str, str], str]:
@@ -317,10 +287,11 @@ def judged(crate: str, edits: list[Edit]) -> tuple[dict[str, str], str]:
     printed = checked(TOP / "crates" / crate, edits)
     if not PROVED.search(printed):
         return {}, printed
-    with copied(Texts().at_or_below(crate)) as copy:
+    with copied() as copy:
         kept = Path("crates", crate, "out/incremental")
         shutil.copytree(TOP / kept, copy / kept)
-        return {name: fate for group in apart(edits) for name, fate in tried(copy / "crates" / crate, group).items()}, ""
+        groups = apart(edits, lambda edit: edit.touched | edit.wanted)
+        return {name: fate for group in groups for name, fate in tried(copy / "crates" / crate, group).items()}, ""
 
 
 def passes(edit: Edit, copy: Path) -> bool:
@@ -384,14 +355,6 @@ def chosen(names: list[str], known: dict[str, Edit]) -> list[Edit]:
     return [found[name] for name in sorted(found)]
 
 
-def show(left: dict[Edit, str], stamps: Stamps, count: int) -> int:
-    for edit in left:
-        line = stamps.lines.get(edit.name)
-        print(f"{edit.name}: {' '.join(['last seen refused', *line[1:]]) if line else 'never seen refused'}")
-    print(f"{f'{count - len(left)} of' if left else 'all'} {count} wrong bodies as mutants/tried has them")
-    return 0
-
-
 def main() -> int:
     asked = argparse.ArgumentParser(description=__doc__.split("\n", maxsplit=1)[0])
     asked.add_argument("what", choices=["check", "all", "show"])
@@ -401,9 +364,13 @@ def main() -> int:
     signal.signal(signal.SIGTERM, lambda *_: sys.exit(143))
     edits = chosen(words.names, all_edits())
     sums = {edit: texts.sum_of(edit) for edit in edits}
-    left = {edit: total for edit, total in sums.items() if words.what == "all" or not stamps.has(edit, total)}
+    left = {edit: total for edit, total in sums.items() if words.what == "all" or stamps.lines.get(edit.name, [""])[0] != total}
     if words.what == "show":
-        return show(left, stamps, len(edits))
+        for edit in left:
+            line = stamps.lines.get(edit.name)
+            print(f"{edit.name}: {' '.join(['last seen refused', *line[1:]]) if line else 'never seen refused'}")
+        print(f"{f'{len(edits) - len(left)} of' if left else 'all'} {len(edits)} wrong bodies as mutants/tried has them")
+        return 0
     by_crate: dict[str, dict[Edit, str]] = collections.defaultdict(dict)
     for edit, total in left.items():
         by_crate[edit.crate][edit] = total
@@ -413,8 +380,6 @@ def main() -> int:
         stamps.settle(fates, sums)
         failed += sum(fault is not None for fault in fates.values())
         print(lines, flush=True)
-    if stamps.lines != stamps.found:
-        print("mutants/tried has changed: commit it")
     print(f"{len(edits) - failed} passed, {failed} failed")
     return 1 if failed else 0
 

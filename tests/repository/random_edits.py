@@ -142,7 +142,7 @@ class RandomEdits(helper.Check):
             answers.write_text(old, encoding="utf-8")
             checked = mock.Mock(side_effect=[gone, after])
             top = contextlib.nullcontext(Path(self.place("copy")))
-            with random, sources, mock.patch.multiple(bodies, checked=checked, copied=lambda _, top=top: top):
+            with random, sources, mock.patch.multiple(bodies, checked=checked, copied=lambda top=top: top):
                 self.assertIn(wanted, edits.fate_by_search(edits.written(drawn), SimpleNamespace(at_or_below=lambda _: [])))
             self.assertEqual(answers.read_text(encoding="utf-8"), "use A.{a}\n\npub last : goal.last\nlast c = a\n")
             Path(copy, "src/lib.rt").write_text(SOURCE, encoding="utf-8")
