@@ -496,9 +496,9 @@ def written(edit: Edit) -> Edit:
 
 
 def compiling(edits: Iterator[Edit], count: int, judge: Judge) -> list[Edit]:
-    """The first edits that compile: of some of them, twice as many as are wanted are tried together."""
+    """The first edits that compile. Two of five do not, so more are tried together than are wanted."""
     found: list[Edit] = []
-    while len(found) < count and (more := [written(edit) for edit in itertools.islice(edits, 2 * (count - len(found)))]):
+    while len(found) < count and (more := [written(edit) for edit in itertools.islice(edits, (count - len(found)) * 5 // 3)]):
         judge.try_all(edit for edit in more if judge.stage(edit)[0] == "compiler")
         found += [edit for edit in more if judge.stage(edit)[0] != "bad"]
     return found[:count]

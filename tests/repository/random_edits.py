@@ -216,7 +216,7 @@ class RandomEdits(helper.Check):
                  2: "NOT REFUSED: it is still proved"}
         places = {"TOP": Path(self.here), "FOLDER": Path(self.place("edits")), "may_be_seen": lambda edit: False}
         with mock.patch.multiple(edits, **places), mock.patch.object(bodies, "TOP", Path(self.here)):
-            self.assertEqual(self.judged(3, fates), ({0: "proof", 2: "alive", 3: "?"}, [*range(6)], [0, 2, 3]))
+            self.assertEqual(self.judged(3, fates), ({0: "proof", 2: "alive", 3: "?"}, [*range(5)], [0, 2, 3]))
             with open(self.place("kept"), "a", encoding="utf-8") as kept:
                 kept.write('\n{"sum": "half of a li')
             self.assertEqual(self.judged(3, {3: fates[0]}), ({0: "proof", 2: "alive", 3: "proof"}, [], [3]))
