@@ -125,12 +125,12 @@ class Lane:
     top: Path
     programs: Path
 
-    def failed(self, script: Script) -> set[str]:
-        """The checks of a script that fail with the programs."""
-        environment = {**os.environ, "FAST": "1", "PROGRAM": str(self.programs / "ocfexec"), "PYTHONDONTWRITEBYTECODE": "1",
+    def failed(self, script: Script, *words: str, only: str = "") -> set[str]:
+        """The checks of a script that fail with the programs, or whether the one of this sentence does."""
+        environment = {**os.environ, "FAST": "1", "ONLY": only, "PROGRAM": str(self.programs / "ocfexec"), "PYTHONDONTWRITEBYTECODE": "1",
                        **{f"BUILT_{kind.upper()}": str(self.programs / kind / kind) for kind in BUILDS if kind}}
         with open(self.programs / "said", "w+", encoding="utf-8", errors="replace") as said:
-            running = subprocess.Popen([self.top / script.path, self.programs / "ocfexec"], cwd=self.top, env=environment,
+            running = subprocess.Popen([self.top / script.path, self.programs / "ocfexec", *words], cwd=self.top, env=environment,
                                        stdin=subprocess.DEVNULL, stdout=said, stderr=said, start_new_session=True)
             try:
                 status = running.wait(LIMIT * slowness())
@@ -177,11 +177,13 @@ class Trial:
         first that showed most edits so far, of this crate and then of others."""
         with self.lane(number) as lane:
             for script, always in sorted(self.always, key=lambda pair: [-self.shown[crate, pair[0].path], -self.shown[pair[0].path]]):
-                found = lane.failed(script) - always
-                if not found or not (found := found & lane.failed(script)):
+                # (where none fails without an edit, the first that fails is enough)
+                found = lane.failed(script, *([] if always else ["-f"])) - always
+                sentence = min(found, default="").partition(": ")[2]
+                if not found or min(found) not in lane.failed(script, only=sentence):
                     continue
                 numbered(self.top, 0, lane.programs)
-                if found := found - lane.failed(script):
+                if min(found) not in lane.failed(script, only=sentence):
                     self.shown.update([script.path, (crate, script.path)])
                     return f"refused by {script.path}: {min(found)}"
                 numbered(self.top, number, lane.programs)
