@@ -22,8 +22,9 @@ import helper  # noqa: E402
 TIMEOUT = 8000
 # A start that waits for a child at the gate, so that its service would come up after it was killed itself.
 LATE = "WAITS child; :"
-# a number of a user that has no other processes, and how many agents pass their timeouts at once, each with parameters of this many bytes
-USER, MANY, LARGE = 61234, 250, 15 * 1024
+# a number of a user that has no other processes, also where this runs twice at once; and how many agents pass their timeouts at once, each
+# with parameters of this many bytes
+USER, MANY, LARGE = 61_000 + os.getpid() % 4_000, 250, 15 * 1024
 # A monitor that notes the time from the boot to its begin, in hundredths of a second; it makes no process for that.
 STAMPS = "read -r now rest < /proc/uptime; echo $now >> UP/stamps"
 INTERVAL = 100
