@@ -37,8 +37,9 @@ PLACE, PROOF = re.compile(r"(?:^|[\s:])(?:\./)?((?:src|proofs)/[^\s:]+):(\d+):\d
 # a refused goal, and one that is refused since a name in a proof file is gone, so that no contract was tried
 GOAL = re.compile(r"^(?:note: \S+:\d+:\d+: |\S+:\d+:\d+: error: ).*", re.MULTILINE)
 GONE = re.compile(r"(?:\./)?proofs/.*(?:has no field|is not in scope|has no `|was not admitted)")
-# what a check ends with of a text that compiles, and of one that is proved; and a name that several functions have
+# the end of a check of what compiles, and of what is proved; a function that waited for one that it calls; and a name of several functions
 COMPILED, PROVED = re.compile(r"^(?:only|logic)=", re.MULTILINE), re.compile(r"^(?:only=(\d+) proved=\1|logic=proved.*)$", re.MULTILINE)
+WAITS = re.compile(r"^fn (?:\S*::)?(\w+): no proof: it calls ", re.MULTILINE)
 SEVERAL = re.compile(r"several functions are named `(\w+)`: help: write one of (.*)")
 NAMED, CHECK = re.compile(r"^# refused by: (.+)$", re.MULTILINE), re.compile(r"^refused by: ([^,\n]+), (.+)$", re.MULTILINE)
 
@@ -248,20 +249,23 @@ def checked(folder: Path, edits: list[Edit]) -> str:
 
 
 def tried(folder: Path, edits: list[Edit]) -> dict[str, str]:
-    """The fates of edits of one crate by one check in a copy of its directory. If they do not compile together, or a goal is refused that
-    belongs to none of them, those that were not refused are then tried alone."""
-    crate, bad = edits[0].crate, {edit.name: why for edit in edits if (why := edit.applied(folder))}
+    """The fates of edits of one crate by one check in a copy of its directory. Those that waited for others are tried once more without
+    them; each is tried alone if they do not compile together, or if a goal is refused that belongs to none of them."""
+    crate, fates = edits[0].crate, {edit.name: why for edit in edits if (why := edit.applied(folder))}
     printed = checked(folder, edits)
     for file in {file for edit in edits for file, _, _ in edit.pairs}:
         shutil.copy2(TOP / "crates" / crate / file, folder / file)
     compiled = COMPILED.search(printed)
     found = [(line, goal(crate, line)) for line in GOAL.findall(printed)] if compiled else []
-    fates = {edit.name: fate for edit in edits if (fate := refusal([line for line, function in found if function in edit.wanted]))} | bad
+    fates = {edit.name: fate for edit in edits if (fate := refusal([line for line, function in found if function in edit.wanted]))} | fates
     others = [line for line, function in found if not any(function in edit.wanted for edit in edits)]
     left = [edit for edit in edits if edit.name not in fates]
-    if len(edits) > 1 and (others or not compiled):
-        return {name: fate for edit in left for name, fate in tried(folder, [edit]).items()} | fates
+    waiting = [edit for edit in left if edit.wanted & set(WAITS.findall(printed))]
     fate = f"BAD EDIT: {printed[-300:]}" if not compiled else refusal(others) or "NOT REFUSED: its functions are still proved"
+    if len(edits) > 1 and (others or not compiled):
+        fates |= {name: fate for edit in left for name, fate in tried(folder, [edit]).items()}
+    elif len(waiting) < len(edits) and waiting:
+        fates |= tried(folder, waiting)
     return {edit.name: fate for edit in left} | fates
 
 
@@ -325,15 +329,14 @@ def try_crate(crate: str, sums: dict[Edit, str]) -> tuple[dict[Edit, str | None]
         fate = fates.get(edit.name, "NOT TRIED: the crate was not proved, or nothing was printed of this edit")
         found[edit] = edit.fault(fate) if after.sum_of(edit) == total else "NOT TRIED: a file that it rests on changed meanwhile"
     lines = [f"  {'FAILED ' if fault else 'refused'}  {edit.name}: {fault or fates[edit.name]}" for edit, fault in found.items()]
-    more = [] if fates else printed.splitlines()[-20:]
-    return found, "\n".join([f"{crate}: {len(sums)} tried in {time.monotonic() - began:.0f} s", *lines, *more])
+    lines += [] if fates else printed.splitlines()[-20:]
+    return found, "\n".join([f"{crate}: {len(sums)} tried in {time.monotonic() - began:.0f} s", *lines])
 
 
 def in_lanes(by_crate: dict[str, dict], lanes: int, call: Callable) -> Iterator:
     """The results of a call for each crate with its edits, several at a time, as they come; the crates with the most edits begin first."""
-    order = sorted(by_crate.items(), key=lambda pair: -len(pair[1]))
     with concurrent.futures.ThreadPoolExecutor(max(lanes, 1)) as pool:
-        calls = [pool.submit(call, crate, edits) for crate, edits in order]
+        calls = [pool.submit(call, crate, edits) for crate, edits in sorted(by_crate.items(), key=lambda pair: -len(pair[1]))]
         try:
             yield from (call.result() for call in concurrent.futures.as_completed(calls))
         finally:

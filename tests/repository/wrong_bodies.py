@@ -22,8 +22,9 @@ if sys.argv[1] == "check":
     with open(here + "/calls", "a") as log:
         print(crate, file=log)
     os.makedirs("out/incremental", exist_ok=True)
-    lines = [number for number, line in enumerate(text.splitlines(), 1) if "WRONG" in line]
-    print("\n".join([f"note: src/lib.rt:{number}:5: it is not proved" for number in lines] + [f"logic={'not-' * bool(lines)}proved"]))
+    lines = [number for number, line in enumerate(text.splitlines(), 1) if "WRONG" in line][:1]
+    waits = f"fn {crate}::second: no proof: it calls `first`" * text.count("WRONG\n}\n\n#")
+    print(*[f"note: src/lib.rt:{number}:5: it is not proved" for number in lines], waits, f"logic={'not-' * bool(lines)}proved", sep="\n")
     sys.exit(bool(lines))
 """
 CRATES = {"low": "", "high": "low", "beside": ""}
@@ -36,7 +37,6 @@ class WrongBodies(helper.Check):
     def setUp(self):
         super().setUp()
         self.write("bin/rt", RT)
-        os.chmod(self.place("bin/rt"), 0o755)
         self.write("bin/kit", "kit-one logic 1")
         for script in ("tools/wrong_bodies.py", "tools/gate.sh"):
             self.write(f"top/{script}", "")
@@ -50,8 +50,10 @@ class WrongBodies(helper.Check):
         self.edit("high/two", old="first(n)", named="second")
 
     def write(self, name, text):
-        Path(self.place(name)).parent.mkdir(parents=True, exist_ok=True)
-        Path(self.place(name)).write_text(text, encoding="utf-8")
+        path = Path(self.place(name))
+        path.parent.mkdir(parents=True, exist_ok=True)
+        path.write_text(text, encoding="utf-8")
+        path.chmod(0o755)
 
     def edit(self, name, old="n + 1", new="WRONG", folder="mutants/gate", named="first, result"):
         self.write(f"top/{folder}/{name}.edit", f"file: src/lib.rt\nold: {old}\nnew: {new}\n# refused by: {named}\n")
@@ -79,10 +81,10 @@ class WrongBodies(helper.Check):
         return text
 
     def test_all(self):
-        """each edit without a stamp is tried, two of different functions by one check, and their crates without them"""
+        """each edit without a stamp is tried, two of different functions by one check, and again what waited for another"""
         self.tries(EVERY, 4, 0)
         self.assertEqual(self.lines()["low/one"][1:], [datetime.date.today().isoformat(), "kit-one"])
-        self.assertEqual(sorted(Path(self.place("bin/calls")).read_text(encoding="utf-8").split()), sorted([*CRATES] * 2))
+        self.assertEqual(sorted(Path(self.place("bin/calls")).read_text(encoding="utf-8").split()), sorted([*CRATES, "high", *CRATES]))
         self.tries([], 4, 0)
         self.tries(EVERY, 4, 0, "all", "-j", "1")
 
@@ -144,8 +146,7 @@ class WrongBodies(helper.Check):
     if "BROKEN" in open("src/lib.rt").read():
         sys.exit(print("src/lib.rt:1:1: error: no") or 1)
 """
-        line = 'if sys.argv[1] == "check":\n'
-        self.write("bin/rt", RT.replace(line, line + begins.replace("SEVERAL", several)))
+        self.write("bin/rt", RT.replace("    crate, text", begins.replace("SEVERAL", several) + "    crate, text"))
         self.edit("high/one", new="BROKEN")
         self.assertIn("FAILED   high/one: BAD EDIT", self.tries(EVERY, 3, 1))
 
@@ -159,7 +160,6 @@ class WrongBodies(helper.Check):
         self.write("bin/rt", RT)
         self.tries(["low/one"], 3, 0)
         self.assertEqual(sorted(self.lines()), EVERY[1:])
-        # (what a name in a proof file refuses does not count)
         gone = "./proofs/lib/first/Answers.antt:3:5: error: `returns`: record has no field `x`"
         self.write("bin/rt", RT.replace("note: src/lib.rt:{number}:5: it is not proved", gone))
         self.assertIn("ONLY BY A NAME", self.tries(["low/one"], 0, 1, "all", "low"))
@@ -189,8 +189,6 @@ class WrongBodies(helper.Check):
         self.write("top/package/program.sh", '#!/bin/sh\nmkdir -p "$1"\ngrep -c "n + 1" crates/low/src/lib.rt > "$1/ocfexec" || true\n')
         self.write("top/tests/cli/adds.sh", '#!/bin/sh\n[ "$ONLY" = "it adds" ]\n'
                                             'grep -c 1 "$1" > /dev/null && echo "ok        0.00 s  adds: it adds"\nexit 0\n')
-        for script in ("package/program.sh", "tests/cli/adds.sh"):
-            os.chmod(self.place(f"top/{script}"), 0o755)
         edit = "file: crates/low/src/lib.rt\nold: n + 1\nnew: n + {}\nrefused by: tests/cli/adds.sh, it adds\n"
         for text, counts, what in ((edit.format(2), (1, 0), "refused"), (edit.format(1), (0, 1), "NOT REFUSED"),
                                    (edit.format(2).replace("it adds", "it adds up"), (0, 1), "does not pass without it")):
@@ -200,7 +198,6 @@ class WrongBodies(helper.Check):
     def test_gate(self):
         """the last line of the gate counts proofs, wrong bodies and checks; a wrong body that is not refused fails it"""
         self.write("top/tests/check.sh", "#!/bin/sh\necho '7 passed, 0 failed'\n")
-        os.chmod(self.place("top/tests/check.sh"), 0o755)
         self.write("bin/rt", RT + "if sys.argv[1] == 'ci':\n    print('== low\\nrt: low proved\\n5 passed, 0 failed')\n")
         for new, count, status in (("WRONG", "16 passed, 0 failed", 0), ("n + 2", "15 passed, 1 failed", 1)):
             self.edit("low/one", new=new)
