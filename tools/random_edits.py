@@ -4,8 +4,8 @@ An edit that does not compile is replaced by the next one of the seed, so a seed
 
 What becomes of each: the proof of its crate refuses it; or, where it changes what other crates see, the proof of a crate that names its
 crate; or, with --tests, a check of `make check FAST=1` of the program compiled with it; or it is alive. Edits of one crate are tried
-together. mutants/random_tried has what became of each, with the sum of the crates' texts that this rests on, so an interrupted run goes
-on, on another machine, too; mutants/out/random has the edits. The table is over the edits of this call.
+together. mutants/out/random has the edits, and in its file `tried` what became of each, with the sum of the crates' texts that this rests
+on, so an interrupted run goes on, on another machine, too, which has this file. The table is over the edits of this call.
 
 Use: random_edits.py [--seed N] [--count M] [--tests] [-j CRATES] [CRATE..]"""
 import argparse
@@ -29,7 +29,7 @@ import one_program
 import wrong_bodies as bodies
 from wrong_bodies import MUTANTS, TOP, called
 
-FOLDER, KEPT = MUTANTS / "out/random", MUTANTS / "random_tried"
+FOLDER = MUTANTS / "out/random"
 NO_CODE = re.compile(r'//[^\n]*|/\*.*?\*/|\bb?r(#*)".*?"\1|"(?:\\.|[^"\\])*"|\'(?:\\(?:x\w\w|u\{\w+\}|.)|[^\\\'\n])\'', re.DOTALL)
 NO_BODY = re.compile(r"\bghost use [^;]*;|#!?(?=\[)|\b(?:requires|ensures)(?: \*)?(?:\s+\w+)?\s*(?=\{)|\bghost\s+\w+\s*[:=]\s*(?=\{)")
 CONSTANT = re.compile(r"^ *(?:pub(?:\([a-z]+\))? )?const \w+: [^=;\n]*=([^;\n]*);", re.MULTILINE)
@@ -539,7 +539,7 @@ def main() -> int:
     lines = all_edits(words.crates or product(texts))
     if not lines:
         sys.exit("random_edits.py: these crates have no line to edit")
-    found = judged(drawn(lines, words.seed), words.count, Judge(texts, Kept(KEPT), words.tests, words.j))
+    found = judged(drawn(lines, words.seed), words.count, Judge(texts, Kept(FOLDER / "tried"), words.tests, words.j))
     print(table(found, [crate for crate in product(texts) if crate in texts.at_or_below("executor")]))
     return 1 if "?" in found.values() else 0
 
