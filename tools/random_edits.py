@@ -389,8 +389,8 @@ def failing(*edits: Edit) -> frozenset[str] | None:
 
 def failed(top: Path, names: list[str]) -> frozenset[str]:
     """The checks of these scripts and directories that fail, each after its script."""
-    said = called(top, "tests/check.sh", "--fast", *names)[1].partition("\nfailed ")[2]
-    return frozenset(re.findall(r"^    (tests/\S+\.py: .*)$", said, re.MULTILINE))
+    listed = re.search(r"^failed \d+:\n((?:    .*\n)*)", called(top, "tests/check.sh", "--fast", *names)[1], re.MULTILINE)
+    return frozenset(line.strip() for line in listed[1].splitlines()) if listed else frozenset()
 
 
 def fates_of_tests(edits: list[Edit]) -> dict[Edit, str]:

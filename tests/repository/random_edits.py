@@ -222,6 +222,14 @@ class RandomEdits(helper.Check):
             self.assertEqual(self.judged(3, {3: fates[0]}), ({0: "proof", 2: "alive", 3: "proof"}, [], [3]))
             self.assertEqual(self.judged(2, {}), ({0: "proof", 2: "alive"}, [], []))
 
+    def test_failed(self):
+        """of what the runner prints, the checks that failed are those of its list, and no check that was skipped"""
+        said = ("failed    0.25 s  one: it is so\nskipped 1:\n    tests/cli/two.py: it is there: install it\ntook longest:\n"
+                "       0.25 s  tests/cli/one.py: it is so\nfailed 1:\n    tests/cli/one.py: it is so\nonce more: tests/check.sh one.py\n")
+        for printed, wanted in ((said, {"tests/cli/one.py: it is so"}), ("ok   0.25 s  one: it is so\n1 passed, 0 failed\n", set())):
+            with mock.patch.object(edits, "called", lambda *_, printed=printed: (0, printed)):
+                self.assertEqual(edits.failed(Path(self.here), ["cli"]), wanted)
+
     def test_together(self):
         """constants are tried together, and by halves if a check fails; the table counts them by kind, and in the crates up to a limit"""
         drawn = [edits.Edit(crate, "src/lib.rt", number, "another operator", "<", "<=")
