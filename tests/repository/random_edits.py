@@ -225,7 +225,8 @@ class RandomEdits(helper.Check):
     def test_failed(self):
         """of what the runner prints, the checks that failed are those of its list, and no check that was skipped"""
         said = ("ok   0.1 s  one: it is\nfailed   0.25 s  one: it is so\nskipped 1:\n    tests/cli/two.py: it is there: install it\n"
-                "took longest:\n       0.25 s  tests/cli/one.py: it is so\nfailed 1:\n    tests/cli/one.py: it is so\nonce more: tests/check.sh one.py\n")
+                "took longest:\n       0.25 s  tests/cli/one.py: it is so\nfailed 1:\n    tests/cli/one.py: it is so\n"
+                "once more: tests/check.sh one.py\n")
         for printed, wanted in ((said, {"tests/cli/one.py: it is so"}), ("ok   0.25 s  one: it is so\n1 passed, 0 failed\n", set())):
             with mock.patch.object(edits, "called", lambda *_, printed=printed: (0, printed)):
                 self.assertEqual(edits.failed(Path(self.here), ["cli"]), wanted)
