@@ -55,38 +55,36 @@ FILES = {"": ["ocfexec", "ocfexec-run-agent"], "trials": ["trials", "plain"], "s
 
 
 class Edit(Protocol):
-    """An edit of one line of a source, which has that line once."""
+    """An edit of a source."""
     crate: str
     path: str
-    old: str
-    new: str
 
 
-def with_bodies(text: str, bodies: dict[tuple[int, int], list[tuple[int, Edit]]]) -> str:
+# what an edit makes of the bodies of functions in the text of its source, by where each begins and ends
+Bodies = Callable[[str, Edit], dict[tuple[int, int], str]]
+
+
+def with_bodies(text: str, bodies: dict[tuple[int, int], dict[int, str]]) -> str:
     """A source where the bodies at these places, each from its brace to the closing one, are chosen by a number."""
-    for (begin, last), edits in sorted(bodies.items(), reverse=True):
-        chosen = ""
-        for number, edit in edits:
-            at = text.find(edit.old)
-            # (the line of a short body has its braces, too)
-            whole = text[:at] + edit.new + text[at + len(edit.old):]
-            chosen += f"if crate::wrong_body() == {number}u64 {{{whole[begin:last + len(edit.new) - len(edit.old)]}}} else "
+    for (begin, last), by_number in sorted(bodies.items(), reverse=True):
+        chosen = "".join(f"if crate::wrong_body() == {number}u64 {{{body}}} else " for number, body in by_number.items())
         text = f"{text[:begin]}\n{chosen}{{{text[begin:last]}}}\n{text[last:]}"
     return text
 
 
-def put_in(top: Path, edits: Iterable[Edit], body_of: Callable[[str, Edit], tuple[int, int] | None]) -> dict[int, Edit]:
-    """Puts edits into the sources of a copy, and returns them by their numbers; those that are in no body of a function are left out."""
+def put_in(top: Path, edits: Iterable[Edit], bodies_with: Bodies) -> dict[int, Edit]:
+    """Puts edits into the sources of a copy, and returns them by their numbers; those that change no body of a function are left out."""
     by_file: dict[Path, list[Edit]] = {}
     for edit in edits:
         by_file.setdefault(top / "crates" / edit.crate / edit.path, []).append(edit)
     numbers: dict[int, Edit] = {}
     for path, of_file in by_file.items():
-        text, bodies = path.read_text(encoding="utf-8"), {}
+        text, bodies = path.read_text(encoding="utf-8"), collections.defaultdict(dict)
         for edit in of_file:
-            if body := body_of(text, edit):
+            if changed := bodies_with(text, edit):
                 numbers[len(numbers) + 1] = edit
-                bodies.setdefault(body, []).append((len(numbers), edit))
+                for span, body in changed.items():
+                    bodies[span][len(numbers)] = body
         path.write_text(with_bodies(text, bodies), encoding="utf-8")
     for crate in {edit.crate for edit in numbers.values()}:
         root = next(path for name in ("lib", "main") if (path := top / "crates" / crate / f"src/{name}.rt").exists())
@@ -190,10 +188,10 @@ class Trial:
         return "NOT REFUSED"
 
 
-def fates(edits: Iterable[Edit], body_of: Callable[[str, Edit], tuple[int, int] | None], lanes: int) -> Iterator[tuple[Edit, str]]:
+def fates(edits: Iterable[Edit], bodies_with: Bodies, lanes: int) -> Iterator[tuple[Edit, str]]:
     """What the fast checks of the built program say of edits that compile, as they come. Those that are in no body are left out."""
     with copied() as top, tempfile.TemporaryDirectory() as room:
-        numbers = put_in(top, edits, body_of)
+        numbers = put_in(top, edits, bodies_with)
         if not numbers:
             return
         if not build(top):

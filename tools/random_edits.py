@@ -33,6 +33,8 @@ FOLDER = MUTANTS / "out/random"
 NO_CODE = re.compile(r'//[^\n]*|/\*.*?\*/|\bb?r(#*)".*?"\1|"(?:\\.|[^"\\])*"|\'(?:\\(?:x\w\w|u\{\w+\}|.)|[^\\\'\n])\'', re.DOTALL)
 NO_BODY = re.compile(r"\bghost use [^;]*;|#!?(?=\[)|\b(?:requires|ensures)(?: \*)?(?:\s+\w+)?\s*(?=\{)|\bghost\s+\w+\s*[:=]\s*(?=\{)")
 CONSTANT = re.compile(r"^ *(?:pub(?:\([a-z]+\))? )?const \w+: [^=;\n]*=([^;\n]*);", re.MULTILINE)
+# a private constant of a number: its name, type and value
+PRIVATE = re.compile(r"const (\w+): (\w+) = ([\d_]+);")
 PAIRS = {"(": ")", "[": "]", "{": "}"}
 SWAPS = {one: other for pair in ("< <=", "> >=", "== !=", "&& ||", "+ -", "+= -=") for one, other in zip(pair.split(), pair.split()[::-1])}
 PLAIN = {"bool": ["true", "false"], "Option": ["None"], "Result<()": ["Ok(())"], **{f"{sign}{size}": ["0"] for sign in "iu"
@@ -86,8 +88,12 @@ class Edit:
         return None if CONSTANT.match(code_of(self.old)) else bodies.function_at(text, text.find(self.old))
 
     @property
+    def folder(self) -> Path:
+        return TOP / "crates" / self.crate
+
+    @property
     def source(self) -> Path:
-        return TOP / "crates" / self.crate / self.path
+        return self.folder / self.path
 
     @property
     def file(self) -> Written:
@@ -331,22 +337,42 @@ def without_answers(path: Path, names: set[str]) -> None:
     path.write_text("\n".join(kept), encoding="utf-8")
 
 
-def fate_by_search(edit: Edit, texts: bodies.Texts) -> str:
-    """What becomes of an edit that changes names which answers have, where those goals are searched instead: it is refused if one of them
-    is false. That the search did not find a proof which a person wrote before shows nothing."""
+def fates_by_search(edits: list[Edit]) -> dict[Edit, str]:
+    """What becomes of edits of different functions of a crate that change names which answers have, where those goals are searched
+    instead: one is refused if a goal of it is false. That the search did not find a proof which a person wrote before shows nothing. Those
+    that waited for others are tried once more without them, and each alone if a goal belongs to none of them."""
     with bodies.copied() as copy:
-        folder, kept = copy / "crates" / edit.crate, Path("crates", edit.crate, "out/incremental")
+        kept = Path("crates", edits[0].crate, "out/incremental")
         shutil.copytree(TOP / kept, copy / kept)
+        printed = said_by_search(copy / "crates" / edits[0].crate, edits)
+    found = [(line, bodies.goal(edits[0].crate, line)) for line in bodies.GOAL.findall(printed)]
+    is_alone, waits = len(edits) == 1, set(bodies.WAITS.findall(printed))
+    if not is_alone and any(not any(function in edit.file.wanted for edit in edits) for _, function in found):
+        return {edit: fate for one in edits for edit, fate in fates_by_search([one]).items()}
+    goals = {edit: [line for line, function in found if is_alone or function in edit.file.wanted] for edit in edits}
+    waiting = [edit for edit, lines in goals.items() if not lines and edit.file.wanted & waits]
+    again = fates_by_search(waiting) if waiting and len(waiting) < len(edits) else {}
+    return {edit: search_fate(lines) for edit, lines in goals.items()} | again
+
+
+def said_by_search(folder: Path, edits: list[Edit]) -> str:
+    """What a check says of edits in a copy of their crate, once it has no answers any more with names that are gone."""
+    for edit in edits:
         edit.file.applied(folder)
-        for _ in range(5):
-            found = bodies.GOAL.findall(bodies.checked(folder, [edit.file]))
-            gone = [line for line in found if bodies.GONE.match(line)]
-            for path, name in (answer.groups() for line in gone if (answer := ANSWER.match(line))):
-                without_answers(folder / path, {name})
-            if not gone:
-                break
-    by = next((line for line in found if FALSE in line), None)
-    return f"refused: {by[:200]}" if by else f"ONLY BY A NAME: {found[0][:200]}" if found else "NOT REFUSED: its functions are still proved"
+    for _ in range(5):
+        printed = bodies.checked(folder, [edit.file for edit in edits])
+        gone = [line for line in bodies.GOAL.findall(printed) if bodies.GONE.match(line)]
+        for path, name in (answer.groups() for line in gone if (answer := ANSWER.match(line))):
+            without_answers(folder / path, {name})
+        if not gone:
+            break
+    return printed
+
+
+def search_fate(goals: list[str]) -> str:
+    """The fate that these goals mean, which no search proved."""
+    by = next((line for line in goals if FALSE in line), None)
+    return f"refused: {by[:200]}" if by else f"ONLY BY A NAME: {goals[0][:200]}" if goals else "NOT REFUSED: its functions are still proved"
 
 
 def fate_above(edit: Edit, texts: bodies.Texts) -> str:
@@ -366,13 +392,26 @@ def fate_above(edit: Edit, texts: bodies.Texts) -> str:
     return "NOT REFUSED"
 
 
-def body_of(text: str, edit: Edit) -> tuple[int, int] | None:
-    """Where the body of a function begins and ends that an edit is in; none for a constant, and for a function that is computed in types."""
-    if may_be_seen(edit):
-        return None
+def bodies_of(text: str) -> list[tuple[int, int]]:
+    """Where the bodies of the functions of a source begin and end."""
+    code = code_of(text)
+    return [body for found in bodies.FUNCTION.finditer(code) if (body := body_at(code, found.end()))]
+
+
+def bodies_with(text: str, edit: Edit) -> dict[tuple[int, int], str]:
+    """The bodies of functions that an edit of a source changes, by where each begins and ends, as they are with it; none for a function
+    that is computed in types, and for a constant that has a use outside of the bodies of this source, or is no plain number."""
+    if not edit.function:
+        constant = None if may_be_seen(edit) else PRIVATE.match(edit.new)
+        name, size, value = constant.groups() if constant else ("", "", "")
+        found = {span: text[slice(*span)] for span in bodies_of(text)} if constant else {}
+        return {span: re.sub(rf"\b{name}\b", value + size, body) for span, body in found.items() if re.search(rf"\b{name}\b", body)}
     at, end = text.find(edit.old), text.find(edit.old) + len(edit.old)
-    return next(((begin, last) for begin, last, _ in regions(code_of(text))
-                 if begin < end and at + len(edit.old) - len(edit.old.lstrip()) < last), None)
+    # (the line of a short body has its braces, too)
+    whole = text[:at] + edit.new + text[end:]
+    return {} if may_be_seen(edit) else {
+        (begin, last): whole[begin:last + len(edit.new) - len(edit.old)] for begin, last in bodies_of(text)
+        if begin < end and at + len(edit.old) - len(edit.old.lstrip()) < last}
 
 
 @functools.cache
@@ -407,8 +446,17 @@ def fates_of_tests(edits: list[Edit]) -> dict[Edit, str]:
 
 
 def may_be_seen(edit: Edit) -> bool:
-    """Whether an edit changes more than a body, which no other crate sees: a constant, or a function that is computed in types."""
-    return not edit.function or f"const fn {edit.function}" in edit.source.read_text(encoding="utf-8")
+    """Whether an edit changes more than bodies, which no other crate sees: a function that is computed in types, or a constant that is used
+    outside of the bodies of its own source."""
+    text = edit.source.read_text(encoding="utf-8")
+    if edit.function:
+        return f"const fn {edit.function}" in text
+    name = re.search(r"\bconst (\w+):", edit.old)[1]
+    for begin, last in reversed(bodies_of(text)):
+        text = text[:begin] + text[last:]
+    texts = [path.read_text(encoding="utf-8") for part in ("src", "specs") for path in edit.folder.glob(f"{part}/**/*") if path.is_file()
+             and path != edit.source]
+    return edit.old.startswith("pub ") or sum(len(re.findall(rf"\b{name}\b", each)) for each in [text, *texts]) > 1
 
 
 @dataclass
@@ -435,10 +483,11 @@ class Judge:
         """The stages of an edit, each with the sum of what its answer rests on."""
         own, whole = self.texts.sum_of(edit.file), self.texts.sum_of(edit.file, bodies.PROGRAM)
         yield from (("compiler", own), ("proof", own))
-        if may_be_seen(edit):
-            yield "above", whole
+        # (the checks take less time than the proofs of all crates above)
         if self.with_tests:
             yield "test", whole
+        if may_be_seen(edit):
+            yield "above", whole
 
     def note(self, edit: Edit, fate: str) -> None:
         if not fate.startswith("NOT TRIED"):
@@ -458,10 +507,11 @@ class Judge:
         fates, printed = bodies.judged(crate, [edit.file for edit in edits])
         after = bodies.Texts()
         print(f"{crate}: {len(edits)} tried in {time.monotonic() - began:.0f} s", *([] if fates else printed.splitlines()[-20:]), sep="\n")
+        weak = [edit for edit in edits if fates.get(edit.name, "").startswith("ONLY BY A NAME")]
+        for group in bodies.apart(weak, lambda edit: edit.file.touched | edit.file.wanted):
+            fates |= {edit.name: fate for edit, fate in fates_by_search(group).items()}
         for edit in edits:
             fate = fates.get(edit.name, "NOT TRIED: nothing was printed of it").replace("BAD EDIT", "NOT TRIED")
-            if fate.startswith("ONLY BY A NAME"):
-                fate = fate_by_search(edit, self.texts)
             if after.sum_of(edit.file) != self.texts.sum_of(edit.file):
                 fate = "NOT TRIED: a file that it rests on changed meanwhile"
             by = bodies.goal(crate, fate) if fate.startswith("refused") else None
@@ -469,11 +519,12 @@ class Judge:
 
     def test(self, edits: list[Edit]) -> Iterator[tuple[Edit, str]]:
         """What the checks of the built program say of edits."""
-        together = [edit for edit in edits if not may_be_seen(edit) and edit.crate in self.texts.at_or_below(bodies.PROGRAM)]
+        of_program = self.texts.at_or_below(bodies.PROGRAM)
+        together = [edit for edit in edits if edit.crate in of_program and bodies_with(edit.source.read_text(encoding="utf-8"), edit)]
         for group in bodies.apart((edit for edit in edits if edit not in together), line_of):
             yield from fates_of_tests(group).items()
         if together:
-            yield from one_program.fates(together, body_of, self.lanes)
+            yield from one_program.fates(together, bodies_with, self.lanes)
 
     def try_all(self, edits: Iterable[Edit]) -> None:
         """Moves each of these on by one stage."""
@@ -482,10 +533,10 @@ class Judge:
             by_stage[self.stage(edit)[0]][edit.crate].append(edit)
         for stage, call in (("compiler", self.compile), ("proof", self.prove)):
             collections.deque(bodies.in_lanes(by_stage[stage], self.lanes, call), maxlen=0)
-        for edit in itertools.chain(*by_stage["above"].values()):
-            self.note(edit, fate_above(edit, self.texts))
         for edit, fate in self.test([*itertools.chain(*by_stage["test"].values())]):
             self.note(edit, fate)
+        for edit in itertools.chain(*by_stage["above"].values()):
+            self.note(edit, fate_above(edit, self.texts))
 
 
 def written(edit: Edit) -> Edit:

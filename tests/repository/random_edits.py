@@ -143,17 +143,32 @@ class RandomEdits(helper.Check):
             checked = mock.Mock(side_effect=[gone, after])
             top = contextlib.nullcontext(Path(self.place("copy")))
             with random, sources, mock.patch.multiple(bodies, checked=checked, copied=lambda top=top: top):
-                self.assertIn(wanted, edits.fate_by_search(edits.written(drawn), SimpleNamespace(at_or_below=lambda _: [])))
+                self.assertIn(wanted, edits.fates_by_search([edits.written(drawn)])[drawn])
             self.assertEqual(answers.read_text(encoding="utf-8"), "use A.{a}\n\npub last : goal.last\nlast c = a\n")
             Path(copy, "src/lib.rt").write_text(SOURCE, encoding="utf-8")
             os.rmdir(copy / "out/incremental")
+
+    def test_searched_together(self):
+        """edits of different functions are searched together; one that waits for another once more, and each alone if a goal is of none"""
+        text = "//! low\n\n" + "".join(f"fn f{number}() {{\n    f({number}, {number + 9});\n}}\n" for number in range(3))
+        random, sources, _ = self.source(text)
+        drawn = [next(edit for edit in line if edit.kind == "arguments exchanged") for line in edits.edits_of("low", "src/lib.rt", text)]
+        none, first, second, third = (f"note: src/lib.rt:{line}:5: the facts {edits.FALSE}" for line in (1, 4, 7, 10))
+        for together, alone, wanted in ((f"{first}\nfn low::f1: no proof: it calls f0", [second], ["refused", "refused", "NOT REFUSED"]),
+                                        (none, ["", "", third], ["NOT REFUSED", "NOT REFUSED", "refused"])):
+            checked = mock.Mock(side_effect=[together, *alone])
+            copied = mock.Mock(return_value=contextlib.nullcontext(Path(self.place("copy"))))
+            with random, sources, mock.patch.multiple(bodies, checked=checked, copied=copied), mock.patch.object(edits.shutil, "copytree"):
+                found = edits.fates_by_search([edits.written(edit) for edit in drawn])
+            self.assertEqual([found[edit].partition(":")[0] for edit in drawn], wanted)
+            self.assertEqual(checked.call_count, 1 + len(alone))
 
     def test_one_program(self):
         """edits of one program are bodies that a number chooses, and its copy with another number has other bytes at one place"""
         random, sources, copy = self.source(SOURCE)
         drawn = [edit for line in edits.edits_of("low", "src/lib.rt", SOURCE) for edit in line]
         with random, sources:
-            numbers = one_program.put_in(Path(self.place("copy")), drawn, edits.body_of)
+            numbers = one_program.put_in(Path(self.place("copy")), drawn, edits.bodies_with)
         self.assertEqual([*numbers.values()], [edit for edit in drawn if "LIMIT" not in edit.old])
         text = (copy / "src/lib.rt").read_text(encoding="utf-8")
         for number, edit in numbers.items():
@@ -163,6 +178,22 @@ class RandomEdits(helper.Check):
         body = "\n    // put(1, 2);\n    say"
         self.assertEqual(text[:SOURCE.index(body)], SOURCE[:SOURCE.index(body)])
         self.assertIn(f"else {{{body}", text)
+
+    def test_constant(self):
+        """a private number that only bodies of its own source use is changed in each of these; no other crate sees it"""
+        source = "const MOST: u32 = 9; // edited\n\nfn f() -> u32 {\n    MOST\n}\n\nfn g() {\n    f();\n}\n\nfn h() {\n    put(MOST);\n}\n"
+        random, sources, copy = self.source(source)
+        path = Path(self.place("crates/low/src/lib.rt"))
+        for more, wanted in (("", {"\n    10u32\n", "\n    put(10u32);\n"}), ("const TWICE: u32 = 2 * MOST;\n", set())):
+            path.write_text(source + more, encoding="utf-8")
+            drawn = edits.edits_of("low", "src/lib.rt", source + more)[0][0]
+            with random, sources:
+                self.assertEqual(set(edits.bodies_with(source + more, drawn).values()), wanted)
+                self.assertEqual(edits.may_be_seen(drawn), bool(more))
+        with random, sources:
+            path.write_text(source, encoding="utf-8")
+            self.assertEqual([*one_program.put_in(Path(self.place("copy")), [drawn], edits.bodies_with)], [1])
+        self.assertEqual((copy / "src/lib.rt").read_text(encoding="utf-8").count("if crate::wrong_body() == 1u64 {"), 2)
 
     def test_trial(self):
         """a check shows an edit if it fails twice with it, and not without it"""
