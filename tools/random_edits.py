@@ -2,10 +2,11 @@
 """Random wrong bodies: edits of one line of the product's sources, drawn with a seed; each line that has an edit is as likely as any other.
 An edit that does not compile is replaced by the next one of the seed, so a seed and a count always mean the same edits of the same texts.
 
-What becomes of each: the proof of its crate refuses it; or, where it changes what other crates see, the proof of a crate that names its
-crate; or, with --tests, a check of `make check FAST=1` of the program compiled with it; or it is alive. Edits of one crate are tried
+What becomes of each: the proof of its crate refuses it; or, with --tests, a check of `make check FAST=1` of the program compiled with it;
+or, where it changes what other crates see, the proof of a crate that names its crate; or it is alive. Edits of one crate are tried
 together. mutants/out/random has the edits, and in its file `tried` what became of each, with the sum of the crates' texts that this rests
-on, so an interrupted run goes on, on another machine, too, which has this file. The table is over the edits of this call.
+on, so an interrupted run goes on. mutants/random.tried has the same of the score in docs/TESTING.md, which is read, too, and never written
+here. The table is over the edits of this call.
 
 Use: random_edits.py [--seed N] [--count M] [--tests] [-j CRATES] [CRATE..]"""
 import argparse
@@ -30,6 +31,8 @@ import wrong_bodies as bodies
 from wrong_bodies import MUTANTS, TOP, called
 
 FOLDER = MUTANTS / "out/random"
+# what became of the edits of the score in docs/TESTING.md
+SCORE = MUTANTS / "random.tried"
 NO_CODE = re.compile(r'//[^\n]*|/\*.*?\*/|\bb?r(#*)".*?"\1|"(?:\\.|[^"\\])*"|\'(?:\\(?:x\w\w|u\{\w+\}|.)|[^\\\'\n])\'', re.DOTALL)
 NO_BODY = re.compile(r"\bghost use [^;]*;|#!?(?=\[)|\b(?:requires|ensures)(?: \*)?(?:\s+\w+)?\s*(?=\{)|\bghost\s+\w+\s*[:=]\s*(?=\{)")
 CONSTANT = re.compile(r"^ *(?:pub(?:\([a-z]+\))? )?const \w+: [^=;\n]*=([^;\n]*);", re.MULTILINE)
@@ -267,15 +270,15 @@ def drawn(lines: list[list[Edit]], seed: int) -> Iterator[Edit]:
 
 
 class Kept:
-    """What became of edits, by the beginning of the sum of the texts that it rests on."""
+    """What became of edits, by the beginning of the sum of the texts that it rests on: as earlier calls kept it, and as this one does, in
+    the last of these files."""
 
-    def __init__(self, path: Path):
-        self.path, self.fates = path, {}
-        with contextlib.suppress(FileNotFoundError):
-            for line in path.read_text(encoding="utf-8").splitlines():
-                with contextlib.suppress(ValueError, KeyError):
-                    one = json.loads(line)
-                    self.fates[one["sum"]] = one["fate"]
+    def __init__(self, *paths: Path):
+        self.path, self.fates = paths[-1], {}
+        for line in itertools.chain(*(path.read_text(encoding="utf-8").splitlines() for path in paths if path.exists())):
+            with contextlib.suppress(ValueError, KeyError):
+                one = json.loads(line)
+                self.fates[one["sum"]] = one["fate"]
 
     def of(self, stage: str, total: str) -> str | None:
         return self.fates.get(f"{stage} {total[:16]}")
@@ -590,7 +593,7 @@ def main() -> int:
     lines = all_edits(words.crates or product(texts))
     if not lines:
         sys.exit("random_edits.py: these crates have no line to edit")
-    found = judged(drawn(lines, words.seed), words.count, Judge(texts, Kept(FOLDER / "tried"), words.tests, words.j))
+    found = judged(drawn(lines, words.seed), words.count, Judge(texts, Kept(SCORE, FOLDER / "tried"), words.tests, words.j))
     print(table(found, [crate for crate in product(texts) if crate in texts.at_or_below("executor")]))
     return 1 if "?" in found.values() else 0
 
