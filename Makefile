@@ -38,12 +38,13 @@ mutants:
 bench:
 	@bench/rates.sh
 
-# Draws docs/pictures/performance.svg from one run of the comparison with pacemaker-execd and the floor, and keeps what it draws of the figures
-# beside it, as JSON; nothing else should run meanwhile.
-# It needs python3-matplotlib and the needs of bench/against_execd.sh. ROUNDS=1 is a trial, and the picture says so.
+# Draws docs/pictures/performance.svg from one run of the comparison with pacemaker-execd and the floor, and docs/pictures/scale.svg: how the
+# program grows with resources and monitors. What they draw is kept beside them, as JSON. Nothing else should run meanwhile.
+# It needs python3-matplotlib and the needs of bench/against_execd.sh. ROUNDS=1 is a trial, and the pictures say so.
 plots: $(PROGRAM)
 	@figures=$$(mktemp) && FIGURES=$$figures bench/against_execd.sh $(PROGRAM) $(or $(ROUNDS),7) rates waits answers && \
 		bench/plots.py $$figures docs/pictures/performance.svg; status=$$?; rm -f $$figures; exit $$status
+	@bench/scale.py $(PROGRAM) docs/pictures/scale.svg $(or $(ROUNDS),7)
 
 # Measures the cost of each crate in a gate from scratch, and writes the table of docs/ARCHITECTURE.md. Nothing else should run meanwhile. A
 # kit whose gate keeps what it proved is asked to begin from scratch; any other always does.

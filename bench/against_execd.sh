@@ -129,7 +129,7 @@ median() {
     sort -g | awk '{ all[NR] = $1 } END { if (NR) print all[int((NR + 1) / 2)]; else print "-" }'
 }
 
-# A number with so many digits behind the point, or what stands in its place. Use: rounded DIGITS
+# A number with so many digits after the point, or what stands in its place. Use: rounded DIGITS
 rounded() {
     awk -v digits="$1" '/^-$/ { print; next } { printf "%.*f\n", digits, $1 }'
 }
@@ -245,26 +245,26 @@ waiting() {
     echo | "${words[@]}" | awk '{ printf "%.2f %%", $1 * 100 }'
 }
 
-# How long after its agent's last word an end is told, in milliseconds, a line each: of one resource whose agents wait
+# How long after its agent's last word an end is reported, in milliseconds, a line each: of one resource whose agents wait
 # for 10 milliseconds, or of many whose agents end 4 milliseconds after one another. Use: late SYSTEM WIDTH
 late() {
     local words
     rm -f "$here/to"
     if [ "$2" -eq 1 ]; then
         load_of "$1" ends Compiled 1 32 10 0 "$here/to"
-        yes '' | head -n 5 | "${words[@]}" > "$here/told"
+        yes '' | head -n 5 | "${words[@]}" > "$here/reported"
     else
         load_of "$1" ends Compiled "$2" 1 1500 4 "$here/to"
-        echo | "${words[@]}" > "$here/told"
+        echo | "${words[@]}" > "$here/reported"
     fi
-    awk 'NR == FNR { at[$1, ends[$1]++] = $2; next } { print ($2 - at[$1, told[$1]++]) / 1e6 }' "$here/to" "$here/told"
+    awk 'NR == FNR { at[$1, ends[$1]++] = $2; next } { print ($2 - at[$1, reported[$1]++]) / 1e6 }' "$here/to" "$here/reported"
 }
 
 waits() {
     local system width
     echo "Waiting"
     echo
-    echo "| Executor | Children | Waiting, of a core | An end told after: median | 99th of 100 |"
+    echo "| Executor | Children | Waiting, of a core | An end reported after: median | 99th of 100 |"
     echo "|---|---|---|---|---|"
     for system in execd ours-memory; do
         [ "$system" != execd ] || [ -n "$execd" ] || continue
@@ -299,7 +299,7 @@ answers() {
 
 # ---- Monitors
 
-# Registrations of so many resources with so many monitors each, of this interval in milliseconds and the ones behind it.
+# Registrations of so many resources with so many monitors each, of this interval in milliseconds and the ones after it.
 # Use: monitored WIDTH MONITORS INTERVAL
 monitored() {
     local n monitor
@@ -315,14 +315,14 @@ monitored() {
 # hour each, which have all run once. Use: resting WIDTH MONITORS
 resting() {
     local fed began ended pid
-    : > "$here/told"
+    : > "$here/reported"
     mkfifo "$here/lines"
-    "$program" serve --memory --root "$here/root" < "$here/lines" > "$here/told" &
+    "$program" serve --memory --root "$here/root" < "$here/lines" > "$here/reported" &
     pid=$!
     exec {fed}> "$here/lines"
     rm "$here/lines"
     monitored "$1" "$2" 3600000 >&"$fed"
-    until [ "$(grep -c '"outcome"' "$here/told")" -eq $(($1 * $2)) ]; do
+    until [ "$(grep -c '"outcome"' "$here/reported")" -eq $(($1 * $2)) ]; do
         sleep 0.1
     done
     sleep 1
@@ -334,7 +334,7 @@ resting() {
     awk -v spent=$((ended - began)) 'BEGIN { printf "%.3f %%", spent / 1e8 }'
 }
 
-# How many milliseconds behind its due moment a monitor began, a line each: one resource with a monitor of 100 milliseconds,
+# How many milliseconds after its due moment a monitor began, a line each: one resource with a monitor of 100 milliseconds,
 # for ten seconds, with nothing else to do.
 begun_late() {
     { monitored 1 1 100; sleep 10; } | "$program" serve --memory --root "$here/root" |

@@ -9,7 +9,7 @@
 static lrmd_t *executor;
 static int channel, waited;
 
-static void heard(lrmd_event_data_t *event) {
+static void count_end(lrmd_event_data_t *event) {
     if (event->type == lrmd_event_disconnect)
         fail("pacemaker-execd ended");
     if (event->type != lrmd_event_exec_complete)
@@ -27,7 +27,7 @@ static const char *id_of(int resource) {
 
 pid_t executor_open(const struct load *load, char **words) {
     executor = lrmd_api_new();
-    executor->cmds->set_callback(executor, heard);
+    executor->cmds->set_callback(executor, count_end);
     if (executor->cmds->connect(executor, "bench", &channel) != pcmk_ok)
         fail("pacemaker-execd does not answer");
     for (int n = 0; n < load->width; n++)
@@ -42,7 +42,7 @@ static lrmd_key_value_t *parameters(const struct load *load, int resource) {
     snprintf(wait, sizeof wait, "%d", load_wait(load, resource));
     if (load_wait(load, resource))
         all = lrmd_key_value_add(all, "wait", wait);
-    if (load_tells(load))
+    if (load_notes(load))
         all = lrmd_key_value_add(all, "to", load->to);
     return all;
 }

@@ -1,6 +1,6 @@
 /* A load on an executor, again for each line of standard input, or once. `rate` prints the seconds of the whole, those of the
    drain alone, and the processor seconds of the executor; `ends` prints a line `RESOURCE NANOSECONDS` when each end is
-   told; `idle` prints the processor seconds of the executor for each second in which it waits for its agents; `asks` prints
+   reported; `idle` prints the processor seconds of the executor for each second in which it waits for its agents; `asks` prints
    the seconds of each of a thousand questions, a millisecond after one another, while all agents run.
    Use: load rate|ends|idle|asks AGENT WIDTH DEPTH WAIT STEP TO WORD.. */
 #include "load.h"
@@ -17,8 +17,8 @@ enum { MOST = 256 * 32, SETTLING_SECONDS = 1, WINDOW_SECONDS = 2, QUESTIONS = 10
 static struct {
     int resource;
     double at;
-} told[MOST];
-static int tellings;
+} reported[MOST];
+static int report_count;
 
 void fail(const char *text) {
     fprintf(stderr, "load: %s\n", text);
@@ -42,13 +42,13 @@ static clockid_t processor_clock(pid_t pid) {
 }
 
 void load_ended(int resource, int code) {
-    if (code != 0 || tellings == MOST)
+    if (code != 0 || report_count == MOST)
         fail("an action failed");
-    told[tellings].resource = resource;
-    told[tellings++].at = seconds(CLOCK_MONOTONIC);
+    reported[report_count].resource = resource;
+    reported[report_count++].at = seconds(CLOCK_MONOTONIC);
 }
 
-int load_tells(const struct load *load) {
+int load_notes(const struct load *load) {
     return strcmp(load->to, "-") != 0;
 }
 
@@ -68,8 +68,8 @@ static void rate(const struct load *load, clockid_t clock) {
 static void ends(const struct load *load) {
     executor_queue(load);
     executor_drain(load);
-    for (int n = 0; n < tellings; n++)
-        printf("r%d %.0f\n", told[n].resource, told[n].at * 1e9);
+    for (int n = 0; n < report_count; n++)
+        printf("r%d %.0f\n", reported[n].resource, reported[n].at * 1e9);
 }
 
 /* Another process looks at the clock, since this one waits in the drain. */
@@ -102,7 +102,7 @@ static void asks(const struct load *load) {
 }
 
 static void run(const char *mode, const struct load *load, clockid_t clock) {
-    tellings = 0;
+    report_count = 0;
     if (!strcmp(mode, "rate"))
         rate(load, clock);
     else if (!strcmp(mode, "ends"))
@@ -111,7 +111,7 @@ static void run(const char *mode, const struct load *load, clockid_t clock) {
         asks(load);
     else
         idle(load, clock);
-    if (tellings != load->width * load->depth)
+    if (report_count != load->width * load->depth)
         fail("not every action ended");
     fflush(stdout);
 }

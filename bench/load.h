@@ -16,7 +16,7 @@ struct load {
 };
 
 /* Whether the parameter `to` is given. */
-int load_tells(const struct load *load);
+int load_notes(const struct load *load);
 
 /* The parameter `wait` of a resource, or 0. */
 int load_wait(const struct load *load, int resource);
@@ -36,7 +36,7 @@ void executor_ask(void);
 /* Unregisters the resources, or ends the executor. */
 void executor_close(const struct load *load);
 
-/* The start of a resource has ended and been told, with this exit code. */
+/* The start of a resource has ended and been reported, with this exit code. */
 void load_ended(int resource, int code);
 
 /* Ends the load with status 1 and this text. */

@@ -1,6 +1,6 @@
 #!/usr/bin/env python3
 """How long the opening of a journal takes until `serve` says that it is ready: of a journal whose part is full of the shortest records,
-and of one with a single record. Since other programs count into that, the processor time of the whole run is told too; it ends after its
+and of one with a single record. Since other programs count into that, the processor time of the whole run is printed, too; it ends after its
 ready line. All programs are asked by turns, each over a copy of the files.
 Use: openings.py [--rounds N] PROGRAM.."""
 import argparse

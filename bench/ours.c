@@ -1,5 +1,5 @@
 /* ocfexec under load, by lines of JSON over two pipes. The words are the program and its words: where it serves, it first says that it
-   is ready, and ends are told between the replies; otherwise in a drain. */
+   is ready, and ends are reported between the replies; otherwise in a drain. */
 #define _GNU_SOURCE
 #include "load.h"
 
@@ -22,14 +22,14 @@ static const char *next_line(void) {
     return line;
 }
 
-/* The number behind a key of a line. */
+/* The number after a key of a line. */
 static int member(const char *line, const char *key) {
     const char *found = strstr(line, key);
     return found ? atoi(found + strlen(key)) : -1;
 }
 
 /* Whether a line is a notice of an end, which is taken then. */
-static int heard(const char *line) {
+static int take_line(const char *line) {
     if (!strstr(line, "\"outcome\""))
         return 0;
     waited--;
@@ -40,7 +40,7 @@ static int heard(const char *line) {
 /* The next reply. */
 static const char *next_reply(void) {
     const char *line = next_line();
-    while (heard(line))
+    while (take_line(line))
         line = next_line();
     return line;
 }
@@ -73,7 +73,7 @@ static void put_parameters(const struct load *load, int resource) {
     int wait = load_wait(load, resource);
     if (wait)
         fprintf(commands, "\"wait\":\"%d\"", wait);
-    if (load_tells(load))
+    if (load_notes(load))
         fprintf(commands, "%s\"to\":\"%s\"", wait ? "," : "", load->to);
 }
 
@@ -104,7 +104,7 @@ void executor_queue(const struct load *load) {
 void executor_drain(const struct load *load) {
     (void)load;
     while (serves && waited > 0)
-        if (!heard(next_line()))
+        if (!take_line(next_line()))
             fail("a reply to nothing");
     if (serves)
         return;

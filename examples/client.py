@@ -75,7 +75,7 @@ class Client:
     def __init__(self, options: argparse.Namespace) -> None:
         self.file, self.patience, command_line = options.file, options.patience, options.command_line
         self.asked: List[int] = []
-        self.told = ""  # the state that systemd was told
+        self.status = ""  # what systemd was sent last
         self.wake, waker = os.pipe()
         for end in (self.wake, waker):
             os.set_blocking(end, False)
@@ -197,12 +197,12 @@ class Client:
         by_state: Dict[str, List[str]] = {}
         for resource in self.resources.values():
             by_state.setdefault("held" if resource.held else resource.state, []).append(resource.name)
-        told = "STATUS=" + ("; ".join(f"{state}: {', '.join(names)}" for state, names in by_state.items()) or "nothing is configured")
+        status = "STATUS=" + ("; ".join(f"{state}: {', '.join(names)}" for state, names in by_state.items()) or "nothing is configured")
         if not self.is_ready and all(resource.is_settled or not resource.wanted for resource in self.resources.values()):
             self.is_ready, lines = True, (*lines, "READY=1")
-        if lines or told != self.told:
-            self.systemd.notify(*lines, told)
-            self.told = told
+        if lines or status != self.status:
+            self.systemd.notify(*lines, status)
+            self.status = status
 
     # The control socket
 

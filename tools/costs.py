@@ -169,9 +169,9 @@ def put_into(path, text):
         whole = file.read()
     if whole.count(BEGIN) != 1 or whole.count(END) != 1:
         sys.exit(f"costs.py: {path} has not one line {BEGIN} and one line {END}")
-    front, behind = whole.split(BEGIN)[0], whole.split(END)[1]
+    front, after = whole.split(BEGIN)[0], whole.split(END)[1]
     with open(path, "w", encoding="utf-8") as file:
-        file.write(f"{front}{BEGIN}\n{text}\n{END}{behind}")
+        file.write(f"{front}{BEGIN}\n{text}\n{END}{after}")
 
 
 def main():

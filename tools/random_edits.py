@@ -389,9 +389,9 @@ def fate_above(edit: Edit, texts: bodies.Texts) -> str:
             return "NOT REFUSED: the library has the same interface"
         for crate in sorted(crate for crate, (_, below) in texts.words.items() if edit.crate in below):
             status, said = called(copy / "crates" / crate, "rt", "check")
-            told = next((line for line in said.splitlines() if re.search(r":\d+:\d+: error|^note: ", line)), said[-200:])
+            line = next((line for line in said.splitlines() if re.search(r":\d+:\d+: error|^note: ", line)), said[-200:])
             if status:
-                return f"refused by {crate}: {told}" if "logic=not-proved" in said else f"NOT TRIED: {crate}: {told}"
+                return f"refused by {crate}: {line}" if "logic=not-proved" in said else f"NOT TRIED: {crate}: {line}"
     return "NOT REFUSED"
 
 

@@ -133,9 +133,9 @@ class Source:
         """The words of a text that have a meaning, in their order, with that meaning; labels and projections have none."""
         code = re.sub(r"(?:--|//).*|^ +(?:pub )?[\w']+ :|(?<=[{;])\s*[\w']+ =(?!=)", "", text, flags=re.MULTILINE)
         for word in WORD.finditer(code):
-            behind = re.match(r"\.([\w']+)", code[word.end():])
-            if behind and word[0] in self.prefixes:
-                yield word[0] + ".", imported(self.prefixes[word[0]], behind[1])
+            field = re.match(r"\.([\w']+)", code[word.end():])
+            if field and word[0] in self.prefixes:
+                yield word[0] + ".", imported(self.prefixes[word[0]], field[1])
             elif word[0] in self.means:
                 yield word[0], self.means[word[0]]
 

@@ -56,16 +56,16 @@ func (e *Executor) ask(ctx context.Context, command Command, keeps bool) (json.R
 // line is a command as a line. One to which {"end":..} may reply has a tag, since without one that line could be about the program's own
 // turns.
 func (c Command) line() ([]byte, error) {
-	told := Command{}
+	sent := Command{}
 	switch c["op"] {
 	case "drain", "watch":
 		return nil, errors.New("an executor that serves acts by itself, and is not asked to drain or to watch")
 	case "tidy", "leave", "meta":
-		told["tag"] = ""
+		sent["tag"] = ""
 	}
 	for key, value := range c {
-		told[key] = value
+		sent[key] = value
 	}
-	text, err := json.Marshal(told)
+	text, err := json.Marshal(sent)
 	return append(text, '\n'), err
 }

@@ -33,7 +33,7 @@ type program struct {
 	stdout    io.Reader
 	unsent    chan []byte
 	questions []*question
-	heard     time.Time // when its last line came, or the first of its questions was asked
+	lastLine  time.Time // when its last line came, or the first of its questions was asked
 	ready     *Ready
 	report    []Result
 	isOpen    bool
@@ -82,7 +82,7 @@ func (p *program) ask(asked *question, text []byte) bool {
 		return false
 	}
 	if len(p.questions) == 0 {
-		p.heard = time.Now()
+		p.lastLine = time.Now()
 	}
 	p.unsent <- text
 	p.questions = append(p.questions, asked)
@@ -139,7 +139,7 @@ func (e *Executor) watch(p *program) {
 	}
 	if p.ready != nil && len(p.questions) == 0 {
 		p.ask(&question{what: "an answer"}, []byte("{\"op\":\"version\"}\n"))
-	} else if p.ready != nil && time.Since(p.heard) > e.options.Patience+p.questions[0].limit {
+	} else if p.ready != nil && time.Since(p.lastLine) > e.options.Patience+p.questions[0].limit {
 		e.kill(p, fmt.Errorf("%w: %s did not come", ErrNoAnswer, p.questions[0].what))
 	}
 	every := e.options.Patience / 4
@@ -179,7 +179,7 @@ func (e *Executor) take(p *program, text []byte) error {
 	if p.err != nil {
 		return p.err
 	}
-	p.heard = time.Now()
+	p.lastLine = time.Now()
 	err := e.takeLine(p, text)
 	if err != nil {
 		e.kill(p, fmt.Errorf("%w: %.200q", ErrGarbled, text))

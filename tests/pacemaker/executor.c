@@ -31,19 +31,19 @@ char *json_text(const char *text) {
 }
 
 /* The value of a key, or an empty text. */
-static const char *behind(const char *line, const char *key) {
+static const char *after(const char *line, const char *key) {
     g_autofree char *quoted = g_strdup_printf("\"%s\":", key);
     const char *found = strstr(line, quoted);
     return found ? found + strlen(quoted) : "";
 }
 
 gint64 json_number(const char *line, const char *key) {
-    const char *digits = behind(line, key);
+    const char *digits = after(line, key);
     return g_ascii_isdigit(*digits) ? g_ascii_strtoll(digits, NULL, 10) : -1;
 }
 
 char *json_word(const char *line, const char *key) {
-    const char *word = behind(line, key);
+    const char *word = after(line, key);
     return *word == '"' ? g_strndup(word + 1, strcspn(word + 1, "\"")) : NULL;
 }
 

@@ -29,10 +29,10 @@ static xmlNode *greet(const struct client *client, xmlNode *request, int call) {
 }
 
 static xmlNode *describe(const char *id, int call) {
-    static const char *const told[] = {F_LRMD_RSC_ID, F_LRMD_CLASS, F_LRMD_PROVIDER, F_LRMD_TYPE};
+    static const char *const given[] = {F_LRMD_RSC_ID, F_LRMD_CLASS, F_LRMD_PROVIDER, F_LRMD_TYPE};
     xmlNode *resource = operations_resource(id), *reply = wire_reply(resource ? pcmk_ok : -ENODEV, call);
-    for (size_t n = 0; resource && n < G_N_ELEMENTS(told); n++)
-        crm_xml_add(reply, told[n], crm_element_value(resource, told[n]));
+    for (size_t n = 0; resource && n < G_N_ELEMENTS(given); n++)
+        crm_xml_add(reply, given[n], crm_element_value(resource, given[n]));
     return reply;
 }
 

@@ -20,8 +20,8 @@ struct operation {
     gint64 number;  /* the executor's call, or 0 if it has none */
     gint64 queued;  /* milliseconds since 1970 */
     bool probes;    /* it was interrupted, and a monitor in its place finds out whether it was done */
-    bool told;      /* and then the last state of its result */
-    int told_code, told_status;
+    bool reported;      /* and then the last state of its result */
+    int reported_code, told_status;
     struct result result;
 };
 
@@ -66,11 +66,11 @@ static void free_operation(struct operation *operation) {
 
 static void tell(struct operation *operation) {
     const struct result *result = &operation->result;
-    if (operation->told && operation->options & lrmd_opt_notify_changes_only && operation->told_code == result->code &&
+    if (operation->reported && operation->options & lrmd_opt_notify_changes_only && operation->reported_code == result->code &&
         operation->told_status == result->status)
         return;
-    operation->told = true;
-    operation->told_code = result->code;
+    operation->reported = true;
+    operation->reported_code = result->code;
     operation->told_status = result->status;
     if (operation->options & lrmd_opt_notify_orig_only)
         ipc_tell_one(operation->client, wire_result(operation->asked, result));
@@ -375,7 +375,7 @@ static bool merged(struct resource *resource, const struct operation *new) {
     if (!new->interval || !same)
         return false;
     same->result.call = new->result.call;
-    same->told = false;
+    same->reported = false;
     crm_xml_add(same->asked, F_LRMD_RSC_USERDATA_STR, crm_element_value(new->asked, F_LRMD_RSC_USERDATA_STR));
     if (begun && resource->busy != begun) {
         stop_recurring(resource, begun);

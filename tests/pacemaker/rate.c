@@ -10,7 +10,7 @@
 
 static int ended;
 
-static void heard(lrmd_event_data_t *event) {
+static void count_end(lrmd_event_data_t *event) {
     if (event->type != lrmd_event_exec_complete)
         return;
     ended = event->call_id;
@@ -37,7 +37,7 @@ int main(int argc, char **argv) {
     lrmd_t *executor = lrmd_api_new();
     crm_log_preinit("rate", argc, argv);
     crm_log_init("rate", LOG_ERR, FALSE, FALSE, argc, argv, TRUE);
-    executor->cmds->set_callback(executor, heard);
+    executor->cmds->set_callback(executor, count_end);
     if (!count || executor->cmds->connect(executor, "rate", &channel) != pcmk_ok ||
         executor->cmds->register_rsc(executor, "r1", "ocf", argv[2], argv[3], lrmd_opt_none) != pcmk_ok) {
         fprintf(stderr, "rate: no executor answers\n");

@@ -40,16 +40,16 @@ synced() {
         sed -n 's/.*copied, \([0-9.e-]*\) s.*/\1/p' | awk '{ printf "%.2f\n", $1 * 10 }'
 }
 one_round() {
-    "$folder/alone.sh" "$here/$1" "$2" "$folder/rate.sh" --inside "$here" "$count" >> "$here/$1.told"
+    "$folder/alone.sh" "$here/$1" "$2" "$folder/rate.sh" --inside "$here" "$count" >> "$here/$1.times"
 }
 for _ in $(seq "$rounds"); do
     one_round real real
     OCFEXEC="$program serve --journal $here/journal/parts" one_round journal "$here/bridge"
     OCFEXEC="$program serve --memory" one_round memory "$here/bridge"
-    synced >> "$here/synced.told"
+    synced >> "$here/synced.times"
 done
 column() {
-    cut -d ' ' -f "$2" "$here/$1.told" | sort -n | awk '{ all[NR] = $1 } END { print all[int((NR + 1) / 2)] }'
+    cut -d ' ' -f "$2" "$here/$1.times" | sort -n | awk '{ all[NR] = $1 } END { print all[int((NR + 1) / 2)] }'
 }
 echo "| Executor | median | 99th of 100 | a second |"
 echo "|---|---|---|---|"
