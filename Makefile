@@ -21,10 +21,11 @@ program:
 test:
 	@tools/gate.sh
 
-# Runs only the checks of the built programs: all of them, or the named ones, as make check NAMES="serve cli"; a name is that of a script or
-# of a directory. FAST=1 leaves out the slow ones, and JOBS=n runs n at once (default: two per processor).
+# Runs only the tests of the built programs: all of them, or the named ones, as make check NAMES="serve cli"; a name is that of a module or
+# of a directory. FAST=1 leaves out the slow ones, and JOBS=n runs n at once (default: two per processor). They run by pytest
+# (python3-pytest, python3-pytest-xdist), or without it one by one.
 check:
-	@tests/check.sh $(if $(FAST),--fast) $(NAME) $(NAMES)
+	@tests/check.sh $(NAME) $(NAMES)
 
 # Tries the wrong bodies of one crate, make mutants NAME=recurring; without a name those that the gate tries. NAME=every tries, for all
 # crates, those that were not seen refused in their present state, JOBS=n crates at once. NAME=show lists these and tries nothing. NAME=CRATE/EDIT is one edit.
@@ -63,7 +64,7 @@ statement:
 # executor with 2,048 monitors, by the program itself with real agents. `make check` plays a day and two days of them. With REAL=1: the
 # program serves real agents for an hour, while it is killed and its disk fills.
 soak: $(PROGRAM)
-	@$(if $(REAL),LENGTH=3600 tests/load/real_soak.py $(PROGRAM),DAYS=30 tests/crash/soak.py && DAYS=30 tests/load/days.py $(PROGRAM))
+	@export TIME_LIMIT=0; $(if $(REAL),LENGTH=3600 tests/lib/one_by_one.py tests/load/real_soak.py,DAYS=30 tests/lib/one_by_one.py tests/crash/soak.py tests/load/days.py)
 
 # Fuzzes each reader of bytes from outside for five minutes, two at a time. It needs the package afl++.
 fuzz:
@@ -111,7 +112,7 @@ source:
 
 # Tests the first hour on this machine: builds the package, installs it, runs each command of docs/GUIDE.md, and removes the package.
 guide:
-	@tests/system/guide.py $(PROGRAM) /
+	@ON_MACHINE=1 tests/lib/one_by_one.py tests/system/guide.py
 
 $(PROGRAM): $(shell find crates -name out -prune -o -name README.md -o -type f -print)
 	cd crates/ocfexec && rt run -- --help > /dev/null

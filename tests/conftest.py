@@ -1,54 +1,93 @@
-"""The checks under pytest: `pytest tests -k timeout -n 8 -m "not slow"`. They are modules of `unittest` and name what they need in a line
-`# check: MARK..` at their top (tests/lib/runner.py); here these are marks. A check is reported by its sentence."""
-import itertools
+"""The tests under pytest, as `pytest tests -k timeout -n 8 -m "not slow"`: their marks, their order, and their names, which are sentences. The
+modules know nothing of pytest; helper.py marks a test by an attribute."""
+import inspect
 import os
-import re
+import subprocess
 import sys
-import tempfile
 from collections.abc import Iterator
 from pathlib import Path
+from typing import Any
 
 import pytest
 
 TESTS = Path(__file__).resolve().parent
-PROGRAM = TESTS.parent / "crates/ocfexec/out/ocfexec"
-MARK, HEAD = re.compile(r"# check: (.*)"), 5
+# the seconds of each test when it last ran, in the cache of pytest; and those of a slow test that has not run yet
+SECONDS, SLOW = "ocfexec/seconds", 30
 
 sys.dont_write_bytecode = True
-sys.path.insert(0, str(TESTS / "lib"))
 
 
 def pytest_addoption(parser: pytest.Parser) -> None:
-    parser.addoption("--program", default=os.environ.get("PROGRAM", str(PROGRAM)), help="the program that is tested")
+    parser.addoption("--program", metavar="FILE", help="the program that is tested, in place of the built one or PROGRAM")
+    parser.addoption("--only", metavar="SENTENCE", help="only the test of this sentence")
+    parser.addoption("--counts", metavar="FILE", help="add a line to this file, with the numbers of passed and of failed tests")
+
+
+@pytest.hookimpl(tryfirst=True)
+def pytest_cmdline_main(config: pytest.Config) -> None:
+    if getattr(config.option, "numprocesses", None):
+        # (one test after another is handed out, in the order of the collection)
+        config.option.dist = "loadgroup"
 
 
 def pytest_configure(config: pytest.Config) -> None:
-    # (the checks read it when they are imported, those of another process, too)
-    os.environ["PROGRAM"] = os.path.realpath(config.getoption("--program"))
-    os.environ.setdefault("AGENTS", str(TESTS.parent / "crates/ocf_agents/out/ocf_agents"))
-
-
-def marks_of(path: Path) -> set[str]:
-    """The marks near the top of a module."""
-    with path.open(encoding="utf-8") as file:
-        lines = [MARK.match(line) for line in itertools.islice(file, HEAD)]
-    return {word for line in lines if line for word in line[1].split()}
+    # (the tests read it when they are imported, those of other processes, too)
+    if program := config.getoption("--program"):
+        os.environ["PROGRAM"] = os.path.realpath(program)
 
 
 def pytest_itemcollected(item: pytest.Item) -> None:
-    sentence = (getattr(item, "obj", None).__doc__ or item.name).splitlines()[0]
-    for mark in marks_of(item.path) | ({"slow"} if getattr(item.obj, "is_slow", False) else set()):
-        item.add_marker(mark)
-    # (what -k is compared with, and what is reported)
+    """A test is named by its file and its sentence. One that shares something with others of its class, or with others on its machine, is
+    run by the same process as these."""
+    sentence = inspect.getdoc(item.obj) or item.name
+    item._nodeid = item.sentence = f"{item.path.relative_to(TESTS)}: {sentence}"
     item.extra_keyword_matches.add(sentence)
-    item._nodeid = f"{item.path.relative_to(TESTS)}: {sentence}"
+    for mark in ("slow", "alone"):
+        if attribute(item, f"is_{mark}"):
+            item.add_marker(mark)
+    if "setUpClass" in vars(item.cls) or item.path.parent.name == "system":
+        item.add_marker(pytest.mark.xdist_group(item.path.stem))
 
 
-@pytest.fixture(scope="module", autouse=True)
-def directory_in_memory(request: pytest.FixtureRequest) -> Iterator[None]:
-    """A module whose runs sync thousands of times has its files in memory, as it has when it is called by itself."""
-    before, memory = tempfile.tempdir, "/dev/shm"
-    if "main(in_memory=True" in request.path.read_text(encoding="utf-8") and os.access(memory, os.W_OK):
-        tempfile.tempdir = memory
-    yield
-    tempfile.tempdir = before
+def attribute(item: Any, name: str) -> Any:
+    return getattr(item.obj, name, None) or getattr(item.cls, name, None)
+
+
+def pytest_collection_modifyitems(config: pytest.Config, items: list[pytest.Item]) -> None:
+    """The longest tests of several at once come first; but last are those that wait until a program is built."""
+    if only := config.getoption("--only"):
+        config.hook.pytest_deselected(items=[item for item in items if not item.sentence.endswith(f": {only}")])
+        items[:] = [item for item in items if item.sentence.endswith(f": {only}")]
+    if hasattr(config, "workerinput"):
+        seconds = config.cache.get(SECONDS, {})
+        items.sort(key=lambda item: (bool(attribute(item, "needed")),
+                                     -seconds.get(item.sentence, SLOW if item.get_closest_marker("slow") else 0)))
+
+
+def pytest_collection_finish(session: pytest.Session) -> None:
+    """One of several processes builds the programs that tests need, beside the others."""
+    if getattr(session.config, "workerinput", {}).get("workerid") == "gw0":
+        for name in {name for item in session.items for name in attribute(item, "needed") or ()}:
+            subprocess.Popen([TESTS / name / "build.sh"], stdout=subprocess.DEVNULL, stderr=subprocess.DEVNULL)
+
+
+@pytest.hookimpl(hookwrapper=True)
+def pytest_runtest_makereport(item: pytest.Item) -> Iterator[None]:
+    report = (yield).get_result()
+    # (without the group of xdist; the last word is the head of the report of a failure)
+    report.nodeid, report.location = item.sentence, (*report.location[:2], item.sentence + " ")
+
+
+def pytest_terminal_summary(terminalreporter: Any, config: pytest.Config) -> None:
+    """Lists what was skipped, and why, and what failed; and keeps the seconds."""
+    stats = terminalreporter.stats
+    passed, failed = stats.get("passed", []), stats.get("failed", []) + stats.get("error", [])
+    skipped = [f"{report.nodeid}: {report.longrepr[2].removeprefix('Skipped: ')}" for report in stats.get("skipped", [])]
+    for what, names in (("skipped", skipped), ("failed", [report.nodeid for report in failed])):
+        if names:
+            terminalreporter.write_line("\n    tests/".join([f"{what} {len(names)}:", *sorted(names)]))
+    took = {report.nodeid: round(report.duration, 2) for report in passed + failed if report.when == "call"}
+    config.cache.set(SECONDS, config.cache.get(SECONDS, {}) | took)
+    if counts := config.getoption("--counts"):
+        with open(counts, "a", encoding="ascii") as file:
+            print(len(passed), len(failed), file=file)

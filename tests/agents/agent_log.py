@@ -1,15 +1,11 @@
-#!/usr/bin/env python3
 """The output of agents: appended to the file of --log, written to standard error by -, and lost without either. A file that cannot be
 opened, and a named pipe, are refused before the journal is opened. A process that an agent leaves in the background goes on writing after
-the executor has ended. The lines of a begin and of an end, which tests/agents/logs.py checks, are left out here.
-Use: agent_log.py PROGRAM"""
+the executor has ended. The lines of a begin and of an end, which tests/agents/logs.py checks, are left out here."""
 import os
 import re
 import stat
-import sys
 
-sys.path[0] += "/../lib"
-import helper  # noqa: E402
+import helper
 
 # An agent that writes a line to each stream and fails. The process that its stop leaves writes once more as soon as there is a file, and
 # ends, too, when the check is over.
@@ -100,7 +96,3 @@ class AgentLog(helper.Check):
         """show, which starts nothing, takes no log, and makes none"""
         self.assertEqual(helper.run("show", "--memory", "--log", self.log).returncode, 2)
         self.assertFalse(os.path.exists(self.log), "a log was made")
-
-
-if __name__ == "__main__":
-    helper.main()

@@ -1,14 +1,10 @@
-#!/usr/bin/env python3
 """How actions of real agents end, which are small scripts: each exit code, a signal and a timeout; two agents that wait for each other; one
-that ignores signals; and 256 agents at once, in at most 40 MB and with nothing left of them.
-Use: agents.py PROGRAM"""
+that ignores signals; and 256 agents at once, in at most 40 MB and with nothing left of them."""
 import collections
 import os
-import sys
 import time
 
-sys.path[0] += "/../lib"
-import helper  # noqa: E402
+import helper
 
 # Notes that it began, and ends as its file says.
 CODE = """echo x >> "$OCF_RESKEY_log"
@@ -128,7 +124,3 @@ class Agents(helper.Check):
         self.assertEqual(len(os.listdir(f"/proc/{pid}/fd")), opened, "descriptors left")
         self.assertEqual(run.ends(), 0)
         self.assertEqual(collections.Counter(ends(run.values())), {("start", "timed-out", 1): CROWD + 1})
-
-
-if __name__ == "__main__":
-    helper.main()

@@ -1,13 +1,9 @@
-#!/usr/bin/env python3
 """The agents of ocf_agents, called as by an executor: exit codes, the content of the state file, and the output; and then one of them under
-ocfexec. AGENTS in the environment names their program.
-Use: agents_alone.py PROGRAM"""
+ocfexec. AGENTS in the environment names their program."""
 import os
 import subprocess
-import sys
 
-sys.path[0] += "/../lib"
-import helper  # noqa: E402
+import helper
 
 AGENTS = os.environ.get("AGENTS") or os.path.join(helper.TOP, "crates/ocf_agents/out/ocf_agents")
 FOLDER, TYPES = "/usr/lib/ocf/resource.d/pacemaker", ("Dummy", "Stateful")
@@ -116,7 +112,3 @@ class AgentsAlone(helper.Check):
         self.assertEqual([(value["action"], value["outcome"], value["code"]) for value in found if helper.is_notice(value)],
                          [(action, "done", code) for action, code in UNDER])
         self.assertIsNone(self.content())
-
-
-if __name__ == "__main__":
-    helper.main()

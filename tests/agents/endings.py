@@ -1,22 +1,17 @@
-#!/usr/bin/env python3
-# check: slow
 """What ends with an action, with real processes. Wanted: after a timeout, at the end of the input and after a signal the agent has ended
 with its process group and all its descendants, in whatever session they are; daemons, and services of earlier starts, live on. An agent
 whose `start` is slow, and comes up late if only the agent is killed, stays down in `run` and in `serve`. What does not end though it was
-killed holds its own resource, and no other.
-Use: endings.py PROGRAM"""
+killed holds its own resource, and no other."""
 import os
 import pwd
 import re
 import shutil
 import signal
 import subprocess
-import sys
 import time
 import unittest
 
-sys.path[0] += "/../lib"
-import helper  # noqa: E402
+import helper
 
 # An agent whose start does what the parameter `does` says, in the shell; each process that is up writes its number to a file of `up`.
 ACTS = """case $1 in
@@ -51,6 +46,7 @@ LONG = 20_000
 MINE = f"{os.getpid():07}"
 
 
+@helper.slow
 class Endings(helper.Check):
     def setUp(self):
         super().setUp()
@@ -297,7 +293,3 @@ class Endings(helper.Check):
         _, child = self.with_mount("mount -t tmpfs none /proc")
         self.eventually("its child ends", lambda: not helper.is_alive(child))
         self.assertIn("ocfexec: cannot find and stop all processes that a killed action started: ", self.said())
-
-
-if __name__ == "__main__":
-    helper.main()

@@ -1,23 +1,19 @@
-#!/usr/bin/env python3
-# check: slow
 """The questions of an administrator at the first failure, answered by the program's own subcommands alone and within a minute each, with
-agents of Debian: why nginx did not start, which resource of forty is down, whether a start was interrupted, and what an agent does.
-Use: first_failure.py PROGRAM"""
+agents of Debian: why nginx did not start, which resource of forty is down, whether a start was interrupted, and what an agent does."""
 import json
 import os
 import shutil
 import signal
-import sys
 import time
 import unittest
 
-sys.path[0] += "/../lib"
-import helper  # noqa: E402
+import helper
 
 ROOT = "/usr/lib/ocf"
 AGENTS = ROOT + "/resource.d/heartbeat"
 
 
+@helper.slow
 @unittest.skipUnless(os.path.exists(AGENTS + "/Dummy") and os.geteuid() == 0, "wants root and the package resource-agents")
 class FirstFailure(helper.Check):
     def setUp(self):
@@ -107,7 +103,3 @@ class FirstFailure(helper.Check):
         code, out, _ = self.asked("once", "heartbeat:Dummy", "meta-data")
         self.assertEqual(code, 0)
         self.assertIn("<resource-agent", out)
-
-
-if __name__ == "__main__":
-    helper.main()

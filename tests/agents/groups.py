@@ -1,22 +1,18 @@
-#!/usr/bin/env python3
 """Each agent leads a session and a process group of its own. Wanted: a signal that an agent sends to its group, as by `kill 0`, reaches
 neither the executor nor another agent, also from `once` and from an agent's metadata; a terminal's Ctrl-C ends the executor and no agent;
 an agent finds the same environment, arguments, descriptors and signals by the launcher, by setsid and without groups; a timeout ends the
-whole group, however fast it forks, and nothing outside of it: no worker of a healthy service, and no agent of another executor.
-Use: groups.py PROGRAM"""
+whole group, however fast it forks, and nothing outside of it: no worker of a healthy service, and no agent of another executor."""
 import fcntl
 import os
 import pty
 import shutil
 import signal
 import subprocess
-import sys
 import termios
 import unittest
 
-sys.path[0] += "/../lib"
-import acting  # noqa: E402
-import helper  # noqa: E402
+import acting
+import helper
 
 LAUNCHER = os.path.join(os.path.dirname(helper.PROGRAM), "ocfexec-run-agent")
 # What an agent says to its own group, how its action then ends, and the signal; a stopped agent passes its timeout.
@@ -359,7 +355,3 @@ class Groups(acting.Acting):
         self.goes_on()
         [end] = self.ends_of(run, "r1", "start")
         self.assertEqual((end["outcome"], end["code"]), ("done", 0))
-
-
-if __name__ == "__main__":
-    helper.main()

@@ -1,22 +1,19 @@
-#!/usr/bin/env python3
 """What ends an action where that is hard. Wanted: a start past its timeout stays down after its stop where no process can be made, in a
 cgroup at its limit and for a user at its limit; where /proc shows nothing; and after the process that sends the signals was killed, or
 stopped. That process is in a session of its own, if setsid can be run, and ends with its executor. What it could not end is killed again
 each second. Two hundred and fifty agents with large environments that pass
 their timeouts at once delay no monitor of another resource.
-Use: killer.py PROGRAM, with LATE_MILLIS in the environment"""
+The environment may set LATE_MILLIS."""
 import contextlib
 import os
 import shutil
 import signal
 import subprocess
-import sys
 import time
 import unittest
 
-sys.path[0] += "/../lib"
-import acting  # noqa: E402
-import helper  # noqa: E402
+import acting
+import helper
 
 # how long a start may take, in milliseconds: whatever has to be prepared while it runs is prepared by then, also on a busy machine
 TIMEOUT = 8000
@@ -312,7 +309,3 @@ class Killer(acting.Acting):
 
     def statuses(self, run):
         return self.answered(run, {"op": "status"})["status"]
-
-
-if __name__ == "__main__":
-    helper.main()

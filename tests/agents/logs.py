@@ -1,20 +1,16 @@
-#!/usr/bin/env python3
 """The logs of agents: with --logs DIR a file for each resource, opened anew for each action, and with --log one file for all. Wanted: a
 line with the moment, the call, the run and the action before the agent's own output, and one with its end after it. A renamed log is left
-alone, and a new one is made. A log that cannot be opened or written is named once, and no action fails because of it.
-Use: logs.py PROGRAM"""
+alone, and a new one is made. A log that cannot be opened or written is named once, and no action fails because of it."""
 import datetime
 import os
 import re
 import shutil
 import stat
 import subprocess
-import sys
 import time
 import unittest
 
-sys.path[0] += "/../lib"
-import helper  # noqa: E402
+import helper
 
 # An agent that prints its action, and then does what the parameter `does` says, in the shell.
 SAYS = """echo "$1 of $OCF_RESOURCE_INSTANCE"
@@ -276,7 +272,3 @@ class OfDebian(WithLogs):
         done = self.start("nginx", configfile=self.place("broken.conf"))
         self.assertEqual(done.returncode, 0, done.stderr)
         self.assertIn("no_such_directive", self.read())
-
-
-if __name__ == "__main__":
-    helper.main()

@@ -1,11 +1,7 @@
-#!/usr/bin/env python3
 """Pacemaker's own variables in the environment of agents: none without --meta-variables; with it the interval, the name and the timeout of
-their own action; and a parameter of one of these names wins.
-Use: meta_variables.py PROGRAM"""
-import sys
+their own action; and a parameter of one of these names wins."""
 
-sys.path[0] += "/../lib"
-import helper  # noqa: E402
+import helper
 
 # An agent that notes its environment under the name of its action, but what the shell itself sets.
 NOTES = """env | LC_ALL=C sort | grep -v -e '^PWD=' -e '^SHLVL=' -e '^_=' > "$OCF_RESKEY_to.$1"
@@ -70,7 +66,3 @@ class MetaVariables(helper.Check):
     def test_given_wins(self):
         """a parameter of such a name is not replaced with --meta-variables, which adds the others"""
         self.find({action: {**own, **GIVEN} for action, own in OWN.items()}, "--meta-variables", **GIVEN)
-
-
-if __name__ == "__main__":
-    helper.main()

@@ -1,19 +1,15 @@
-#!/usr/bin/env python3
 """Metadata. In serve, turns go on and the reply comes before those of later lines. A limit ends an agent with everything that it started,
 and so do a client that goes away and a journal that is removed. In run, the program waits for its agent, without a limit if the line has
 none. Run prints the bytes of metadata after a line with their length, and serve one line with their text; both report a question without an
-answer in the same way.
-Use: metadata.py PROGRAM"""
+answer in the same way."""
 import json
 import shutil
 import subprocess
-import sys
 import time
 
-sys.path[0] += "/../lib"
-import helper  # noqa: E402
-import schema  # noqa: E402
-from helper import PROGRAM, action  # noqa: E402
+import helper
+import schema
+from helper import PROGRAM, action
 
 # An agent that prints its metadata after n seconds, n being in the file `takes`; the file `pids` has its number and its child's.
 SLOW = """here={here}
@@ -205,7 +201,3 @@ class Metadata(helper.Check):
         texts = [{"metadata": text, "ok": True} for text in (long.decode(), "")]
         texts[1:1], texts[7:] = map(json.loads, ends[:5]), map(json.loads, ends[7:9])
         self.assertEqual((served.returncode, helper.replies(served.stdout)), (0, texts))
-
-
-if __name__ == "__main__":
-    helper.main()

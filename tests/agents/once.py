@@ -1,14 +1,10 @@
-#!/usr/bin/env python3
 """An action that is run once. Its status is that of its agent, or says why there is none. Its agent finds exactly the variables of an
-action, and writes to the program's output. Past its timeout it has ended with everything that it started.
-Use: once.py PROGRAM"""
+action, and writes to the program's output. Past its timeout it has ended with everything that it started."""
 import os
 import signal
-import sys
 import time
 
-sys.path[0] += "/../lib"
-import helper  # noqa: E402
+import helper
 
 
 class Once(helper.Check):
@@ -146,7 +142,3 @@ class OfAJournal(helper.Check):
         self.assertEqual(self.once("--of", "slow", "monitor", "--journal", self.folder)[0], 125)
         os.kill(pid, signal.SIGKILL)
         self.eventually("a monitor", lambda: self.once("--of", "slow", "monitor", "--journal", self.folder)[0] == 0)
-
-
-if __name__ == "__main__":
-    helper.main()

@@ -1,16 +1,12 @@
-#!/usr/bin/env python3
 """The output of agents where nobody takes it. Wanted: with `--log -` no action fails and no service ends because the reader of standard
 error does not read, or is gone; the executor goes on, too. On a full device only an agent that ends at its first refused word fails, with
-a code of its own, and its actions succeed again as soon as there is room.
-Use: readers.py PROGRAM"""
+a code of its own, and its actions succeed again as soon as there is room."""
 import os
-import sys
 import time
 import unittest
 
-sys.path[0] += "/../lib"
-import acting  # noqa: E402
-import helper  # noqa: E402
+import acting
+import helper
 
 # An agent that ends at its first word that is refused, as many scripts do; and one that does not.
 STRICT, LENIENT = "set -e; echo start of $OCF_RESOURCE_INSTANCE; echo fails >&2", "echo start of it; echo fails >&2; :"
@@ -175,7 +171,3 @@ class Readers(acting.Acting):
         with open(f"/proc/{run.run.pid}/root{logs}/r1.log", encoding="ascii") as log:
             self.assertIn("start of r1\n", log.read())
         self.assertEqual(run.ends(), 0)
-
-
-if __name__ == "__main__":
-    helper.main()

@@ -1,17 +1,13 @@
-#!/usr/bin/env python3
 """How agents are started, and what they find: through a program; agents that cannot be started, each with its cause; what an agent inherits
-from its executor; and metadata in run: of each length and end, of agents that do not end, and the environment of the call for it.
-Use: spawned.py PROGRAM"""
+from its executor; and metadata in run: of each length and end, of agents that do not end, and the environment of the call for it."""
 import contextlib
 import os
 import signal
 import subprocess
-import sys
 import time
 
-sys.path[0] += "/../lib"
-import helper  # noqa: E402
-from helper import PROGRAM  # noqa: E402
+import helper
+from helper import PROGRAM
 
 DRAIN = {"op": "drain"}
 DUMMY = {"provider": "pacemaker", "type": "Dummy"}
@@ -204,7 +200,3 @@ class Spawned(helper.Check):
         """without groups an agent is killed at its limit, too, but not what one has left that ended before"""
         self.limited("--no-groups")
         self.assertFalse(self.is_ended("left"), "what an agent has left is alive")
-
-
-if __name__ == "__main__":
-    helper.main()

@@ -1,13 +1,9 @@
-#!/usr/bin/env python3
 """A program of --via without a slash is searched in the agents' PATH, with and without process groups: the first file there that may be run
-is run, and where there is none the action is reported as not started.
-Use: via.py PROGRAM"""
+is run, and where there is none the action is reported as not started."""
 import os
-import sys
 
-sys.path[0] += "/../lib"
-import helper  # noqa: E402
-from helper import action, register  # noqa: E402
+import helper
+from helper import action, register
 
 
 class Via(helper.Check):
@@ -40,7 +36,3 @@ class Via(helper.Check):
                 self.assertEqual(self.ended("folder", *words), ("not-started", 4))
                 self.assertEqual(self.ended(self.place("second/through"), *words), ("done", 0))
                 self.assertEqual(self.ended("./nothing", *words), ("not-started", 5))
-
-
-if __name__ == "__main__":
-    helper.main()

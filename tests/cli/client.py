@@ -1,9 +1,7 @@
-#!/usr/bin/env python3
 """The client of examples/, which keeps the resources of a file: which resources it starts, which it finds running and keeps, what a change
 of the file does, what it gives up, how its signals end it, what it reports to systemd; that no kill of its executor loses a result; that
 an executor that does not answer, a reader that does not read, a system without free files and a wrong file leave no service without a
-monitor; and what --check finds.
-Use: client.py PROGRAM"""
+monitor; and what --check finds."""
 import fcntl
 import json
 import os
@@ -16,12 +14,11 @@ import sys
 import time
 import unittest
 
-sys.path[0] += "/../lib"
-import helper  # noqa: E402
-import keeping  # noqa: E402
-import schema  # noqa: E402
-from helper import PROGRAM  # noqa: E402
-from keeping import CLIENT  # noqa: E402
+import helper
+import keeping
+import schema
+from helper import PROGRAM
+from keeping import CLIENT
 
 sys.dont_write_bytecode = True
 sys.path[1:1] = [os.path.join(helper.TOP, "examples"), os.path.join(helper.TOP, "python")]
@@ -95,6 +92,7 @@ BEFORE = ("not JSON", "a: this key occurs twice", "resources.a.params: with the 
           "resources.a.after: there is no", "resources.a.after: a circle")
 
 
+@helper.in_memory
 class Kept(keeping.Keeping):
     def setUp(self):
         super().setUp()
@@ -570,7 +568,3 @@ class Kept(keeping.Keeping):
             for result in results:
                 if result["outcome"] != "cancelled":
                     self.assertEqual(seen[result["call"], result["run"]], {**result, "id": name})
-
-
-if __name__ == "__main__":
-    helper.main(in_memory=True, parts=2)

@@ -1,17 +1,13 @@
-#!/usr/bin/env python3
 """Steps of the wall clock, by a shim over clock_gettime (clock.c): an action's timeout, a watch's limit and recurring monitors keep their
 length while the clock is set back or forward; a journal that was written ten years ahead continues; and a status computes ages by the clock
-of the executor, or says that a moment is in the future.
-Use: clock.py PROGRAM"""
+of the executor, or says that a moment is in the future."""
 import os
 import re
 import shutil
-import sys
 import time
 import unittest
 
-sys.path[0] += "/../lib"
-import helper  # noqa: E402
+import helper
 
 YEARS = 315360000  # ten of them, in seconds
 DRAIN = {"op": "drain"}
@@ -171,7 +167,3 @@ class Clock(helper.Check):
             table = self.status(YEARS, name)
             self.assertIn("r1 test:Sleeper never run starting for 3650 days of at most 90 s\n", table)
             self.assertRegex(table, r"\n every 2 s running, 3650 days ago; due 36(49|50) days ago\n")
-
-
-if __name__ == "__main__":
-    helper.main()

@@ -1,15 +1,11 @@
-#!/usr/bin/env python3
-"""The completions of the program's arguments, each requested in the shell itself: bash, and fish and zsh if they are installed.
-Use: completions.py PROGRAM"""
+"""The completions of the program's arguments, each requested in the shell itself: bash, and fish and zsh if they are installed."""
 import os
 import re
 import shutil
 import subprocess
-import sys
 import unittest
 
-sys.path[0] += "/../lib"
-import helper  # noqa: E402
+import helper
 
 SCRIPT = os.path.join(helper.TOP, "package/completions.sh")
 NO_FISH, NO_ZSH = "it is not there (apt-get install fish)", "it is not there (apt-get install zsh)"
@@ -190,7 +186,3 @@ class Zsh(Completions):
         self.printed("zsh", "-f", typed, self.here, *(self.here_in(f"ocfexec {line}") for line, _ in LINES_IN_ZSH), has_program=True)
         with open(self.place("words"), encoding="utf-8") as words:
             self.assertEqual([line.rstrip() for line in words], [self.here_in(wanted) for _, wanted in LINES_IN_ZSH])
-
-
-if __name__ == "__main__":
-    helper.main()

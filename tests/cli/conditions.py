@@ -1,17 +1,14 @@
-#!/usr/bin/env python3
 """The state that a status prints is that of the records: over both parts of a journal, past the results that a history keeps, after actions
 that were interrupted, dropped or withdrawn, after forget, and in both layouts; and whether an executor has the journal. The journals are
-written here from docs/FORMAT.md. Use: conditions.py PROGRAM"""
+written here from docs/FORMAT.md."""
 import gzip
 import os
 import re
-import sys
 import time
 
-sys.path[0] += "/../lib"
-import helper  # noqa: E402
-import journal_format as book  # noqa: E402
-from written_journal import EVERY, HOUR, MINUTE, NOT_RUNNING, OK, SECOND, Written, keep  # noqa: E402
+import helper
+import journal_format as book
+from written_journal import EVERY, HOUR, MINUTE, NOT_RUNNING, OK, SECOND, Written, keep
 
 OLD = os.path.join(helper.TOP, "tests/data/first-layout")
 
@@ -225,7 +222,3 @@ class Conditions(helper.Check):
         self.assertEqual({value["since"] for value in found.values()}, {self.written.now - 2 * HOUR})
         print(f"conditions: a status over a full part of 256 resources took {took:.3f} s")
         self.took_less(2, took, "a status over a full part")
-
-
-if __name__ == "__main__":
-    helper.main()

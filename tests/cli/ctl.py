@@ -1,8 +1,6 @@
-#!/usr/bin/env python3
 """Resources operated by hand, by ocfctl and the control socket of the client: what each verb does, prints and ends with; what was set by
 hand survives kills of the client and of the executor, a new start and a reload; who may do what; and that many programs share one executor,
-of which slow, stopped and dying ones delay no other and no monitor.
-Use: ctl.py PROGRAM"""
+of which slow, stopped and dying ones delay no other and no monitor."""
 import contextlib
 import json
 import os
@@ -16,9 +14,8 @@ import threading
 import time
 import unittest
 
-sys.path[0] += "/../lib"
-import helper  # noqa: E402
-import keeping  # noqa: E402
+import helper
+import keeping
 
 CTL = os.path.join(helper.TOP, "examples/ocfctl.py")
 # an agent whose service is a file, and is promoted by another one; what it is called with, and at which level, is noted; it fails as the
@@ -82,6 +79,7 @@ class Connection:
         self.socket.close()
 
 
+@helper.in_memory
 class Hand(keeping.Keeping):
     def setUp(self):
         super().setUp()
@@ -955,7 +953,3 @@ class Programs(Hand):
         before = helper.processor_time(client.run.pid)
         time.sleep(2)
         self.assertLess(helper.processor_time(client.run.pid) - before, 0.3 * helper.slowness())
-
-
-if __name__ == "__main__":
-    helper.main(in_memory=True, parts=2)

@@ -1,19 +1,15 @@
-#!/usr/bin/env python3
 """A limit of open files that is too low, from the start or from some moment on. Each refusal names this cause, nothing acknowledged is
-lost, and the program does what it can without a further descriptor; once there are enough, all is as before.
-Use: descriptors.py PROGRAM"""
+lost, and the program does what it can without a further descriptor; once there are enough, all is as before."""
 import os
 import re
 import resource
 import shutil
 import subprocess
-import sys
 import tempfile
 import unittest
 
-sys.path[0] += "/../lib"
-import helper  # noqa: E402
-from helper import PROGRAM  # noqa: E402
+import helper
+from helper import PROGRAM
 
 CAUSE = "Too many open files (os error 24)"
 # The limits: with the first the program itself can be loaded, with the last an action can be run.
@@ -136,8 +132,3 @@ class Descriptors(helper.Check):
         self.eventually("the action after it", lambda: len(run.notices()) == 2)
         with open(self.place("err"), encoding="utf-8") as err:
             self.assertIn(f"ocfexec: cannot find and stop all processes that a killed action started: {CAUSE}\n", err.read())
-
-
-if __name__ == "__main__":
-    os.environ.pop("JOURNAL_STREAM", None)
-    helper.main()

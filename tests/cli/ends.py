@@ -1,21 +1,17 @@
-#!/usr/bin/env python3
 """Both ends of a session. A reader that goes away ends a drain, a watch, a waiting run and a serving one within a second, with its agents,
 and a drain that waits for an orphan. Descriptors that do not block are waited for. Lines come a byte at a time, break off, or are a
 million at once. After a device fault a run waits, too. Starts with ignored signals name them. Starts are refused if SIGCHLD is ignored or
-the root is not absolute.
-Use: ends.py PROGRAM"""
+the root is not absolute."""
 import fcntl
 import os
 import resource
 import shutil
 import signal
 import subprocess
-import sys
 import time
 
-sys.path[0] += "/../lib"
-import helper  # noqa: E402
-from helper import PROGRAM  # noqa: E402
+import helper
+from helper import PROGRAM
 
 
 class Ends(helper.Check):
@@ -247,7 +243,3 @@ class Ends(helper.Check):
         """a root that is not absolute"""
         done = subprocess.run([PROGRAM, "run", "--memory", "--root", "some/folder"], stdin=subprocess.DEVNULL, capture_output=True)
         self.assertEqual((done.returncode, done.stderr), (2, b"ocfexec: give --root an absolute path\n"))
-
-
-if __name__ == "__main__":
-    helper.main()

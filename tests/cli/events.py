@@ -1,15 +1,11 @@
-#!/usr/bin/env python3
 """The lines of --events: one on standard error for each result, in the words of status, and with a priority in front if standard error is
-the system's journal. Standard output is the same with and without the option.
-Use: events.py PROGRAM"""
+the system's journal. Standard output is the same with and without the option."""
 import os
 import re
 import subprocess
-import sys
 import tempfile
 
-sys.path[0] += "/../lib"
-import helper  # noqa: E402
+import helper
 
 # An agent that ends with the code that a parameter names, or by a signal.
 ENDS = """case $OCF_RESKEY_code in kill) kill -9 $$ ;; sleep) exec sleep 20 ;; *) exit "$OCF_RESKEY_code" ;; esac
@@ -150,7 +146,3 @@ class Events(helper.Check):
             said = [line.split(":")[0] for line in err.read().decode().splitlines()]
         self.assertEqual(said, [value["id"] for value in helper.replies(done.stdout) if helper.is_notice(value)])
         self.assertEqual(sorted(said), sorted(f"r{n}" for n in range(40)))
-
-
-if __name__ == "__main__":
-    helper.main()

@@ -1,8 +1,6 @@
-#!/usr/bin/env python3
 """Clients that keep one service running: that of examples/, keep-one in Go, and one of less than a hundred lines without a library. What
 ever happens to the executor or to its journal, a service that has stopped is up again within its interval and ten seconds, and SIGTERM
-stops it and ends the client.
-Use: keepers.py PROGRAM"""
+stops it and ends the client."""
 import json
 import os
 import shutil
@@ -12,9 +10,8 @@ import sys
 import time
 import unittest
 
-sys.path[0] += "/../lib"
-import helper  # noqa: E402
-from helper import PROGRAM, action, register  # noqa: E402
+import helper
+from helper import PROGRAM, action, register
 
 EXAMPLES, PLAIN, GO = os.path.join(helper.TOP, "examples"), os.path.join(helper.TOP, "tests/lib/plain_client.py"), shutil.which("go")
 INTERVAL, SOON, PATIENCE = 0.2, 10, 5  # in seconds
@@ -66,6 +63,7 @@ class Keeper:
         self.run.wait()
 
 
+@helper.in_memory
 class Keepers(helper.Check):
     def setUp(self):
         super().setUp()
@@ -220,7 +218,3 @@ class Keepers(helper.Check):
         words = ["run", "./cmd/keep-one", "a", "test:Dummy", "--", self.place("none")]
         done = subprocess.run([GO, *words], cwd=f"{EXAMPLES}/go", capture_output=True, text=True, env={"HOME": self.here, **os.environ})
         self.assertEqual(done.stderr.splitlines()[0], f"keep-one: fork/exec {self.place('none')}: no such file or directory")
-
-
-if __name__ == "__main__":
-    helper.main(in_memory=True, parts=2)

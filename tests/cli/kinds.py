@@ -1,15 +1,11 @@
-#!/usr/bin/env python3
 """Each line of serve says in its key `kind` what it is, and no line of run has that key. A reply comes before the notices of its call. A
-failed action has the reason that its agent wrote. A line may end in a carriage return.
-Use: kinds.py PROGRAM"""
+failed action has the reason that its agent wrote. A line may end in a carriage return."""
 import json
 import os
-import sys
 
-sys.path[0] += "/../lib"
-import helper  # noqa: E402
-import schema  # noqa: E402
-from helper import action, register  # noqa: E402
+import helper
+import schema
+from helper import action, register
 
 # An agent that writes what its parameter `says` to its standard error, and ends with its parameter `code`; or one that is never done.
 SAYS = """[ "$OCF_RESKEY_code" = sleep ] && exec sleep 60
@@ -128,7 +124,3 @@ class Kinds(helper.Check):
         self.assertEqual([value.get("resources") for value in self.served(text=text) if value["kind"] == "reply"], [None, ["a"]])
         done = helper.run("run", "--memory", sent=text)
         self.assertEqual(values(done.stdout), [{"ok": True}, {"ok": True, "resources": ["a"]}])
-
-
-if __name__ == "__main__":
-    helper.main()

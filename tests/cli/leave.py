@@ -1,15 +1,11 @@
-#!/usr/bin/env python3
 """An orderly end: a serving run that reads `leave` begins no more actions, waits for running ones within their timeouts, records and
-reports them, replies, and ends with 0. The next opening drops queued actions, and monitors are kept.
-Use: leave.py PROGRAM"""
+reports them, replies, and ends with 0. The next opening drops queued actions, and monitors are kept."""
 import os
 import subprocess
-import sys
 import time
 
-sys.path[0] += "/../lib"
-import helper  # noqa: E402
-from helper import action  # noqa: E402
+import helper
+from helper import action
 
 LEAVE = {"op": "leave"}
 LIST = {"op": "list"}
@@ -103,7 +99,3 @@ class Leave(helper.Check):
         self.assertEqual(run.wait(helper.PATIENCE), 7)
         self.took_less(1.5, time.monotonic() - began, "an end after the last reader")
         run.stdin.close()
-
-
-if __name__ == "__main__":
-    helper.main()

@@ -1,8 +1,6 @@
-#!/usr/bin/env python3
 """The library for clients in Python, python/ocfexec: replies and refusals, results by call, tags, more commands than pipes hold, the ready
 line and the report of an opening, errors with all that is known, no state that cannot be left, and each result once, however often the
-executor is killed; by threads' own executors, and by asyncio.
-Use: library.py PROGRAM"""
+executor is killed; by threads' own executors, and by asyncio."""
 import asyncio
 import concurrent.futures
 import inspect
@@ -17,10 +15,9 @@ import threading
 import time
 import unittest
 
-sys.path[0] += "/../lib"
-import helper  # noqa: E402
-import schema  # noqa: E402
-from helper import PROGRAM, action, register  # noqa: E402
+import helper
+import schema
+from helper import PROGRAM, action, register
 
 sys.dont_write_bytecode = True
 sys.path.insert(1, os.path.join(helper.TOP, "python"))
@@ -73,6 +70,7 @@ def ended(executor):
         executor.kill()
 
 
+@helper.in_memory
 class Case(helper.Check):
     def setUp(self):
         super().setUp()
@@ -571,6 +569,7 @@ class Asynchronous(Case):
         self.assertEqual([len(reply["params"]) for reply in self.plays(play, patience=240)[1::2]], [15] * 300)
 
 
+@helper.in_memory
 class Behaviours(helper.Check):
     """The list of behaviours of library_cases.json, with an executor that plays their programs."""
 
@@ -625,6 +624,7 @@ class Behaviours(helper.Check):
             self.goes("-l", ".", folder=folder, tool="gofmt")
 
 
+@helper.in_memory
 class Package(helper.Check):
     def test_version(self):
         """its version is that of the program, and all its names exist"""
@@ -665,7 +665,3 @@ class Package(helper.Check):
             done = subprocess.run(["mypy", "--strict", "--cache-dir", self.place("cache"), f"{package}/ocfexec", self.place("uses.py"),
                                    *clients], capture_output=True, text=True, env={**os.environ, "MYPYPATH": f"{package}:{examples}"})
             self.assertEqual(done.returncode, status, done.stdout + done.stderr)
-
-
-if __name__ == "__main__":
-    helper.main(in_memory=True)

@@ -1,16 +1,13 @@
-#!/usr/bin/env python3
 """docs/protocol.schema.json describes the lines that the program reads and prints: the lines of FORMAT.md are valid, lines that no
 program prints are not, and the program refuses as malformed exactly the commands that the schema refuses. Every other check validates
 its lines against it, too."""
 import json
 import os
 import re
-import sys
 import unittest
 
-sys.path[0] += "/../lib"
-import helper  # noqa: E402
-import schema  # noqa: E402
+import helper
+import schema
 
 # refusals of the line itself, and not of its request
 MALFORMED = ("syntax", "unknown-op", "bad-name", "bad-value")
@@ -250,7 +247,3 @@ class Schema(helper.Check):
             done = helper.run("run", "--memory", "--root", self.here, sent=helper.lines(command))
             first = helper.replies(done.stdout)[0]
             self.assertEqual(first.get("error") in MALFORMED, command in REFUSED, f"{json.dumps(command)[:200]}: {first}")
-
-
-if __name__ == "__main__":
-    helper.main()

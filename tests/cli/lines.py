@@ -1,12 +1,8 @@
-#!/usr/bin/env python3
 """Inputs of `run --memory` that a stored run cannot contain: without a line, with empty lines, without a last newline, and with lines of
-the greatest length, and longer. The exit status and all output are compared, with an input from a pipe and from a file.
-Use: lines.py PROGRAM"""
+the greatest length, and longer. The exit status and all output are compared, with an input from a pipe and from a file."""
 import subprocess
-import sys
 
-sys.path[0] += "/../lib"
-import helper  # noqa: E402
+import helper
 
 LONGEST = 131_072
 LIST = b'{"op":"list"}'
@@ -55,7 +51,3 @@ class Lines(helper.Check):
     def test_lengths(self):
         """a line of 131,072 bytes is read, and a longer one is refused as one line, after which the next one is read"""
         self.are_answered(LONG)
-
-
-if __name__ == "__main__":
-    helper.main()

@@ -1,15 +1,12 @@
-#!/usr/bin/env python3
 """What `log` prints, word for word: all of it, --failed, --changes, -n, --since and --until, IDs, --json and --salvage, in a pipe and on
 terminals of 80 and 120 columns, over a journal with each kind of event, each outcome and an opening that interrupts and drops. The
-journal is written here from docs/FORMAT.md, and the texts are those of tests/data/log. Use: log_texts.py PROGRAM"""
+journal is written here from docs/FORMAT.md, and the texts are those of tests/data/log."""
 import os
-import sys
 
-sys.path[0] += "/../lib"
-import helper  # noqa: E402
-import journal_format as book  # noqa: E402
-from shown import Shown  # noqa: E402
-from written_journal import HOUR, MINUTE, NOT_RUNNING, SECOND, Written, keep  # noqa: E402
+import helper
+import journal_format as book
+from shown import Shown
+from written_journal import HOUR, MINUTE, NOT_RUNNING, SECOND, Written, keep
 
 TEXTS = os.path.join(helper.TOP, "tests/data/log")
 NOON = 1_764_244_800_000  # 2025-11-27 12:00:00
@@ -122,7 +119,3 @@ class LogTexts(Shown):
         done = helper.run("log", "--journal", self.folder)
         self.assertEqual((done.returncode, done.stdout), (3, b""))
         self.is_text("salvage", self.piped("--salvage").replace(str(ends), "END"))
-
-
-if __name__ == "__main__":
-    helper.main()

@@ -1,21 +1,17 @@
-#!/usr/bin/env python3
 """The output of `metrics` for a journal: read by a parser of its own, written after the text format of Prometheus, and by promtool if that
 is installed; compared with the output of `show` and `status`, and with a second reader of the journal, at rest, while an action runs, and
-after a timeout, an interruption and a tidy. The numbers of ended and failed runs are counted anew from the journal's bytes.
-Use: metrics.py PROGRAM"""
+after a timeout, an interruption and a tidy. The numbers of ended and failed runs are counted anew from the journal's bytes."""
 import fcntl
 import os
 import re
 import shutil
 import subprocess
-import sys
 import time
 import unittest
 
-sys.path[0] += "/../lib"
-import helper  # noqa: E402
-from helper import action, register  # noqa: E402
-import journal_format  # noqa: E402
+import helper
+from helper import action, register
+import journal_format
 
 PROMTOOL = shutil.which("promtool")
 STATES = ["never run", "started", "promoted", "stopped", "failed", "unknown"]
@@ -373,7 +369,3 @@ class Metrics(helper.Check):
         done = subprocess.run([helper.PROGRAM, "metrics"], env=named, stdout=write, stderr=subprocess.PIPE)
         os.close(write)
         self.assertEqual((done.returncode, done.stderr), (0, b""))
-
-
-if __name__ == "__main__":
-    helper.main()

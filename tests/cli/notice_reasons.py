@@ -1,13 +1,9 @@
-#!/usr/bin/env python3
 """The reasons of failures that serve reports, in a notice and in its status: with --logs those of the resource's log, and with --log those
-lines of the log of all that no other run can have written.
-Use: notice_reasons.py PROGRAM"""
+lines of the log of all that no other run can have written."""
 import os
-import sys
 
-sys.path[0] += "/../lib"
-import helper  # noqa: E402
-from helper import action, register  # noqa: E402
+import helper
+from helper import action, register
 
 STATUS = {"op": "status"}
 # An agent that fails with a reason. Where a parameter names files, it first makes the first, and waits for the second, and so after it has
@@ -152,7 +148,3 @@ class NoticeReasons(helper.Check):
         run.send({"op": "params", "id": "a", "params": {"reason": "of a"}})
         self.assertEqual(self.fails(run, "a"), [("of a", "of a")])
         self.assertEqual(run.ends(), 0)
-
-
-if __name__ == "__main__":
-    helper.main()

@@ -1,12 +1,8 @@
-#!/usr/bin/env python3
 """The keys of a notice of serve besides its result: the key of its operation, the expected code, and whether the result has failed, in
-which case info has it as the last failure. The notices of an opening's report have the same keys. A notice of run has none of them.
-Use: notices.py PROGRAM"""
-import sys
+which case info has it as the last failure. The notices of an opening's report have the same keys. A notice of run has none of them."""
 
-sys.path[0] += "/../lib"
-import helper  # noqa: E402
-from helper import action, register  # noqa: E402
+import helper
+from helper import action, register
 
 # An agent that ends with the code that a parameter names, by a signal, or not soon.
 ENDS = """case $OCF_RESKEY_code in
@@ -105,7 +101,3 @@ class Notices(helper.Check):
         said = helper.replies(helper.run("run", "--memory", "--root", self.here, sent=sent).stdout)
         notices = [value for value in said if helper.is_notice(value)]
         self.assertEqual([set(notice) for notice in notices], [OF_RUN, OF_RUN])
-
-
-if __name__ == "__main__":
-    helper.main()

@@ -1,18 +1,14 @@
-#!/usr/bin/env python3
 """Each option of the command line: its words, and what the program does by them; and wrong words, with the line on standard error and the
-exit status. What the options of a run request of the system is tried in played.py, too. The values were taken from the manual page.
-Use: options.py PROGRAM"""
+exit status. What the options of a run request of the system is tried in played.py, too. The values were taken from the manual page."""
 import json
 import os
 import re
 import subprocess
-import sys
 import time
 
-sys.path[0] += "/../lib"
-import helper  # noqa: E402
-import journal_format as book  # noqa: E402
-from written_journal import HOUR, MINUTE, NOT_RUNNING, SECOND, Written  # noqa: E402
+import helper
+import journal_format as book
+from written_journal import HOUR, MINUTE, NOT_RUNNING, SECOND, Written
 
 DAY = 24 * HOUR
 NEW_YEAR = 1_735_689_600_000  # 2025-01-01 00:00:00
@@ -379,7 +375,3 @@ class RanOnce(helper.Check):
         self.once(f"--of slow {journal} stop", 125, "")
         self.once(f"--of slow {journal} --beside --timeout 100 stop", 124, "")
         self.once(f"--of web --journal {self.place('none')} stop", 125, "")
-
-
-if __name__ == "__main__":
-    helper.main()

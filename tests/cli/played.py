@@ -1,17 +1,12 @@
-#!/usr/bin/env python3
-# check: trials
 """The program with a simulated host, `tests/trials program`: directories in memory, scripted agents, and a clock that the waiting caller
 advances. So each call of the system fails in turn, and no process is started. The expected values were counted by hand from docs/FORMAT.md
-and the manual page.
-Use: played.py [PROGRAM]"""
+and the manual page."""
 import json
 import subprocess
-import sys
 
-sys.path[0] += "/../lib"
-import helper  # noqa: E402
-from helper import action, register  # noqa: E402
-from journal_format import CLOSED, LAST_EPOCH, MOST, START, STOP, event, head, record, state  # noqa: E402
+import helper
+from helper import action, register
+from journal_format import CLOSED, LAST_EPOCH, MOST, START, STOP, event, head, record, state
 
 REG = register("r1", "Dummy", "pacemaker")
 LIST, DRAIN = {"op": "list"}, {"op": "drain"}
@@ -66,6 +61,7 @@ def begun(at, call, run):
     return event("begin", at, id="r1", call=call, run=run)
 
 
+@helper.needs("trials")
 class Played(helper.Check):
     def play(self, *plan):
         """The runs of a plan, which is given as lines."""
@@ -402,7 +398,3 @@ class Fails(Played):
                                    ("once p:t start --timeout 0", "125", "give --timeout milliseconds, from 1 to 4294967295")]:
             run = self.ends(ended, [], f"ocfexec {words}")
             self.assertEqual((run.err, run.asked()), ([line], [f"ended {ended}"]))
-
-
-if __name__ == "__main__":
-    helper.main()

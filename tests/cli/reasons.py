@@ -1,12 +1,8 @@
-#!/usr/bin/env python3
 """The reason of a last failure that `status --logs DIR` prints: the last line of the resource's log that begins with ocf-exit-reason:, from
-logs that agents wrote and from hostile ones, as a table and as JSON, and the line about a log that cannot be read.
-Use: reasons.py PROGRAM"""
+logs that agents wrote and from hostile ones, as a table and as JSON, and the line about a log that cannot be read."""
 import os
-import sys
 
-sys.path[0] += "/../lib"
-import helper  # noqa: E402
+import helper
 
 WORD = b"ocf-exit-reason:"
 # how many bytes of a log are read, and how many of a reason are printed
@@ -147,7 +143,3 @@ class Reasons(helper.Check):
         self.assertEqual((done.returncode, done.stderr), (2, b"ocfexec: no resource of this id\n"))
         done = helper.run("status", "--memory", "--logs", self.logs)
         self.assertEqual(done.returncode, 0, done.stderr)
-
-
-if __name__ == "__main__":
-    helper.main()

@@ -1,13 +1,9 @@
-#!/usr/bin/env python3
 """A refusal of serve has the offending key of the line, if there is one, and a sentence that says what that key may hold. A refusal of run
-has only its word and its number, and is otherwise the same. A key that an operation does not have is refused by name.
-Use: refusals.py PROGRAM"""
+has only its word and its number, and is otherwise the same. A key that an operation does not have is refused by name."""
 import json
-import sys
 
-sys.path[0] += "/../lib"
-import helper  # noqa: E402
-from helper import action, register  # noqa: E402
+import helper
+from helper import action, register
 
 LARGE = {f"p{place}": "x" * 1024 for place in range(16)}
 # Commands, and for each refused one its word, its key and a part of its sentence, from FORMAT.
@@ -106,7 +102,3 @@ class Refusals(helper.Check):
         self.assertEqual(len(values), len(TWICE + ONCE))
         for line, value in zip(TWICE + ONCE, values):
             self.assertEqual(("twice" in value["message"], value["error"] == "syntax"), (line in TWICE, True), line[:60])
-
-
-if __name__ == "__main__":
-    helper.main()

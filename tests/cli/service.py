@@ -1,20 +1,17 @@
-#!/usr/bin/env python3
 """The lines of serve to a manager besides the replies that run also has: the ready line, and what the opening found; the version; the
 status of all resources; metadata as a text. And tags, which show that a reply belongs to its line and a notice to its call: on every kind
 of line and of reply, in batches, among lines without a tag, for queued, recurring and withdrawn actions, for random lines, as many as are
 kept, and none after an end. `run` knows no tags.
-Use: service.py PROGRAM, with ROUNDS and SEED in the environment"""
+The environment may set ROUNDS and SEED."""
 import json
 import os
 import resource
-import sys
 import time
 
-sys.path[0] += "/../lib"
-import chance  # noqa: E402
-import helper  # noqa: E402
-from helper import action, register  # noqa: E402
-from journal_format import CLOSED, MOST, head, state  # noqa: E402
+import chance
+import helper
+from helper import action, register
+from journal_format import CLOSED, MOST, head, state
 
 LIST, STATUS, VERSION, LEAVE = {"op": "list"}, {"op": "status"}, {"op": "version"}, {"op": "leave"}
 # An agent that ends with the code that a parameter names, by a signal, not soon, or once a file exists.
@@ -61,6 +58,7 @@ def meta(kind, **more):
     return {"op": "meta", "provider": "test", "type": kind, **more}
 
 
+@helper.in_memory
 class Service(helper.Check):
     def setUp(self):
         super().setUp()
@@ -708,7 +706,3 @@ class Chance(Service):
         for line, tag, value in zip(asked, wanted, replies):
             self.assertEqual(value.get("tag"), tag, f"{line[:200]}: {value}")
         self.assertGreater(len(calls), 20)
-
-
-if __name__ == "__main__":
-    helper.main(in_memory=True)

@@ -1,13 +1,9 @@
-#!/usr/bin/env python3
 """The states of resources as a status prints them: by the ends of their last actions, with an agent that ends by its parameter, after a
-timeout, an interruption and a withdrawal, with the status of --exit-code, for all resources and for one, as a table and as JSON.
-Use: states.py PROGRAM"""
+timeout, an interruption and a withdrawal, with the status of --exit-code, for all resources and for one, as a table and as JSON."""
 import re
-import sys
 import time
 
-sys.path[0] += "/../lib"
-import helper  # noqa: E402
+import helper
 
 # Whether an administrator has to act, by the exit status, while an executor has the journal; without one it is 10.
 ALARM = {"failed": 9, "unknown": 9}
@@ -160,7 +156,3 @@ class States(helper.Check):
         self.assertEqual(self.condition("r1")["since"], first["since"])
         self.ends(6, "monitor")
         self.assertIn("last failure  monitor: not configured (OCF_ERR_CONFIGURED, 6), ", self.status("r1").decode())
-
-
-if __name__ == "__main__":
-    helper.main()

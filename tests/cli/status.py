@@ -1,16 +1,12 @@
-#!/usr/bin/env python3
 """What `status` prints of no journal, of an empty one, and of one that an executor has, with ended, withdrawn, running and queued actions:
-as a table and as JSON, of all resources and of one, with colours only on a terminal. It changes nothing.
-Use: status.py PROGRAM"""
+as a table and as JSON, of all resources and of one, with colours only on a terminal. It changes nothing."""
 import json
 import os
 import re
-import sys
 
-sys.path[0] += "/../lib"
-import helper  # noqa: E402
-from helper import action, register  # noqa: E402
-from shown import Shown  # noqa: E402
+import helper
+from helper import action, register
+from shown import Shown
 
 MOMENTS, IDENTITY = re.compile(r'"(at|since)":\d+'), re.compile(r'"identity":"[0-9a-f]{32}"')
 RED = "\x1b[31m"
@@ -192,7 +188,3 @@ class InUse(Shown):
         self.executor.awaits(lambda value: value.get("tag") == "after")
         self.is_unchanged()
         self.assertEqual(self.executor.ends(), 0)
-
-
-if __name__ == "__main__":
-    helper.main()

@@ -1,21 +1,17 @@
-#!/usr/bin/env python3
 """The lines on standard error during a run, for which nothing waits. A start that the system refuses is named with its run, its resource
 and the system's error. A full pipe that nobody reads delays no reply, and the first line that is written after it has been read has the
 number of lines that were left out. A line is cut at 4,096 bytes. A reader that goes away stops nothing. A signal that ends an agent is
-named. A fault that ends the program has one line for programs; at a terminal and in the system's journal also the cause and the remedy.
-Use: stderr.py PROGRAM"""
+named. A fault that ends the program has one line for programs; at a terminal and in the system's journal also the cause and the remedy."""
 import os
 import pty
 import resource
 import shutil
 import signal
 import subprocess
-import sys
 import unittest
 
-sys.path[0] += "/../lib"
-import helper  # noqa: E402
-from helper import PROGRAM  # noqa: E402
+import helper
+from helper import PROGRAM
 
 EXEC_FORMAT = "Exec format error (os error 8)"
 LEFT_OUT = "ocfexec: messages dropped before this one, since standard error could not be written: {}\n"
@@ -252,7 +248,3 @@ class StandardError(helper.Check):
         os.close(self.reader)
         self.starts(run, 2)
         self.assertEqual(run.ends(5), 0)
-
-
-if __name__ == "__main__":
-    helper.main()

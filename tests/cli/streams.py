@@ -1,17 +1,13 @@
-#!/usr/bin/env python3
 """Standard output that is full, closed or without a reader, standard input that cannot be read, standard error that cannot be written, and
 memory that is refused: the exit status, and all lines on standard error. That is one line for programs; if the environment names standard
-error as the stream to the system's journal, the cause and the remedy come after it.
-Use: streams.py PROGRAM"""
+error as the stream to the system's journal, the cause and the remedy come after it."""
 import os
 import re
 import resource
 import subprocess
-import sys
 import tempfile
 
-sys.path[0] += "/../lib"
-import helper  # noqa: E402
+import helper
 
 LIST, NONE = b'{"op":"list"}\n', b'{"ok":true,"resources":[]}\n'
 LINE = "ocfexec: input or output\n"
@@ -121,7 +117,3 @@ class Memory(helper.Check):
         self.assertLessEqual({"answered", "refused"}, set(found.values()))
         begins = min(limit for limit, end in found.items() if end == "refused")
         self.assertEqual([limit for limit, end in found.items() if limit > begins and end == "otherwise"], [], "KiB")
-
-
-if __name__ == "__main__":
-    helper.main()

@@ -1,15 +1,11 @@
-#!/usr/bin/env python3
 """The status of `run --strict`: 1 if a line was refused or not done, or if an action failed, and otherwise that of `run`, whose output it
-has byte for byte. What is no failure: a degraded monitor, an expected code, and what was interrupted, dropped or cancelled.
-Use: strict.py PROGRAM"""
+has byte for byte. What is no failure: a degraded monitor, an expected code, and what was interrupted, dropped or cancelled."""
 import os
 import re
 import subprocess
-import sys
 
-sys.path[0] += "/../lib"
-import helper  # noqa: E402
-from helper import PROGRAM  # noqa: E402
+import helper
+from helper import PROGRAM
 
 LINE = b"ocfexec: a line was not done or an action failed\n"
 ADVICE = b"The replies and notices on standard output say which.\n"
@@ -133,8 +129,3 @@ class Strict(helper.Check):
             done = helper.run(word, "--memory", "--strict")
             self.assertEqual((done.returncode, b"unexpected argument '--strict'" in done.stderr), (2, True), word)
         self.assertIn(b"--strict", helper.run("run", "--help").stdout)
-
-
-if __name__ == "__main__":
-    os.environ.pop("JOURNAL_STREAM", None)
-    helper.main()

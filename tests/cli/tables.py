@@ -1,18 +1,15 @@
-#!/usr/bin/env python3
 """The table that a status prints, for a terminal of 80, 120 and 200 columns and for a pipe: a line for each resource, which never breaks,
 with lines below it only where something is wrong; the last line, --failed, several IDs, a folded history, --times, --watch and colours. The
-tables are those of tests/data/status. Use: tables.py PROGRAM"""
+tables are those of tests/data/status."""
 import os
 import re
 import subprocess
-import sys
 import unicodedata
 
-sys.path[0] += "/../lib"
-import helper  # noqa: E402
-import journal_format as book  # noqa: E402
-from shown import Shown  # noqa: E402
-from written_journal import HOUR, MINUTE, NOT_RUNNING, SECOND, Written  # noqa: E402
+import helper
+import journal_format as book
+from shown import Shown
+from written_journal import HOUR, MINUTE, NOT_RUNNING, SECOND, Written
 
 TABLES = os.path.join(helper.TOP, "tests/data/status")
 LONG = "a-very-long-id-of-sixty-four-letters-" + "x" * 27
@@ -165,7 +162,3 @@ class Tables(Shown):
         self.assertIn(b"\n", lines)
         run.stdout.close()
         self.assertEqual(run.wait(helper.PATIENCE), 0)
-
-
-if __name__ == "__main__":
-    helper.main()

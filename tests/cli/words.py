@@ -1,16 +1,12 @@
-#!/usr/bin/env python3
 """The words of the command line: help and version on request, the options of a run as an agent is asked for its metadata, the journal that
 arguments and environment name, moments and spans, and words that are refused, with the exit status and all lines on standard error. What
-each option does is tried in options.py.
-Use: words.py PROGRAM"""
+each option does is tried in options.py."""
 import os
 import re
 import subprocess
-import sys
 import unittest
 
-sys.path[0] += "/../lib"
-import helper  # noqa: E402
+import helper
 
 # (package/release.sh writes it)
 VERSION = "0.2.0"
@@ -208,7 +204,3 @@ class Refused(Words):
             status, text, err = called(*words.split())
             self.assertEqual((status, text), (2, ""), words)
             self.assertRegex(err, re.compile(part, re.MULTILINE), words)
-
-
-if __name__ == "__main__":
-    helper.main()

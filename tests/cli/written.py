@@ -1,7 +1,6 @@
-#!/usr/bin/env python3
 """A client that is written from docs/FORMAT.md, docs/CLIENTS.md and docs/protocol.schema.json alone, in fewer than 100 lines: it keeps one
 service running through kills of the service and of its executor, and finds each result once.
-Use: written.py PROGRAM, with ROUNDS and SEED in the environment"""
+The environment may set ROUNDS and SEED."""
 import collections
 import fcntl
 import inspect
@@ -11,12 +10,10 @@ import random
 import select
 import signal
 import subprocess
-import sys
 import time
 
-sys.path[0] += "/../lib"
-import helper  # noqa: E402
-from helper import PROGRAM  # noqa: E402
+import helper
+from helper import PROGRAM
 
 ROUNDS, ALIVE, KILLED_AFTER = 30, 5, 60
 AGENT = """echo "$1" >> {here}/calls
@@ -108,6 +105,7 @@ class Client:
                 self.open()
 
 
+@helper.in_memory
 class Written(helper.Check):
     def test_short(self):
         """it has fewer than 100 lines"""
@@ -143,7 +141,3 @@ class Written(helper.Check):
         runs = sorted(result["run"] for result in client.results if result["run"])
         self.assertEqual(runs, list(range(1, len(runs) + 1)), "each run once")
         self.assertGreater(len(runs), ROUNDS)
-
-
-if __name__ == "__main__":
-    helper.main(in_memory=True)

@@ -1,21 +1,17 @@
-#!/usr/bin/env python3
 """The file `agents` of a journal's directory: who runs. Wanted: it has one length, an entry for each running agent and none for an ended
 one; it is written once for each spawn and once for each end, and never synced. An opening believes only what it can: a file of garbage, of
 another length or of another boot, a named pipe, a directory and a link are no record, are named in one line, stop nothing and hold nothing,
 and so is an entry of a process that is another one by now; garbage in one line hides no other entry. What a link leads to is left alone. A
-stop runs also where no line is free for it.
-Use: agents_file.py PROGRAM"""
+stop runs also where no line is free for it."""
 import os
 import shutil
 import stat
 import subprocess
-import sys
 import time
 import unittest
 
-sys.path[0] += "/../lib"
-import acting  # noqa: E402
-import helper  # noqa: E402
+import acting
+import helper
 
 LINE, SLOTS = 256, 512
 LENGTH = (1 + SLOTS) * LINE
@@ -347,7 +343,3 @@ class AgentsFile(acting.Acting):
             done = helper.run("status", "--journal", self.folder, timeout=helper.PATIENCE)
             self.assertEqual((done.returncode, done.stderr), (0, b""))
             self.assertIn(b"r1", done.stdout)
-
-
-if __name__ == "__main__":
-    helper.main()

@@ -1,18 +1,14 @@
-#!/usr/bin/env python3
 """A device that fails under serve, in a turn of its own and in a command, a drain and a tidy: serve sends the line of the fault and ends at
 once, its agents are gone, and the next opening reports the running action. A run goes on answering, to the end of its input. A full
 journal: serve reports it once, and again after it was not full.
-Files that cannot be read.
-Use: faults.py PROGRAM"""
+Files that cannot be read."""
 import errno
 import os
 import subprocess
-import sys
 import time
 
-sys.path[0] += "/../lib"
-import helper  # noqa: E402
-from helper import action, register  # noqa: E402
+import helper
+from helper import action, register
 
 LINE = {"end": "disk"}
 
@@ -167,7 +163,3 @@ class Faults(helper.Check):
         self.eventually("monitors that go on", lambda: len(run.notices()) > seen)
         self.assertEqual(self.fill(run), 2)
         self.assertEqual(run.ends(), 0)
-
-
-if __name__ == "__main__":
-    helper.main()

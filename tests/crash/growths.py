@@ -1,26 +1,22 @@
-#!/usr/bin/env python3
-# check: slow
 """Refuses each growth of memory of whole runs, one in each run: the K-th malloc, calloc or realloc of the program fails
 (tests/shims/growths.c, loaded before the C library), for K = 1, 2, .. until a run has no K-th one; for the opening of a full journal only
 one in 199. Wanted each time: no signal. An opening to which memory is refused ends with status 4, has answered nothing and leaves the files
 as they were, except for a creation. A command is refused with `memory`, and everything else is as in a run without it. A turn ends as
 `memory`, or an agent is not started, and no request is lost. A reply or a notice ends the run with status 7, and what was sent is in the
 journal. Otherwise the run is like any other.
-Use: growths.py PROGRAM, with LINKED in the environment if tests/shims/growths.c is linked into the program"""
+The environment sets LINKED if tests/shims/growths.c is linked into the program."""
 import collections
 import json
 import os
 import shutil
 import struct
 import subprocess
-import sys
 import threading
 import time
 import unittest
 
-sys.path[0] += "/../lib"
-import helper  # noqa: E402
-from helper import PROGRAM  # noqa: E402
+import helper
+from helper import PROGRAM
 
 MEMORY = {"error": "memory", "number": 15}
 # How standard error begins with each status, if it goes to the system's journal.
@@ -104,6 +100,8 @@ def state(folder):
     return {name: values[1 + 2 * place:3 + 2 * place] for place, name in enumerate(values[0]["resources"])}
 
 
+@helper.slow
+@helper.in_memory
 @unittest.skipUnless(shutil.which("cc"), "install a C compiler")
 class Growths(helper.Check):
     def setUp(self):
@@ -516,7 +514,3 @@ class Growths(helper.Check):
                     self.assertTrue(found.status != 4 or not found.answers, "nothing with status 4")
             refuse += 1
         print(f"growths: run --memory: {base.made} growths, by status: {dict(sorted(ends.items()))}", flush=True)
-
-
-if __name__ == "__main__":
-    helper.main(in_memory=True, parts=3)

@@ -1,18 +1,15 @@
-#!/usr/bin/env python3
 """Kills `PROGRAM run` with signal 9 at random moments of a session whose agents are scripts, again and again on one journal. Wanted after
 each kill: everything acknowledged and reported is found; running actions are reported as interrupted, and queued ones as dropped; a second
 opening reports nothing and writes nothing. The same holds for a copy of the journal's directory, made just before the kill. Wanted at the
 end: no agent ran without a begin in the journal, and none ran twice.
-Use: kills.py PROGRAM, with ROUNDS, at most 16, and SEED in the environment"""
+The environment may set ROUNDS, at most 16, and SEED."""
 import random
 import shutil
 import subprocess
-import sys
 import time
 
-sys.path[0] += "/../lib"
-import helper  # noqa: E402
-from helper import PROGRAM  # noqa: E402
+import helper
+from helper import PROGRAM
 
 AGENTS = 16
 
@@ -117,7 +114,3 @@ class Kills(helper.Check):
         calls = [call for call in acknowledged.values() if call is not None]
         print(f"kills: {rounds} kills: {len(calls)} acknowledged actions, {len(ran)} agents that ran; {counts}")
         self.assertTrue(ended.count("done") and ended.count("interrupted"), "actions of both kinds: try more rounds")
-
-
-if __name__ == "__main__":
-    helper.main()

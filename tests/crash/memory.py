@@ -1,16 +1,11 @@
-#!/usr/bin/env python3
-# check: slow
 """Runs the program with less and less address space (RLIMIT_AS), from what it needs down to where it does not start. Wanted: it ends well,
 or for lack of memory, which is reported for people: status 4 before the first line is read, 7 after it; no stream is reported as failed,
 and no signal ends it. The answers are a prefix of those with enough memory, except for commands that were refused with `memory`, and the
-next opening finds them.
-Use: memory.py PROGRAM"""
+next opening finds them."""
 import resource
-import sys
 
-sys.path[0] += "/../lib"
-import helper  # noqa: E402
-from limited import STEP, Limited, least, limited  # noqa: E402
+import helper
+from limited import STEP, Limited, least, limited
 
 RESOURCES = 120
 NAMES = [f"r{place:03}" for place in range(RESOURCES)]
@@ -19,6 +14,8 @@ ASKED = helper.lines(*[helper.register(name, "t", "p", **PARAMS) for name in NAM
                      *[{"op": "info", "id": name} for name in NAMES])
 
 
+@helper.slow
+@helper.in_memory
 class Memory(Limited):
     def setUp(self):
         super().setUp()
@@ -55,7 +52,3 @@ class Memory(Limited):
             done = helper.run("run", "--journal", folder, sent=helper.lines({"op": "list"}))
             self.assertEqual(done.returncode, 0)
             self.assertGreaterEqual(len(helper.replies(done.stdout)[0]["resources"]), accepted, "resources that were accepted")
-
-
-if __name__ == "__main__":
-    helper.main(in_memory=True)

@@ -1,4 +1,3 @@
-#!/usr/bin/env python3
 """Kills an executor with signal 9 while its agents run, and opens its journal again. Wanted: the opening reports the interruption and is
 ready at once, with the number of an orphan that lives. Until that has ended with its whole group, by itself or at the end of its time, its
 resource begins nothing, whatever the orphan has made of itself; commands for it are queued, `status` and standard error name what is waited
@@ -6,19 +5,17 @@ for, and all other resources go on. The same if this executor is killed in turn.
 for and nothing is ended. A client that stops interrupted resources, probes them and starts them again, with many kills at random moments,
 never finds one up after a stop that succeeded, and never twice. What is left of an orphan's time is counted by the clock that its executor
 counts timeouts by, which a suspend of the machine does not set ahead.
-Use: orphans.py PROGRAM, with ROUNDS and SEED in the environment"""
+The environment may set ROUNDS and SEED."""
 import os
 import random
 import re
 import shutil
 import signal
-import sys
 import time
 import unittest
 
-sys.path[0] += "/../lib"
-import acting  # noqa: E402
-import helper  # noqa: E402
+import acting
+import helper
 
 # An action of the resource whose start was interrupted, which notes each process of that start that still lives.
 BESIDE = """#!/bin/sh
@@ -638,7 +635,3 @@ class Rounds(helper.Check):
             counts = [int(count) for count in text.read().split()]
         self.assertEqual(max(counts), 1, "one service that is up at a time")
         print(f"orphans: {kills} kills: {probes} probes, {len(counts)} starts that ended", flush=True)
-
-
-if __name__ == "__main__":
-    helper.main()

@@ -1,19 +1,14 @@
-#!/usr/bin/env python3
-# check: scenarios
 """The scenarios, tests/scenarios/data: text that is played through the public calls of the executor's crates, with a disk in memory whose
 crashes and faults are planned, and agent processes that answer as planned. An oracle that knows no journal checks what is found after a
 crash or a fault. The output is compared with the transcript beside each file, byte for byte. To play one file: `$(tests/scenarios/build.sh)
-< tests/scenarios/data/NAME.scenario`.
-Use: scenarios.py [PROGRAM]"""
+< tests/scenarios/data/NAME.scenario`."""
 import itertools
 import os
 import re
 import subprocess
-import sys
 
-sys.path[0] += "/../lib"
-import helper  # noqa: E402
-import scenario_files  # noqa: E402
+import helper
+import scenario_files
 
 # how many bytes are shown of a line that differs
 SHOWN = 60
@@ -49,6 +44,7 @@ def transcript_test(subject):
     return test
 
 
+@helper.needs("scenarios")
 class Transcripts(helper.Check):
     pass
 
@@ -57,6 +53,7 @@ for name in scenario_files.subjects():
     setattr(Transcripts, f"test_{name}", transcript_test(name))
 
 
+@helper.needs("scenarios")
 class Language(helper.Check):
     def ends_at(self, text, printed, line):
         """The player prints this, and ends at a line that is not a step."""
@@ -90,8 +87,3 @@ class Language(helper.Check):
         twice = sorted({name for name in names if names.count(name) > 1})
         self.assertEqual(twice, [], "names that two scenarios have")
         self.assertEqual([name for name in names if re.fullmatch(r"\w+ [0-9]+(-[0-9]+)?", name)], [], "names that say nothing")
-
-
-if __name__ == "__main__":
-    helper.built("scenarios")
-    helper.main(parts=4)

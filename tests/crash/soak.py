@@ -1,5 +1,3 @@
-#!/usr/bin/env python3
-# check: slow trials
 """A long history: hours over one journal, on a simulated clock. The program of tests/trials plays them through the program's own session,
 with a disk in memory and scripted agents; this module plans them, and checks all output. 64 resources have four recurring monitors each. A
 client starts, stops, withdraws and asks at random, at times a hundred lines at once. The wall clock jumps at each opening, and the session
@@ -10,17 +8,15 @@ unreported result of each resource. Each action that was queued or ran is report
 opening reports exactly those that it found so. A reply has the tag of its line, and a notice that of a call of its hour. The parts stay
 below their limit and are tidied. The memory does not grow with the days. At the end, after an orderly close, each history is exactly what
 was reported.
-Use: soak.py [PROGRAM], with DAYS and SEED in the environment"""
+The environment may set DAYS and SEED."""
 import collections
 import json
 import os
 import random
 import subprocess
-import sys
 import time
 
-sys.path[0] += "/../lib"
-import helper  # noqa: E402
+import helper
 
 HOUR = 3_600_000
 PART_LIMIT = 8_388_608
@@ -345,6 +341,8 @@ class Life:
         return self.program.wait()
 
 
+@helper.slow
+@helper.needs("trials")
 class Soak(helper.Check):
     def test_minute(self):
         """a history of a minute prints exactly what it printed before"""
@@ -388,8 +386,3 @@ class Soak(helper.Check):
         counts, _, _ = self.lived(2, plain=False, tidies=True)
         self.assertGreater(counts["reported"], 1000, "results that were reported")
         self.assertGreater(counts["epochs"], 2, "tidies")
-
-
-if __name__ == "__main__":
-    helper.trials()
-    helper.main(parts=2)

@@ -1,15 +1,10 @@
-#!/usr/bin/env python3
-# check: slow
 """The stack of the program, which the kernel ends by SIGSEGV if a limit of the address space (RLIMIT_AS) keeps it from growing. So it is
 grown at the start, while there is memory for it. Wanted: it does not grow later, and with any limit the program ends by itself, well or for
-lack of memory, or is not loaded.
-Use: stack.py PROGRAM"""
+lack of memory, or is not loaded."""
 import os
-import sys
 
-sys.path[0] += "/../lib"
-import helper  # noqa: E402
-from limited import STEP, Limited, least  # noqa: E402
+import helper
+from limited import STEP, Limited, least
 
 # the status with which the loader ends what it cannot load
 UNLOADED = 127
@@ -27,6 +22,8 @@ def size(run):
     return helper.kib(run.run.pid, "VmStk")
 
 
+@helper.slow
+@helper.in_memory
 class Stack(Limited):
     def of_once(self):
         """The size of the stack of an action by itself, for which no journal is opened and no line is read."""
@@ -76,7 +73,3 @@ class Stack(Limited):
                 self.is_explained(status, err, f"in {room} bytes")
             ends.add(status)
         self.assertIn(4, ends)
-
-
-if __name__ == "__main__":
-    helper.main(in_memory=True)

@@ -1,16 +1,11 @@
-#!/usr/bin/env python3
-# check: scenarios
 """The scenarios of tests/scenarios/data that name no disk, played over a store in memory (crates/test_stores) in place of two files: they
 print the same transcripts, but for the counts of device calls in the entries of starts, which are those of another device. So commands,
-turns and refusals do not know what their store is.
-Use: stores.py [PROGRAM]"""
+turns and refusals do not know what their store is."""
 import re
 import subprocess
-import sys
 
-sys.path[0] += "/../lib"
-import helper  # noqa: E402
-import scenario_files  # noqa: E402
+import helper
+import scenario_files
 
 # the steps that name a disk, its parts or its calls, or decode bytes
 ON_DISKS = {b"part", b"parts", b"image", b"fault", b"stop", b"stops", b"stopped", b"faults", b"lives", b"cuts", b"event", b"state",
@@ -49,6 +44,7 @@ def played(text):
     return done.returncode, done.stdout, done.stderr
 
 
+@helper.needs("scenarios")
 class Stores(helper.Check):
     def test_transcripts(self):
         """the scenarios without a disk print their transcripts over a store in memory"""
@@ -74,8 +70,3 @@ class Stores(helper.Check):
         status, _, said = played(b"scenario one\nopen 0\nparts\n")
         self.assertNotEqual(status, 0)
         self.assertIn(b"no disk", said)
-
-
-if __name__ == "__main__":
-    helper.built("scenarios")
-    helper.main()

@@ -1,20 +1,16 @@
-#!/usr/bin/env python3
-# check: slow
 """Tidies one journal again and again, with a change between each two, and kills `PROGRAM run` with signal 9 at random moments. Wanted after
 each kill: the last acknowledged change is found, or one that was sent after it; everything that never changed is found as it was; a second
 opening writes nothing. A session of four times the capacity of a part is answered without a refusal, since the program tidies by itself;
 with `--tidy-at 0` it is refused as journal-full. While an agent runs the program does not tidy at its first mark: a timeout is reported in
 time though each sync is slow, and the journal is tidied after it.
-Use: tidies.py PROGRAM, with ROUNDS and SEED in the environment"""
+The environment may set ROUNDS and SEED."""
 import os
 import random
 import subprocess
-import sys
 import time
 
-sys.path[0] += "/../lib"
-import helper  # noqa: E402
-from helper import PROGRAM, action  # noqa: E402
+import helper
+from helper import PROGRAM, action
 
 PAIRS = 1500
 LARGE = {f"p{place:02}": chr(97 + place) * 1000 for place in range(15)}
@@ -29,6 +25,8 @@ def change(number):
     return {"op": "params", "id": "count", "params": {"n": str(number)}}
 
 
+@helper.slow
+@helper.in_memory
 class Tidies(helper.Check):
     def session(self, folder, commands, *options):
         # the replies of a whole session
@@ -123,7 +121,3 @@ class Tidies(helper.Check):
         self.assertGreater(os.path.getsize(os.path.join(journal, "part-a")), length + 40000, "past the first mark")
         self.eventually("a tidy once nothing runs", lambda: os.path.getsize(os.path.join(journal, "part-b")) >= 2000000)
         self.assertEqual(run.ends(60), 0)
-
-
-if __name__ == "__main__":
-    helper.main(in_memory=True)

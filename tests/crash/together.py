@@ -1,8 +1,7 @@
-#!/usr/bin/env python3
 """Commands that arrive together: written at once, from a file, and cut at random places, they are answered like one by one, by `run` and by
 `serve`, in memory and with a journal, and leave the same state. After kills at random moments, and in each device call of a batch, the next
 opening finds everything that was answered, and a prefix of the commands.
-Use: together.py PROGRAM, with COUNT, ROUNDS and SEED in the environment"""
+The environment may set COUNT, ROUNDS and SEED."""
 import fcntl
 import json
 import os
@@ -11,13 +10,11 @@ import re
 import shutil
 import struct
 import subprocess
-import sys
 import tempfile
 import time
 
-sys.path[0] += "/../lib"
-import helper  # noqa: E402
-from helper import PROGRAM, action  # noqa: E402
+import helper
+from helper import PROGRAM, action
 
 # whether commands that are completely in the input are recorded as one batch
 EXPECT_ROWS = True
@@ -249,6 +246,7 @@ def asking(commands):
     return [each for place, command in enumerate(commands) for each in [command, *[{"op": "list"}] * (place % 5 == 4)]]
 
 
+@helper.in_memory
 class Together(helper.Check):
     def setUp(self):
         super().setUp()
@@ -442,7 +440,3 @@ class Together(helper.Check):
             more = [found - replied for replied, found in seen]
             print(f"together: {3 * count} commands, {among.__name__}: killed in each of {len(seen)} device calls: "
                   f"in {sum(map(bool, more))} of them more is found than was replied, by {max(more)} commands at most", flush=True)
-
-
-if __name__ == "__main__":
-    helper.main(in_memory=True)

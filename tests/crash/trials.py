@@ -1,18 +1,14 @@
-#!/usr/bin/env python3
-# check: trials
 """The tests of the trials, tests/trials: each call that allocates is refused, with nothing changed, in heaps of growing size until there is
 enough for it; what agent processes request of a simulated system when they are killed or outlive that, and what becomes of them where any
 one of its calls is refused, once or from then on; what a crash or a fault in each device call of an opening leaves, with each fill of
-unsynced bytes; and sessions over simulated readers and writers.
-Use: trials.py [PROGRAM]"""
+unsynced bytes; and sessions over simulated readers and writers."""
 import os
 import subprocess
-import sys
 
-sys.path[0] += "/../lib"
-import helper  # noqa: E402
+import helper
 
 
+@helper.needs("trials")
 class Trials(helper.Check):
     def says(self, name, plain=False):
         """The tests of this name print the expected output, each of them, with AddressSanitizer or without."""
@@ -40,8 +36,3 @@ class Trials(helper.Check):
     def test_many(self):
         """a million lines that are there at once, for run and for serve"""
         self.says("many", plain=True)
-
-
-if __name__ == "__main__":
-    helper.trials()
-    helper.main(parts=5)

@@ -1,25 +1,23 @@
-#!/usr/bin/env python3
-# check: slow alone
 """The cost of a recorded command besides its device calls. Commands go through `PROGRAM run --journal`, each sent after the reply to the
 one before it, so that each is a record of its own; a C loop (durable.c) makes the same two writes and two syncs in the same directory, by
 turns. Wanted on a quiet machine: at most 50 microseconds more than the loop and the two pipes. The check fails at ten times that, if it is
 also twice the loop's time, so that it passes on a busy machine.
-Use: durable.py PROGRAM, with COMMANDS and ROUNDS in the environment"""
+The environment may set COMMANDS and ROUNDS."""
 import os
 import shutil
 import statistics
 import subprocess
-import sys
 import time
 
-sys.path[0] += "/../lib"
-import helper  # noqa: E402
-from helper import PROGRAM  # noqa: E402
+import helper
+from helper import PROGRAM
 
 OK = b'{"ok":true}\n'
 SOURCE = os.path.join(helper.TOP, "tests/journal/durable.c")
 
 
+@helper.slow
+@helper.alone
 class Durable(helper.Check):
     def timed(self, work):
         """The microseconds that a piece of work takes."""
@@ -57,7 +55,3 @@ class Durable(helper.Check):
         print(f"durable: ratio {command / loop:.2f}, {command - loop:.0f} microseconds more (at most 50 wanted)", flush=True)
         if command > 2 * loop:
             self.assertLessEqual(command - loop, 500 * helper.slowness(), "microseconds more than the loop")
-
-
-if __name__ == "__main__":
-    helper.main()

@@ -1,16 +1,12 @@
-#!/usr/bin/env python3
 """Journals in files: which files are created, which are refused and how that is reported, which owners root accepts, the output of show for
-a directory that may only be read, and an executor without standard output.
-Use: files.py PROGRAM"""
+a directory that may only be read, and an executor without standard output."""
 import os
 import stat
-import sys
 import unittest
 
-sys.path[0] += "/../lib"
-import directories  # noqa: E402
-import helper  # noqa: E402
-from directories import EMPTY, LIST, LISTED, OK, OTHER, REGISTER  # noqa: E402
+import directories
+import helper
+from directories import EMPTY, LIST, LISTED, OK, OTHER, REGISTER
 
 # Part A of a journal of r1, by the format, up to the eight bytes of the moment of its registration and after them.
 BEFORE = "014f43464a0200000000000000010000001a0000000000000001000000000000000100000000000000000000010000001d01"
@@ -178,7 +174,3 @@ class Owners(directories.Directories):
         os.chown(folder, OTHER, -1)
         os.chmod(folder, 0o777)
         self.assertEqual(self.replied(folder, REGISTER, **other), [OK])
-
-
-if __name__ == "__main__":
-    helper.main()

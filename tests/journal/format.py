@@ -1,20 +1,17 @@
-#!/usr/bin/env python3
 """The second reader and writer of the journal's bytes, tests/lib/journal_format.py, on the program's writes and its output of show. Each
 event that a run records is decoded, and encoded again to the same bytes; so is a state with all that a state may have, as a tidy writes it.
 A part written by hand is shown as intended; so are the stored journals of the first layout. Both agree on random parts, some of which are
 damaged.
-Use: format.py PROGRAM, with ROUNDS and SEED in the environment"""
+The environment may set ROUNDS and SEED."""
 import gzip
 import os
 import shutil
-import sys
 
-sys.path[0] += "/../lib"
-import helper  # noqa: E402
-import journal_format  # noqa: E402
-from chance import by_chance  # noqa: E402
-from helper import action  # noqa: E402
-from journal_format import (ACTIONS, CLOSED, DETAILS, DROPPED, FIRST, INTERRUPTED, MONITOR, NOT_STARTED, RAN, SECOND, START,  # noqa: E402
+import helper
+import journal_format
+from chance import by_chance
+from helper import action
+from journal_format import (ACTIONS, CLOSED, DETAILS, DROPPED, FIRST, INTERRUPTED, MONITOR, NOT_STARTED, RAN, SECOND, START,
                             STOP, event)
 
 REFUSED = 5
@@ -186,7 +183,3 @@ class Format(helper.Check):
         self.assertEqual(said, wanted and f"ocfexec: damaged part {wanted}\n", f"of {parts[0].hex()}")
         if parts[0] == text and not wanted:
             self.assertEqual(helper.replies(shown.stdout)[0]["resources"], [each["id"] for each in state["resources"]])
-
-
-if __name__ == "__main__":
-    helper.main()

@@ -1,20 +1,16 @@
-#!/usr/bin/env python3
 """Journals without space: on a device that is full, where space was reserved for them before, and with a part that is full. Wanted of the
 opening of a full part, on a quiet machine: under 0.5 seconds and 64 MiB of memory. The check fails at ten times that time, so that it
-passes on a busy machine.
-Use: full.py PROGRAM"""
+passes on a busy machine."""
 import os
 import resource
 import shutil
 import signal
 import subprocess
-import sys
 import time
 
-sys.path[0] += "/../lib"
-import directories  # noqa: E402
-import helper  # noqa: E402
-from directories import CHECK_DEVICE, LIST, LISTED, OK, REGISTER, TIDIED, TIDY  # noqa: E402
+import directories
+import helper
+from directories import CHECK_DEVICE, LIST, LISTED, OK, REGISTER, TIDIED, TIDY
 
 # Replaces all parameters of r1, by 15 of a KiB each.
 LARGE = {"op": "params", "id": "r1", "params": {name: f"{0:01024}" for name in "abcdefghijklmno"}}
@@ -99,7 +95,3 @@ class Full(directories.Directories):
               f"(under 500 wanted) and {memory} KiB (under {KIB} wanted)")
         self.took_less(SECONDS, took, "opening a full part")
         self.assertLess(memory, KIB, "KiB of the opening of a full part")
-
-
-if __name__ == "__main__":
-    helper.main()

@@ -1,22 +1,18 @@
-#!/usr/bin/env python3
-# check: trials
 """Inputs that guided fuzzing found, tests/fuzz/corpus, are given once more to the readers that they were found for. None crashes, takes
 long or fails: decoded values encode to the same bytes, a refused pair is not written, and the journal of a run opens. The program of
 tests/trials reads them. For each pair the program's own `show` reports the damage that a second reader finds, which is written after
-docs/FORMAT.md alone.
-Use: fuzz.py PROGRAM"""
+docs/FORMAT.md alone."""
 import os
 import subprocess
-import sys
 
-sys.path[0] += "/../lib"
-import helper  # noqa: E402
-from journal_format import damage  # noqa: E402
+import helper
+from journal_format import damage
 
 CORPUS = os.path.join(helper.TOP, "tests/fuzz/corpus")
 SHOWN, REFUSED, DAMAGED = 0, 5, 3
 
 
+@helper.needs("trials")
 class Fuzz(helper.Check):
     def hand(self, text, *words, name="", said=b""):
         """Gives these bytes to a reader."""
@@ -99,7 +95,3 @@ class Fuzz(helper.Check):
                 self.assertEqual(said, wanted and f"ocfexec: damaged part {wanted}", name)
                 self.assertEqual(done.returncode, DAMAGED if wanted else SHOWN, name)
             self.assertEqual(helper.parts(folder), parts, name)
-
-
-if __name__ == "__main__":
-    helper.main()

@@ -1,8 +1,6 @@
-#!/usr/bin/env python3
 """The identity of a journal: made with it, kept over openings, made anew and said where it is missing or is none. A part that was written
 and is empty is refused, whatever reads the journal; no kill in a creation or a first tidy leaves a journal that is refused. A directory
-without a journal is refused by --existing. Nothing in the directory that is no plain file is waited for.
-Use: identity.py PROGRAM"""
+without a journal is refused by --existing. Nothing in the directory that is no plain file is waited for."""
 import os
 import re
 import shutil
@@ -10,11 +8,9 @@ import signal
 import socket
 import stat
 import subprocess
-import sys
 
-sys.path[0] += "/../lib"
-import helper  # noqa: E402
-from helper import PROGRAM, register  # noqa: E402
+import helper
+from helper import PROGRAM, register
 
 TEXT = re.compile(rb"[0-9a-f]{32} [a-][b-]\n")
 ANEW = "ocfexec: {}/identity was missing or no identity, and is made anew\n"
@@ -237,7 +233,3 @@ class Identity(helper.Check):
                         if name in helper.PARTS and word not in ("run", "show"):
                             self.assertEqual(done.stderr.decode(), f"ocfexec: disk: {folder}/{name}: not a plain file\n")
                     shutil.rmtree(folder)
-
-
-if __name__ == "__main__":
-    helper.main()

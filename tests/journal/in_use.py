@@ -1,19 +1,15 @@
-#!/usr/bin/env python3
 """Journals that an executor holds: no other executor opens them, and they are shown while it is busy. When their files or directories are
-replaced, renamed, removed, cut or covered, or grow, the executor acknowledges nothing more, and names the cause.
-Use: in_use.py PROGRAM"""
+replaced, renamed, removed, cut or covered, or grow, the executor acknowledges nothing more, and names the cause."""
 import json
 import os
 import shutil
 import subprocess
-import sys
 import threading
 import time
 
-sys.path[0] += "/../lib"
-import directories  # noqa: E402
-import helper  # noqa: E402
-from directories import ERROR_DISK, LIST, LISTED, START, TIDIED  # noqa: E402
+import directories
+import helper
+from directories import ERROR_DISK, LIST, LISTED, START, TIDIED
 
 IN_USE = "In use: only one executor at a time can hold a journal; show, status, log and metrics can read it meanwhile."
 REPLACED, CUT, NOT_THERE = "replaced while in use", "cut or grown while in use", "No such file or directory (os error 2)"
@@ -135,7 +131,3 @@ class Busy(directories.Directories):
         found = directories.texts(run)
         self.assertEqual(set(found), {directories.OK, TIDIED})
         print(f"in_use: {SHOWS} shows of a busy journal: {last} resources in the last one, {found.count(TIDIED)} tidies")
-
-
-if __name__ == "__main__":
-    helper.main()

@@ -1,14 +1,10 @@
-#!/usr/bin/env python3
 """Journals whose parts are encoded by hand, after docs/FORMAT.md: how they are shown, what their opening reports, each cause of damage, and
-a part that has no space left for a boot.
-Use: journals.py PROGRAM"""
+a part that has no space left for a boot."""
 import subprocess
-import sys
 
-sys.path[0] += "/../lib"
-import helper  # noqa: E402
-from helper import PROGRAM  # noqa: E402
-from journal_format import BODY, CLOSED, DONE, MONITOR, OPEN, PART, START, STOP, event, head, number, record  # noqa: E402
+import helper
+from helper import PROGRAM
+from journal_format import BODY, CLOSED, DONE, MONITOR, OPEN, PART, START, STOP, event, head, number, record
 
 SHOWN = b"""\
 {"ok":true,"resources":["r1","r2"]}
@@ -202,7 +198,3 @@ class Journals(helper.Check):
         found = self.shows(folder)
         self.assertEqual(found.returncode, 0)
         self.assertEqual(helper.replies(found.stdout)[1]["running"], {"call": 1, "key": "r1_start_0", "run": 1})
-
-
-if __name__ == "__main__":
-    helper.main()

@@ -1,23 +1,20 @@
-#!/usr/bin/env python3
 """Opens journals of the first layout, written by a program that knew no other: tests/data/first-layout has their parts, and that program's
 `show` of each. In `resting` no action runs; in `running` the program was killed while two agents ran and an action was queued. Wanted:
 `show` prints the same, with the keys of the second layout, and writes nothing. An opening leaves the second layout in the other part, loses
 nothing and reports interrupted and dropped actions. The next opening of a journal at rest writes nothing. After kills at random moments of
 the migration, the journal is always shown the same.
-Use: layouts.py PROGRAM, with KILLS and SEED in the environment"""
+The environment may set KILLS and SEED."""
 import gzip
 import json
 import os
 import random
 import shutil
 import subprocess
-import sys
 import time
 
-sys.path[0] += "/../lib"
-import helper  # noqa: E402
-from helper import PARTS, PROGRAM  # noqa: E402
-from journal_format import head_of  # noqa: E402
+import helper
+from helper import PARTS, PROGRAM
+from journal_format import head_of
 
 DATA = os.path.join(helper.TOP, "tests/data/first-layout")
 
@@ -49,6 +46,7 @@ def but_for(text, ids):
     return shown[:1] + [line for n, line in enumerate(shown[1:]) if names[n // 2] not in ids]
 
 
+@helper.in_memory
 class Layouts(helper.Check):
     def unpack(self, old):
         shutil.rmtree(self.place("journal"), ignore_errors=True)
@@ -115,7 +113,3 @@ class Layouts(helper.Check):
             counts[self.killed(old, text, most)] += 1
         print("layouts: killed before, amid and after the way over:", counts)
         self.assertTrue(counts["before"] + counts["after"] < kills or kills < 50, "a kill amid the way over")
-
-
-if __name__ == "__main__":
-    helper.main(in_memory=True)

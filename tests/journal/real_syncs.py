@@ -1,10 +1,9 @@
-#!/usr/bin/env python3
 """The program's calls of the system: the reads, writes and syncs of a journal's files, the lines on standard output and the started agents,
 as a library that is loaded before the C library notes them (tests/shims/real_syncs.c). No proof says which file a sync reaches, and a
 journal reads the same whether it was synced or not. So this module checks the calls against RULES: in random sessions of `run` and `serve`,
 with tidies, kills and openings, from journals of the first layout, and on a device whose calls fail, are interrupted or are cut short.
 Libraries that lie about syncs must each break a rule.
-Use: real_syncs.py PROGRAM, with ROUNDS, FAULTS and SEED in the environment"""
+The environment may set ROUNDS, FAULTS and SEED."""
 import collections
 import errno
 import os
@@ -12,15 +11,13 @@ import random
 import re
 import shutil
 import subprocess
-import sys
 import time
 import typing
 
-sys.path[0] += "/../lib"
-import helper  # noqa: E402
-import journal_format  # noqa: E402
-from helper import PROGRAM, action  # noqa: E402
-from journal_format import BODY, CLOSED, FIRST, FRAME, KINDS, MAGIC, START, closed_gate, gate_after, head_of, is_headed  # noqa: E402
+import helper
+import journal_format
+from helper import PROGRAM, action
+from journal_format import BODY, CLOSED, FIRST, FRAME, KINDS, MAGIC, START, closed_gate, gate_after, head_of, is_headed
 
 RULES = {
     "opening": "an opening syncs each part before it reads it, and both before anything is written, acknowledged or started",
@@ -268,6 +265,7 @@ def first_layout():
     return journal_format.head(snapshot=snapshot, version=FIRST) + CLOSED
 
 
+@helper.in_memory
 class RealSyncs(helper.Check):
     def setUp(self):
         super().setUp()
@@ -449,7 +447,3 @@ class RealSyncs(helper.Check):
                 ("without an offset", is_write, lambda call: [call._replace(name="write")], {"change"})]:
             with self.subTest(what):
                 self.assertEqual(set(self.broken(calls, texts, is_one, change)), rules)
-
-
-if __name__ == "__main__":
-    helper.main(in_memory=True)

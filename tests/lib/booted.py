@@ -1,7 +1,6 @@
 """The checks of tests/system/booted.py in the container that it boots, where each has its sentence: the guide with the package, and the
 installed unit, with systemctl(1) and journalctl(1) themselves. It writes to /etc and /usr of that machine, and must not run on a machine
-that is kept.
-Use: booted.py PROGRAM"""
+that is kept."""
 import json
 import os
 import shutil
@@ -237,7 +236,3 @@ class Units(helper.Check):
         self.does("kill", "--kill-who=main", "--signal=SIGUSR1", "ocfexec")
         self.comes("its end", lambda: shown("ActiveState") == "inactive")
         self.assertTrue(helper.is_alive(pid), "the service lives")
-
-
-if __name__ == "__main__":
-    helper.main()

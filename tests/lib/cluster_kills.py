@@ -3,7 +3,7 @@ manager, a member, a node, and a node's link to the network if it has one. Wante
 list of processes; after each series of kills every service is up again within its bound; each manager's record of results has each run of
 its journal exactly once, and equals the histories; and without fencing, nothing of a lost node is taken over. It ends everything that it
 started by process id.
-Use: cluster_kills.py PROGRAM DIRECTORY kills COUNT SEED yes|no, or without-fencing yes|no, by tests/system/cluster.py; the last word says
+Use: cluster_kills.py DIRECTORY kills COUNT SEED yes|no, or without-fencing yes|no, by tests/system/cluster.py; the last word says
 whether it is in namespaces of its own. With up to 30 kills it ends after 115 seconds, with the kills that were made by then."""
 import contextlib
 import json
@@ -200,7 +200,7 @@ def without_fencing(folder, namespaces):
 
 
 def main():
-    _, folder, part, *words, namespaces = sys.argv[1:]
+    folder, part, *words, namespaces = sys.argv[1:]
     {"kills": kills, "without-fencing": without_fencing}[part](folder, namespaces == "yes", *words)
 
 

@@ -1,12 +1,9 @@
-"""Shared code of the Python checks: the program, a directory for each check, its agents, the lines of commands, and runs with input and
-output. A module is called as `tests/FOLDER/NAME.py PROGRAM`; each of its tests is a check, which is printed with its time. With ONLY in
-the environment, only the test of that sentence is tried; with `-k WORD` after the program, those with this word in their name or
-sentence; and with `-f` no test after one that failed. `pytest` runs such a module, too, with PROGRAM in the environment. A failing test
-prints how to repeat it, with the numbers that it asked for; a random test, which asked for SEED, leaves its directory, with its input,
-in tests/failed."""
-import argparse
+"""Shared code of the tests: the program, a directory for each test, its agents, the lines of commands, and runs with input and output; the
+marks of tests, and their limit of time. They are run by pytest, with tests/conftest.py, or by one_by_one.py. A failing test prints how to
+repeat it, with the numbers that it asked for; a random test, which asked for SEED, leaves its directory, with its input, in tests/failed."""
 import contextlib
 import functools
+import inspect
 import json
 import os
 import re
@@ -19,14 +16,14 @@ import tempfile
 import threading
 import time
 import unittest
+import unittest.mock
 
 import schema
 
-IS_CALLED = os.path.exists(os.path.join(os.path.dirname(os.path.abspath(sys.argv[0])), "../lib/helper.py"))
-PROGRAM = os.path.realpath(sys.argv[1]) if IS_CALLED and len(sys.argv) > 1 else os.environ.get("PROGRAM", "")
+TOP = os.path.dirname(os.path.dirname(os.path.dirname(os.path.abspath(__file__))))
+PROGRAM = os.path.realpath(os.environ.get("PROGRAM") or os.path.join(TOP, "crates/ocfexec/out/ocfexec"))
 PARTS = ("part-a", "part-b")
 MEMORY = "/dev/shm"
-TOP = os.path.dirname(os.path.dirname(os.path.dirname(os.path.abspath(__file__))))
 FAILED = os.path.join(TOP, "tests/failed")
 # how many of the last lines are shown if another one did not come, and for how many seconds one is waited for; scaled up on a busy machine,
 # at most this many times
@@ -34,22 +31,25 @@ LAST, PATIENCE, SLOWER = 10, 60, 4
 # where the system reports for how long processes waited; for how many seconds in a test a quiet machine holds processes back at most; how
 # many times slower a busy one is at least; and for how many seconds that may hold a process back
 PRESSURE, QUIET, BUSY, BURST = "/proc/pressure", 0.25, 1.2, 10
-# how many seconds a whole run may take, which is less than a script of checks may
-WHOLE = 280
+# how many seconds a test may take, or 0 for as many as it likes, and how many more to clean up; and how many a whole run may
+LIMIT, GRACE, WHOLE = int(os.environ.get("TIME_LIMIT", 300)), 60, 280
 # the lines about a process that has not ended a tenth of a second after it was killed, and about its end: on a busy machine that is no
 # fault of the program
 STILL_ALIVE = re.compile(r"ocfexec: (?:\S+ waits for )?pid \d+ \([^\n]*\)[^\n]* is still alive after SIGKILL\n"
                          r"|ocfexec: \S+ waits no longer: pid \d+ of [^\n]* has ended\n")
 # the lines about what an interrupted action left: an opening has them if that lives, or has just ended
 HOLDS = re.compile(r"ocfexec: \S+ waits (?:for pid \d+ of [a-z-]+, at most \d+ s more|no longer: pid \d+ of [a-z-]+ has ended)\n")
-# how this module is called again, the numbers that the current test asked for, and for how long processes had waited when it began
-CALL, numbers, waited_before = [sys.argv[0], *([PROGRAM] if PROGRAM else [])], {}, [0.0]
+# what runs the tests, the numbers that the current test asked for, and for how long processes had waited when it began
+RUNNER = "-m pytest" if "pytest" in sys.modules else "tests/lib/one_by_one.py"
+numbers, waited_before = {}, [0.0]
 
 # The program names the signals that are ignored when it starts, such as those ignored by nohup or a script's `&`. Signals that Python
 # itself ignores have their default action in the processes that it starts.
 for ignored in signal.valid_signals() - {signal.SIGPIPE, signal.SIGXFSZ}:
     if signal.getsignal(ignored) == signal.SIG_IGN:
         signal.signal(ignored, signal.SIG_DFL)
+# (a service's standard error is the system's journal, and not that of the programs which are tested)
+os.environ.pop("JOURNAL_STREAM", None)
 
 
 def number(name, default):
@@ -59,9 +59,30 @@ def number(name, default):
 
 
 def slow(test):
-    """Marks a test that --fast leaves out."""
+    """Marks a test, or a class of tests, that FAST leaves out."""
     test.is_slow = True
     return unittest.skipIf(os.environ.get("FAST"), "slow")(test)
+
+
+def alone(test):
+    """Marks a test, or a class of tests, beside which nothing runs, as it measures time or load."""
+    test.is_alone = True
+    return test
+
+
+def needs(name):
+    """Marks a class of tests that need the program of this directory, tests/trials or tests/scenarios."""
+    def marked(case):
+        case.needed = (*case.needed, name)
+        return case
+    return marked
+
+
+def in_memory(case):
+    """Marks a class of tests whose runs sync thousands of times: their files are in memory, if programs can be run there. The data of a
+    killed program is there all the same."""
+    case.folder = MEMORY if os.access(MEMORY, os.W_OK) and not os.statvfs(MEMORY).f_flag & os.ST_NOEXEC else None
+    return case
 
 
 def register(name, kind, provider="test", **params):
@@ -193,10 +214,15 @@ def terminal_text(master):
     return text.decode().replace("\r\n", "\n")
 
 
+def stat_of(pid):
+    """The fields of /proc/PID/stat after the name: the state, the parent, and others."""
+    with open(f"/proc/{pid}/stat", encoding="ascii", errors="replace") as stat:
+        return stat.read().rsplit(")", 1)[1].split()
+
+
 def processor_time(pid):
     """The processor time of a process, in seconds."""
-    with open(f"/proc/{pid}/stat", encoding="ascii") as stat:
-        fields = stat.read().rsplit(")", 1)[1].split()
+    fields = stat_of(pid)
     return (int(fields[11]) + int(fields[12])) / os.sysconf("SC_CLK_TCK")
 
 
@@ -207,12 +233,18 @@ def kib(pid, name):
 
 
 @functools.cache
+def build(name):
+    """Builds the program of a directory, tests/trials or tests/scenarios, if it is missing or was built from other texts; several
+    processes may do so at once."""
+    return subprocess.run([os.path.join(TOP, "tests", name, "build.sh")], capture_output=True, text=True)
+
+
 def built(name):
-    """The program of a directory, tests/trials or tests/scenarios, which is built if it is missing or was built from other texts; the
-    runner of the checks has done so before a script that needs it."""
+    """The program of such a directory."""
     if there := os.environ.get(f"BUILT_{name.upper()}"):
         return there
-    done = subprocess.run([os.path.join(TOP, "tests", name, "build.sh")], stdout=subprocess.PIPE, check=True, text=True)
+    done = build(name)
+    assert done.returncode == 0, f"tests/{name}/build.sh: {done.stderr}"
     return done.stdout.strip()
 
 
@@ -231,10 +263,20 @@ def shim(source, folder):
 def is_alive(pid):
     """Whether a process runs, and is not a zombie."""
     try:
-        with open(f"/proc/{pid}/stat", encoding="ascii") as stat:
-            return stat.read().rsplit(")", 1)[1].split()[0] != "Z"
+        return stat_of(pid)[0] != "Z"
     except OSError:
         return False
+
+
+def descendants(pid):
+    """The processes below this one."""
+    parents, found = {}, {pid}
+    for name in filter(str.isdigit, os.listdir("/proc")):
+        with contextlib.suppress(OSError):
+            parents[int(name)] = int(stat_of(name)[1])
+    while more := {child for child, parent in parents.items() if parent in found} - found:
+        found |= more
+    return found - {pid}
 
 
 def slowness():
@@ -404,41 +446,84 @@ class Running:
             self.err.close()
 
 
-def count_bad(result):
-    """How many tests failed; pytest counts for itself."""
-    return len(getattr(result, "failures", ())) + len(getattr(result, "errors", ()))
+class Noted:
+    """A result of unittest or of pytest for one test, which notes whether that fails. A part of the test that fails is named."""
+
+    def __init__(self, result):
+        self.result, self.has_failed = result, False
+
+    def __getattr__(self, name):
+        return getattr(self.result, name)
+
+    def addFailure(self, test, error):
+        self.has_failed = True
+        self.result.addFailure(test, error)
+
+    def addError(self, test, error):
+        self.has_failed = True
+        self.result.addError(test, error)
+
+    def addSubTest(self, test, part, error):
+        if error:
+            print(f"failed: {part}", flush=True)
+            (self.addFailure if issubclass(error[0], test.failureException) else self.addError)(test, error)
 
 
 class Check(unittest.TestCase):
-    """A check has a directory of its own, `here`, which is also the root of its agents."""
+    """A check has a directory of its own, `here`, which is also the root of its agents. It ends after `limit` seconds."""
 
     longMessage = True
-    here = None
+    limit, needed, folder, here = LIMIT, (), None, None
 
     def setUp(self):
+        for name in self.needed:
+            if f"BUILT_{name.upper()}" not in os.environ:
+                build(name)
+        # (a build counts for no test)
+        self.begun = time.monotonic()
+        signal.signal(signal.SIGALRM, self.times_out)
+        signal.setitimer(signal.ITIMER_REAL, self.limit, GRACE)
         self.here = tempfile.mkdtemp()
+
+    def times_out(self, *_):
+        """Ends what the test started, and the test itself, unless the machine is busy."""
+        left = self.begun + self.limit * min(SLOWER, slowness()) - time.monotonic()
+        if left > 0:
+            signal.setitimer(signal.ITIMER_REAL, left, GRACE)
+            return
+        for pid in descendants(os.getpid()):
+            with contextlib.suppress(ProcessLookupError):
+                os.kill(pid, signal.SIGKILL)
+        self.fail(f"it took longer than {self.limit} s")
 
     def run(self, result=None):
         numbers.clear()
         waited_before[0] = waited() or 0
-        bad = count_bad(result)
-        super().run(result)
-        if count_bad(result) > bad:
-            self.say_again()
-        self.clear()
+        noted = Noted(self.defaultTestResult() if result is None else result)
+        with unittest.mock.patch.object(tempfile, "tempdir", self.folder or tempfile.tempdir):
+            try:
+                super().run(noted)
+            except KeyboardInterrupt:
+                self.doCleanups()
+                raise
+            finally:
+                signal.setitimer(signal.ITIMER_REAL, 0)
+                if noted.has_failed:
+                    self.say_again()
+                self.clear()
         return result
 
     def say_again(self):
         """Prints how to repeat a failing test; the input and the files of a random one are kept."""
-        only = {"ONLY": shlex.quote(self.shortDescription())} if self.shortDescription() else {}
-        again = " ".join([*[f"{name}={value}" for name, value in {**numbers, **only}.items()], *CALL])
-        name = os.path.basename(sys.argv[0]).removesuffix(".py")
-        print(f"{name}: once more: {again}", flush=True)
+        path = os.path.relpath(inspect.getfile(type(self)), TOP)
+        words = [sys.executable, *RUNNER.split(), "--program", PROGRAM, path, "--only", self.shortDescription() or self.id()]
+        again = shlex.join([*(f"{name}={value}" for name, value in numbers.items()), *words])
+        print(f"once more: {again}", flush=True)
         if "SEED" in numbers and self.here:
-            folder = os.path.join(FAILED, name, self._testMethodName)
+            folder = os.path.join(FAILED, os.path.basename(path).removesuffix(".py"), self._testMethodName)
             self.note("again", again.encode() + b"\n")
             keep(self.here, folder)
-            print(f"{name}: kept: {folder}", flush=True)
+            print(f"kept: {folder}", flush=True)
 
     def clear(self):
         # an agent that ends just then may still write there
@@ -517,92 +602,3 @@ class Check(unittest.TestCase):
             slower, held = slowness(), held_back()
             self.assertLess(took, most * slower + held, f"seconds of {what}, on a machine that is {slower:.1f} times slower than a quiet "
                                                         f"one, and held processes back for {held:.2f} s")
-
-
-class Report(unittest.TestResult):
-    """Prints each check with its time, and its failure."""
-
-    test = None
-
-    def startTest(self, test):
-        super().startTest(test)
-        self.began, self.before, self.test = time.monotonic(), self.bad(), test
-
-    def bad(self):
-        return len(self.failures) + len(self.errors)
-
-    def addSkip(self, test, reason):
-        super().addSkip(test, reason)
-        self.say("skipped", test, f": {reason}")
-
-    def say(self, word, test, more=""):
-        name = os.path.basename(sys.argv[0]).removesuffix(".py")
-        print(f"{word:8}{time.monotonic() - self.began:7.2f} s  {name}: {test.shortDescription() or test.id()}{more}", flush=True)
-
-    def stopTest(self, test):
-        if self.bad() > self.before:
-            self.say("failed", test)
-        elif not any(skipped is test for skipped, _ in self.skipped):
-            self.say("ok", test)
-        self.test = None
-        super().stopTest(test)
-
-    def end(self):
-        """Ends the program, which took too long, as did the current test."""
-        if self.test:
-            self.say("failed", self.test)
-            self.test.say_again()
-            self.test.clear()
-        os._exit(128 + signal.SIGTERM)
-
-
-def chosen(tests, only, part):
-    """These tests, one by one; only the test of a given sentence, or those with this part in their name or sentence."""
-    for test in tests:
-        if isinstance(test, unittest.TestSuite):
-            yield from chosen(test, only, part)
-        elif only in ("", test.shortDescription()) and part in f"{test.id()} {test.shortDescription()}":
-            yield test
-
-
-def forked(count):
-    """Starts this many more processes, and returns their numbers; none in each of them."""
-    others = []
-    while len(others) < count and (pid := os.fork()):
-        others.append(pid)
-    return others if len(others) == count else []
-
-
-def run_in_parts(tests, report, parts):
-    """Runs tests in this many processes, each of which takes the next test; returns whether all went well in the others."""
-    left, into = os.pipe()
-    os.write(into, bytes(range(len(tests))))
-    os.close(into)
-    others = forked(min(parts, len(tests)) - 1)
-    while not report.shouldStop and (place := os.read(left, 1)):
-        tests[place[0]].run(report)
-    return not any([os.waitpid(pid, 0)[1] for pid in others])
-
-
-def main(failfast=False, in_memory=False, parts=1):
-    """Runs the tests of a module, in this many processes. Tests whose runs sync thousands of times have their files in memory, if
-    programs can be run there: the data of a killed program is there all the same."""
-    if in_memory and os.access(MEMORY, os.W_OK) and not os.statvfs(MEMORY).f_flag & os.ST_NOEXEC:
-        tempfile.tempdir = MEMORY
-    found = unittest.defaultTestLoader.loadTestsFromModule(sys.modules["__main__"])
-    parser = argparse.ArgumentParser()
-    parser.add_argument("-k", default="", metavar="WORD", help="only tests with this in their name or sentence")
-    parser.add_argument("-f", action="store_true", help="no test after one that failed")
-    # (a module may take further arguments of its own)
-    words, _ = parser.parse_known_args(sys.argv[2:])
-    tests = list(chosen(found, os.environ.get("ONLY", ""), words.k))
-    report = Report()
-    report.failfast = failfast or words.f
-    if signal.getsignal(signal.SIGTERM) == signal.SIG_DFL:
-        signal.signal(signal.SIGTERM, lambda *_: report.end())
-    others_went_well = parts == 1 or run_in_parts(tests, report, parts)
-    if parts == 1:
-        unittest.TestSuite(tests).run(report)
-    for test, trace in report.failures + report.errors:
-        print(f"{test.id()}:\n{trace}", file=sys.stderr)
-    sys.exit(0 if tests and report.wasSuccessful() and others_went_well else 1)

@@ -1,23 +1,19 @@
-#!/usr/bin/env python3
-# check: slow
 """Days of one executor on a simulated clock: the built program serves 256 resources with eight recurring monitors each, 2,048, and a client
 requests some 670 actions a day, over one journal and with real agents; most succeed, some fail, and some last until their timeout kills
 them. Each step sets all clocks an hour ahead, once nothing more is due. Wanted: each acknowledged action has one result, each monitor runs
 once in its interval, the session tidies by itself, and file descriptors, memory and zombies stay those of the first
 quarter.
-Use: days.py PROGRAM, with DAYS and SEED in the environment; `make soak` plays thirty days"""
+The environment may set DAYS and SEED; `make soak` plays thirty days."""
 import collections
 import os
 import random
 import shutil
 import subprocess
-import sys
 import time
 import unittest
 
-sys.path[0] += "/../lib"
-import helper  # noqa: E402
-from helper import PROGRAM  # noqa: E402
+import helper
+from helper import PROGRAM
 
 HOURS, ACTIONS = 24, 28
 IDS = [f"r{number:03}" for number in range(256)]
@@ -32,6 +28,8 @@ LINES = 65
 TIDY_AT = "1000000"
 
 
+@helper.slow
+@helper.in_memory
 class Days(helper.Check):
     def setUp(self):
         super().setUp()
@@ -153,7 +151,3 @@ class Days(helper.Check):
                           f"{self.sizes[-1][place]}" for place, what in enumerate(["memory in KiB", "file descriptors", "zombies"]))
         print(f"days: {days} days in {time.monotonic() - began:.0f} s: {actions} actions, {sum(self.runs.values())} runs of monitors, "
               f"{self.counts['timed-out', 1]} timeouts, {int(epoch)} snapshots; {sizes}")
-
-
-if __name__ == "__main__":
-    helper.main(in_memory=True)

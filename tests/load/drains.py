@@ -1,14 +1,9 @@
-#!/usr/bin/env python3
-# check: slow
 """The cost of a waiting drain, and how soon it notices an end: an agent that sleeps for ten seconds, and then monitors that each run to a
 timeout of 100 milliseconds, at moments of the system's clock. Wanted on a quiet machine: under 2 % of a core, and each end recorded within
-2 milliseconds of its timeout. The check fails at ten times that, for the median end, so that it passes on a busy machine.
-Use: drains.py PROGRAM"""
-import sys
+2 milliseconds of its timeout. The check fails at ten times that, for the median end, so that it passes on a busy machine."""
 import time
 
-sys.path[0] += "/../lib"
-import helper  # noqa: E402
+import helper
 
 TIMEOUT = 100
 
@@ -17,6 +12,7 @@ def milliseconds():
     return time.time_ns() // 1_000_000
 
 
+@helper.slow
 class Drains(helper.Check):
     def setUp(self):
         super().setUp()
@@ -48,7 +44,3 @@ class Drains(helper.Check):
         self.took_less(0.021, late[len(late) // 2] / 1000 if late else 0, "noticing the middle end")
         moments = sorted(moment for run in runs for moment in run)
         self.assertEqual(sorted([began, *moments, ended]), [began, *moments, ended], "moments between those before and after the run")
-
-
-if __name__ == "__main__":
-    helper.main()

@@ -1,18 +1,14 @@
-#!/usr/bin/env python3
-# check: slow
 """Feeds random lines, none of them an accepted command, to `PROGRAM run --memory`, and with tags to serve. As many lines must come out as
 lines with at least one byte went in, and the resident memory of the program must stay below 8 MiB and not grow in the second half of the
 lines: so a leak of a few bytes per line is found.
-Use: random_lines.py PROGRAM, with LINES and SEED in the environment"""
+The environment may set LINES and SEED."""
 import json
 import random
 import subprocess
-import sys
 import time
 
-sys.path[0] += "/../lib"
-import helper  # noqa: E402
-from helper import PROGRAM  # noqa: E402
+import helper
+from helper import PROGRAM
 
 MOST, GROWS = 8192, 128  # KiB
 OPERATIONS = ["unregister", "forget", "info", "history", "params", "exec", "recur", "cancel", "withdraw", "list", "drain", "meta", "tidy",
@@ -79,6 +75,7 @@ class Replies:
             self.read()
 
 
+@helper.slow
 class RandomLines(helper.Check):
     def write(self, path, numbers):
         # writes the lines of these numbers into a file; returns how many of them have a byte
@@ -129,7 +126,3 @@ class RandomLines(helper.Check):
     def test_serve(self):
         """random lines with tags, in bounded memory, by serve, which sends one ready line"""
         self.lines("serve", 1)
-
-
-if __name__ == "__main__":
-    helper.main()

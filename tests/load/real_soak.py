@@ -1,10 +1,8 @@
-#!/usr/bin/env python3
-# check: slow
 """A long real life: the built program serves real agents over one journal while it is killed, its disk fills, its journal is tidied and the
 wall clock is stepped. The client keeps a book of its own, and each agent a log of what it began. Wanted: each acknowledged action has
 exactly one result; the results of a resource, in the order of their runs, are what its agent logged, where an action that was cut off may
 have begun or not; no agent began while another of its resource was alive; and memory, file descriptors and zombies do not grow.
-Use: real_soak.py PROGRAM, with LENGTH, in seconds, and SEED in the environment; `make soak REAL=1` takes an hour"""
+The environment may set LENGTH, in seconds, and SEED; `make soak REAL=1` takes an hour."""
 import collections
 import contextlib
 import dataclasses
@@ -12,12 +10,10 @@ import os
 import random
 import shutil
 import subprocess
-import sys
 import time
 import unittest
 
-sys.path[0] += "/../lib"
-import helper  # noqa: E402
+import helper
 
 IDS = [f"r{number:02}" for number in range(16)]
 TIMEOUT = 2_000
@@ -79,6 +75,7 @@ class Resource:
         return action == result["action"] and (result["outcome"] in CUT or code == result["code"])
 
 
+@helper.slow
 class RealSoak(helper.Check):
     def setUp(self):
         super().setUp()
@@ -250,7 +247,3 @@ class RealSoak(helper.Check):
         memory = [size[0] for size in self.sizes]
         print(f"real_soak: {time.monotonic() - began:.0f} s: {counts}; memory {min(memory)} to {max(memory)} KiB, "
               f"{max(size[1] for size in self.sizes)} file descriptors at most")
-
-
-if __name__ == "__main__":
-    helper.main()

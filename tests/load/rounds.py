@@ -1,15 +1,12 @@
-#!/usr/bin/env python3
 """Long runs: serve for millions of rounds, and a drain for thousands of turns, by a shim under which no wait lasts (rounds.c); a command
 that comes alone is answered at once; and an opening drops queued actions at its own moment.
-Use: rounds.py PROGRAM, with ROUNDS, TURNS and LIMIT, in seconds, in the environment"""
+The environment may set ROUNDS, TURNS and LIMIT, in seconds."""
 import os
 import shutil
 import struct
-import sys
 import time
 
-sys.path[0] += "/../lib"
-import helper  # noqa: E402
+import helper
 
 
 class Rounds(helper.Check):
@@ -82,7 +79,3 @@ class Rounds(helper.Check):
         result, = history["results"]
         self.assertEqual((notice["outcome"], result["outcome"], result["call"]), ("dropped", "dropped", 1))
         self.assertTrue(before <= result["at"] <= after, f"{before} <= {result['at']} <= {after}")
-
-
-if __name__ == "__main__":
-    helper.main()

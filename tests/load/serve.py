@@ -1,17 +1,14 @@
-#!/usr/bin/env python3
 """The built program as a server: commands while agents run, half a line, a flood of questions beside a timeout, many ends at once, a reader
 that does not read, the end of input, scripts for run, signals that end agents, the cost of waiting, and kills at random moments.
-Use: serve.py PROGRAM, with LIVES and SEED in the environment"""
+The environment may set LIVES and SEED."""
 import os
 import random
 import subprocess
-import sys
 import threading
 import time
 
-sys.path[0] += "/../lib"
-import helper  # noqa: E402
-from helper import PROGRAM, action  # noqa: E402
+import helper
+from helper import PROGRAM, action
 
 
 def sleeper(name, **params):
@@ -268,7 +265,3 @@ class Serving(helper.Check):
             lines += len(replies) + len(notices)
         print(f"serve: {lives} kills, and the journal holds what {lines} lines said", flush=True)
         self.assertGreater(lines, lives, "lines that were sent")
-
-
-if __name__ == "__main__":
-    helper.main()

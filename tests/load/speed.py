@@ -1,24 +1,22 @@
-#!/usr/bin/env python3
-# check: slow alone
 """Times the built program: `list` lines in and out in memory, and start to end on empty input. Each is the best of several rounds, since
 other work of the machine only makes a round slower. Wanted on a quiet machine: at least 150,000 lines a second, under 5 milliseconds from
 start to end. The check fails at a tenth of that, so that it passes on a busy machine, and at 8 MiB of resident memory.
-Use: speed.py PROGRAM, with ROUNDS in the environment"""
+The environment may set ROUNDS."""
 import os
 import signal
 import subprocess
-import sys
 import time
 
-sys.path[0] += "/../lib"
-import helper  # noqa: E402
-from helper import PROGRAM  # noqa: E402
+import helper
+from helper import PROGRAM
 
 LINES, STARTS = 300000, 50
 # signals that Python itself ignores, and the processes that it starts must not
 IGNORED = [signal.SIGPIPE, signal.SIGXFSZ]
 
 
+@helper.slow
+@helper.alone
 class Speed(helper.Check):
     def answered(self):
         """Has all lines answered; returns the seconds, the resident memory, and the milliseconds of processor time."""
@@ -58,7 +56,3 @@ class Speed(helper.Check):
             best = min(best, (time.monotonic() - began) / STARTS)
         print(f"speed: start to end on empty input: {best * 1e6:.0f} microseconds (under 5000 wanted)", flush=True)
         self.assertLess(best, 0.05 * helper.slowness(), "seconds from start to end")
-
-
-if __name__ == "__main__":
-    helper.main()

@@ -1,24 +1,20 @@
-#!/usr/bin/env python3
 """What an agent does to its own process group, as `kill 0`, under pacemaker-execd and under the bridge over `PROGRAM serve` with a journal,
 through Pacemaker's client library. Wanted: under both that monitor alone ends or passes its timeout, with the same result, and a start of
 another resource that runs beside it begins once and succeeds. It has the needs of rate.sh; without them it is skipped. TMPDIR must not be
-below /run or /dev/shm, which the namespaces have of their own.
-Use: groups.py PROGRAM"""
+below /run or /dev/shm, which the namespaces have of their own."""
 import concurrent.futures
 import contextlib
 import os
 import re
 import shutil
 import subprocess
-import sys
 import tempfile
 import unittest
 from pathlib import Path
 
-sys.path[0] += "/../lib"
-import bridge  # noqa: E402
-import helper  # noqa: E402
-from helper import PROGRAM  # noqa: E402
+import bridge
+import helper
+from helper import PROGRAM
 
 ACTS = '[ "$1" != monitor ] || eval "$OCF_RESKEY_acts"\n'
 WAITS = """[ "$1" = start ] || exit 7
@@ -105,7 +101,3 @@ class Groups(helper.Check):
     def test_exit(self) -> None:
         """an agent that sends SIGTERM to its group when it exits ends alone"""
         self.acts_alike("trap 'kill 0' EXIT; exit 0")
-
-
-if __name__ == "__main__":
-    helper.main()

@@ -1,21 +1,17 @@
-#!/usr/bin/env python3
 """Pacemaker over `PROGRAM serve` with a journal: the bridge of this directory takes the place of pacemaker-execd. Everything runs in
 namespaces of its own and at the same time, each with a directory of its own. It needs root, and of Debian pacemaker, pacemaker-dev,
 pacemaker-cli-utils, corosync, resource-agents, libqb-dev, pkg-config, python3-psutil, iproute2, procps and gcc; for the suite the source
-package is fetched. A test whose needs are missing is skipped.
-Use: run.py PROGRAM"""
+package is fetched. A test whose needs are missing is skipped."""
 import concurrent.futures
 import os
 import re
 import subprocess
-import sys
 import unittest
 from pathlib import Path
 
-sys.path[0] += "/../lib"
-import bridge  # noqa: E402
-import helper  # noqa: E402
-from helper import PROGRAM  # noqa: E402
+import bridge
+import helper
+from helper import PROGRAM
 
 PYTHON = "/usr/bin/python3"
 # the tests of the suite for other classes of agents than OCF, and for several at once
@@ -114,7 +110,3 @@ class Pacemaker(helper.Check):
         """a start past its timeout is ended with the program that it waits for, so the service does not come up after the stop"""
         for text in self.side_by_side("timeout", "one.sh"):
             self.has(text, *TIMED_OUT)
-
-
-if __name__ == "__main__":
-    helper.main(parts=4)

@@ -1,14 +1,10 @@
-#!/usr/bin/env python3
 """The bounds on time in the checks, tests/lib/helper.py, with a report of the machine's pressure in place of the system's. Wanted: on a
 quiet machine each bound is kept to the letter; on one that is busy, or was for a moment, none fails a program that was only held back; and
-where the system reports nothing, a busy machine is found by its load.
-Use: busy.py PROGRAM"""
+where the system reports nothing, a busy machine is found by its load."""
 import os
-import sys
 import unittest.mock
 
-sys.path[0] += "/../lib"
-import helper  # noqa: E402
+import helper
 
 
 class Busy(helper.Check):
@@ -88,7 +84,3 @@ class Busy(helper.Check):
         self.took_less(1.5, 12.9, "what is timed")
         self.fails(self.took_less, 1.5, 13.1)
         self.came_often(5, 0, "what is timed")
-
-
-if __name__ == "__main__":
-    helper.main()

@@ -1,13 +1,9 @@
-#!/usr/bin/env python3
-"""The contracts of functions: their clauses come in one order.
-Use: contracts.py PROGRAM"""
+"""The contracts of functions: their clauses come in one order."""
 import glob
 import os
 import re
-import sys
 
-sys.path[0] += "/../lib"
-import helper  # noqa: E402
+import helper
 
 # the causes of faults, which are the last clauses
 CAUSES = ["cause", "memory"]
@@ -40,7 +36,3 @@ class Contracts(helper.Check):
                        for name, labels in [("f", ["memory", "value"]), ("g", ["memory", "cause"]), ("h", ["value", "cause"])])
         self.assertEqual([name for name, labels in contracts(text) if misplaced(labels)], ["f", "g"])
         self.assertEqual([labels for labels in ([], ["value"], ["value", "cause", "memory"]) if misplaced(labels)], [])
-
-
-if __name__ == "__main__":
-    helper.main()

@@ -1,11 +1,9 @@
-#!/usr/bin/env python3
 """The names in the documents. Each path, file, edit, item of a crate, target of make, subcommand and option that README.md,
 CONTRIBUTING.md, docs/, mutants/README.md and the crates' READMEs name in backticks exists, and each other word in backticks occurs
 somewhere in the repository outside the documents; in a README, a section or a row of one crate it occurs in that crate. Each label of a
 clause that a table or a list names after a function is that of a clause or of a field of a definition. Each file with a body that is proved
 by hand is named as trusted. ARCHITECTURE's rows are the headings of crates.txt, and no crate depends on one above its row. The manual pages
-have the options of `--help`, and no others, and fit 80 columns.
-Use: documents.py PROGRAM"""
+have the options of `--help`, and no others, and fit 80 columns."""
 import collections
 import fnmatch
 import glob
@@ -13,11 +11,9 @@ import os
 import re
 import shutil
 import subprocess
-import sys
 import unittest
 
-sys.path[0] += "/../lib"
-import helper  # noqa: E402
+import helper
 
 DOCUMENTS = ["README.md", "CONTRIBUTING.md", "mutants/README.md",
              *sorted(glob.glob("docs/*.md", root_dir=helper.TOP) + glob.glob("crates/*/README.md", root_dir=helper.TOP))]
@@ -285,7 +281,3 @@ class Documents(helper.Check):
             self.assertEqual([line for line in shown.stderr.decode().splitlines() if "on one page" not in line], [])
             self.assertGreater(shown.stdout.count(b"\n"), least)
             self.assertEqual([line for line in shown.stdout.decode().split("\n") if len(line) > 80], [])
-
-
-if __name__ == "__main__":
-    helper.main()

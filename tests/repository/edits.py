@@ -1,17 +1,14 @@
-#!/usr/bin/env python3
 """The lines of each wrong body. An edit of crates/CRATE/must-fail, mutants/CRATE or mutants/gate/CRATE names the functions of its crate
 that must refuse it, with existing clauses, or with what a call in them requires; and an edit of mutants/tests a script of `make check`
 and a sentence of it. The list of mistakes in mutants/README.md names existing edits, with a star if they are tried for each commit. The
-old text of an edit occurs exactly once in its file.
-Use: edits.py PROGRAM"""
+old text of an edit occurs exactly once in its file."""
 import collections
 import os
 import re
 import sys
 from pathlib import Path
 
-sys.path[0] += "/../lib"
-import helper  # noqa: E402
+import helper
 
 sys.path.append(os.path.join(helper.TOP, "tools"))
 import wrong_bodies as bodies  # noqa: E402
@@ -66,10 +63,10 @@ def taken(path, crate):
 
 
 def is_slow(text, sentence):
-    """Whether FAST=1 leaves out a script of this text, or its test of this sentence."""
-    marked = any(line.startswith("# check:") and "slow" in line.split() for line in text.splitlines()[:5])
-    before = text.partition(f'"{sentence}"')[0].rpartition("\n\n")[2]
-    return marked or "@helper.slow" in before
+    """Whether FAST=1 leaves out the test of this sentence in a module, or its class."""
+    before = text.partition(f'"{sentence}"')[0]
+    of_class = before.rpartition("\nclass ")[0].rpartition("\n\n")[2]
+    return "@helper.slow" in before.rpartition("\n\n")[2] or "@helper.slow" in of_class
 
 
 class Edits(helper.Check):
@@ -122,7 +119,3 @@ class Edits(helper.Check):
         """each edit but those that every gate tries says in one line what would go wrong for a user"""
         for path in TOP.glob("mutants/**/*.edit"):
             self.assertEqual(len(re.findall(r"^# for a user: .{10,}", read(path), re.MULTILINE)), 1, f"{path.relative_to(TOP)}")
-
-
-if __name__ == "__main__":
-    helper.main()

@@ -1,17 +1,14 @@
-#!/usr/bin/env python3
 """Contracts about refused growths depend on one lemma, `Refused.refuses` of crates/growth. Other crates cite it only for functions that
 call a library which allocates by itself, each refusal in them marked as trusted; and the flag that it is about is named only by the machine
 of a session. No condition on a caller, invariant or ghost field claims that an allocator refuses, except those of a refusal and of the two
-calls that make one, and that the edge of a session keeps the answer of a failed send.
-Use: growth.py PROGRAM"""
+calls that make one, and that the edge of a session keeps the answer of a failed send."""
 import glob
 import os
 import re
 import sys
 from pathlib import Path
 
-sys.path[0] += "/../lib"
-import helper  # noqa: E402
+import helper
 
 sys.path.append(os.path.join(helper.TOP, "tools"))
 import wrong_bodies as bodies  # noqa: E402
@@ -85,7 +82,3 @@ class Growth(helper.Check):
                              ("use Rattle.growth.specs.Refused.{refuses}\n", ["else"]),
                              ("use Rattle.growth.specs.Refused.{refuses_here}\n", [])]:
             self.assertEqual(unmarked(text), faults, text)
-
-
-if __name__ == "__main__":
-    helper.main()

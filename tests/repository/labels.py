@@ -1,14 +1,10 @@
-#!/usr/bin/env python3
-"""The labels that documents name: each belongs to the function, the record, the relation or the trait before it.
-Use: labels.py PROGRAM"""
+"""The labels that documents name: each belongs to the function, the record, the relation or the trait before it."""
 import collections
 import glob
 import os
 import re
-import sys
 
-sys.path[0] += "/../lib"
-import helper  # noqa: E402
+import helper
 
 DOCUMENTS = ["README.md", "CONTRIBUTING.md", "mutants/README.md", "docs/*.md", "crates/*/README.md"]
 # in a list or a table: an item in backticks, and the labels after it, each perhaps with items of its own in parentheses
@@ -100,7 +96,3 @@ class Labels(helper.Check):
         for text, count in [("- `f`: value, cause", 1), ("- `f`: value (`IsA`: value), value", 1), ("| x | `f`: other |", 1),
                             ("- a `x::f`: value (`IsA`: cause; `IsB`)", 0)]:
             self.assertEqual(len(foreign(text, found)), count, text)
-
-
-if __name__ == "__main__":
-    helper.main()

@@ -1,6 +1,4 @@
-#!/usr/bin/env python3
-"""The random wrong bodies, tools/random_edits.py: what is drawn of a small source, and what is kept of a call; nothing is proved here.
-Use: random_edits.py PROGRAM"""
+"""The random wrong bodies, tools/random_edits.py: what is drawn of a small source, and what is kept of a call; nothing is proved here."""
 import contextlib
 import os
 import sys
@@ -8,8 +6,7 @@ from pathlib import Path
 from types import SimpleNamespace
 from unittest import mock
 
-sys.path[0] += "/../lib"
-import helper  # noqa: E402
+import helper
 
 sys.path.append(os.path.join(helper.TOP, "tools"))
 import one_program  # noqa: E402
@@ -279,7 +276,3 @@ class RandomEdits(helper.Check):
         self.assertIn("| another operator | 5 | 0 | 0 | 2 | 0 | 3 | 0 |", lines)
         self.assertIn("| in the 1 crates up to `executor` | 4 | 0 | 0 | 1 | 0 | 3 | 0 |", lines)
         self.assertEqual(lines[-1], "alive: low/src/lib.rt:3 f: another operator: < => <=")
-
-
-if __name__ == "__main__":
-    helper.main()

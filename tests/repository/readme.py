@@ -1,15 +1,11 @@
-#!/usr/bin/env python3
-# check: alone
 """The blocks of README.md, at the top of the repository, in their order, as they would be pasted: each prints the block after it, except
-for durations.
-Use: readme.py PROGRAM"""
+for durations."""
 import contextlib
 import os
 import subprocess
 import sys
 
-sys.path[0] += "/../lib"
-import helper  # noqa: E402
+import helper
 
 # the service of its first run
 SERVICE = "/tmp/ocfexec-r1"
@@ -20,6 +16,7 @@ def remove_service():
         os.remove(SERVICE)
 
 
+@helper.alone
 class Readme(helper.Check):
     def test_blocks(self):
         """each block of README.md prints the block after it, and what its demonstration made is removed"""
@@ -33,7 +30,3 @@ class Readme(helper.Check):
         self.assertEqual(done.stdout, "3 blocks, 0 not as it says\n")
         left = [folder for folder, folders, files in os.walk(self.place("tmp")) if "root" in folders + files]
         self.assertEqual(left, [], "a directory that the demonstration left")
-
-
-if __name__ == "__main__":
-    helper.main()

@@ -1,15 +1,11 @@
-#!/usr/bin/env python3
 """The version of the program is that of the newest release, or higher, and the manual page has it, too. In a copy a release is made, which
-is written everywhere and tagged. A version that is not higher than the last one, or a tree with changes, is refused and changes nothing.
-Use: release.py PROGRAM"""
+is written everywhere and tagged. A version that is not higher than the last one, or a tree with changes, is refused and changes nothing."""
 import os
 import re
 import subprocess
-import sys
 import unittest
 
-sys.path[0] += "/../lib"
-import helper  # noqa: E402
+import helper
 
 # the files that a release changes, and in how many lines: new ones, and old ones
 CHANGED = ["CHANGELOG.md", "crates/exec_options/src/texts.rt", "docs/ocfctl.8", "docs/ocfexec-client.8", "docs/ocfexec.8",
@@ -144,7 +140,3 @@ class Release(helper.Check):
         notes = re.search(r"^## \[99\.0\.10\].*\n((?:.*\n)*?)## \[0", read(self.copy, "CHANGELOG.md"), re.MULTILINE)
         self.assertIn("- a change\n", notes[1])
         self.assertEqual(called(self.copy, "package/notes.sh", "99.0.10"), notes[1].rstrip("\n"))
-
-
-if __name__ == "__main__":
-    helper.main()

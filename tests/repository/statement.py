@@ -1,16 +1,13 @@
-#!/usr/bin/env python3
 """The statement in one file, docs/STATEMENT.antt.txt: it is what tools/statement.py generates from the definitions of this tree, a change
 of a text in it makes it stale, and it contains everything that its definitions name, of which little in its first part;
-docs/STATEMENT.md names nothing else.
-Use: statement.py PROGRAM"""
+docs/STATEMENT.md names nothing else."""
 import os
 import re
 import shutil
 import subprocess
 import sys
 
-sys.path[0] += "/../lib"
-import helper  # noqa: E402
+import helper
 
 SCRIPT, STATEMENT, READING = "tools/statement.py", "docs/STATEMENT.antt.txt", "docs/STATEMENT.md"
 # The names in docs/STATEMENT.md besides definitions: the program, and the commands of its example.
@@ -155,7 +152,3 @@ class Statement(helper.Check):
         wrong = [(word, group) for place, group in enumerate(groups) for word in words(group)
                  if at.get(word, place) < place and (at[word] < second_begins) == (place < second_begins)]
         self.assertEqual(wrong, [])
-
-
-if __name__ == "__main__":
-    helper.main()

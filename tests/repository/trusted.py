@@ -1,8 +1,6 @@
-#!/usr/bin/env python3
 """The trusted places, docs/TRUSTED.txt: it is what tools/trusted.py generates from this tree, and a place more or less, or a longer file,
 makes it old. It names each file of the program's edge that has no contract. One file makes the calls about agents' processes, with a
-sentence on each.
-Use: trusted.py PROGRAM"""
+sentence on each."""
 import glob
 import os
 import re
@@ -10,8 +8,7 @@ import shutil
 import subprocess
 import sys
 
-sys.path[0] += "/../lib"
-import helper  # noqa: E402
+import helper
 
 SCRIPT, HOST = "tools/trusted.py", "crates/ocfexec/src/host.rt"
 # The crates at the system's edge.
@@ -89,7 +86,3 @@ class Trusted(helper.Check):
                 if PROCESS_CALL.search(file.read()):
                     calling.add(path)
         self.assertEqual(sorted(calling), sorted([AGENTS, *SHELL]))
-
-
-if __name__ == "__main__":
-    helper.main()

@@ -1,6 +1,5 @@
-#!/usr/bin/env python3
 """What tries wrong bodies, tools/wrong_bodies.py, with a repository of three small crates and a stand-in for the kit's `rt`: it refuses
-each function that has the word WRONG, and notes in which crates it was called. Use: wrong_bodies.py PROGRAM"""
+each function that has the word WRONG, and notes in which crates it was called."""
 import datetime
 import os
 import re
@@ -9,8 +8,7 @@ import subprocess
 import sys
 from pathlib import Path
 
-sys.path[0] += "/../lib"
-import helper  # noqa: E402
+import helper
 
 RT = r"""#!/usr/bin/env -S python3 -IS
 import os, re, sys
@@ -203,7 +201,3 @@ class WrongBodies(helper.Check):
             self.edit("low/one", new=new)
             text, ended, _ = self.called(script="tools/gate.sh")
             self.assertEqual((text.splitlines()[-1], ended), (count, status), text)
-
-
-if __name__ == "__main__":
-    helper.main()

@@ -1,10 +1,7 @@
-#!/usr/bin/env python3
-# check: slow
 """The units of examples/, and the guide with the package, under a running systemd. systemd-nspawn boots the tree of this machine in a
 container with a network of its own; its writes are kept in memory, and vanish with it. Nothing runs in it except what tests/lib/booted.py
 starts: there each test of a service has its method of the same name, and here its sentence. Without root or the package
-systemd-container, or if no container boots, they are skipped, with the reason.
-Use: booted.py PROGRAM"""
+systemd-container, or if no container boots, they are skipped, with the reason."""
 import os
 import re
 import shutil
@@ -15,9 +12,8 @@ import textwrap
 import unittest
 from pathlib import Path
 
-sys.path[0] += "/../lib"
-import helper  # noqa: E402
-from helper import PROGRAM  # noqa: E402
+import helper
+from helper import PROGRAM
 
 TARGET = """[Unit]
 Requires=basic.target check.service
@@ -31,7 +27,7 @@ Type=oneshot
 Environment=PYTHONDONTWRITEBYTECODE=1
 StandardOutput=append:/check/output
 StandardError=inherit
-ExecStart={python} /top/tests/lib/booted.py /check/ocfexec
+ExecStart={python} /top/tests/lib/one_by_one.py --program /check/ocfexec /top/tests/lib/booted.py
 ExecStopPost=/bin/sh /check/after
 """
 # the last step: a shutdown while a resource runs
@@ -49,9 +45,10 @@ CONTAINER = ("--quiet", "--volatile=overlay", "--boot", "--private-network", "--
 UNITS = ("check.target", "check.service")
 # how long a container may run, and how long it has to end then, in seconds
 LONGEST, GRACE = 280, 15
-RESULT = re.compile(r"^(ok|failed|skipped) +[0-9.]+ s  booted: __main__\.\w+\.(test_\w+)(?:: (.*))?$", re.MULTILINE)
+RESULT = re.compile(r"^(ok|failed|skipped) +[0-9.]+ s  tests/lib/booted\.py: [\w.]+\.(test_\w+)(?:: (.*))?$", re.MULTILINE)
 
 
+@helper.slow
 @unittest.skipUnless(os.geteuid() == 0, "a container wants root")
 @unittest.skipUnless(shutil.which("systemd-nspawn"), "install the package systemd-container")
 class Booted(helper.Check):
@@ -121,7 +118,3 @@ class Booted(helper.Check):
         """a shutdown stops what the unit keeps"""
         calls = (self.shared / "calls").read_text(encoding="ascii").split()
         self.assertEqual(calls[-1:], ["stop"])
-
-
-if __name__ == "__main__":
-    helper.main()

@@ -1,15 +1,11 @@
-#!/usr/bin/env python3
-"""The shell client of examples/, with a resource of ocf_agents: what it prints, and how it ends; and a reader that sleeps.
-Use: clients.py PROGRAM"""
+"""The shell client of examples/, with a resource of ocf_agents: what it prints, and how it ends; and a reader that sleeps."""
 import itertools
 import os
 import subprocess
-import sys
 import time
 
-sys.path[0] += "/../lib"
-import helper  # noqa: E402
-from helper import PROGRAM  # noqa: E402
+import helper
+from helper import PROGRAM
 
 AGENTS = os.environ.get("AGENTS") or os.path.join(helper.TOP, "crates/ocf_agents/out/ocf_agents")
 CLIENT = os.path.join(helper.TOP, "examples/client.sh")
@@ -41,7 +37,3 @@ class Clients(helper.Check):
             time.sleep(0.5)
             self.assertEqual(run.stdout.read(), EMPTY * COUNT)
         self.assertEqual(run.returncode, 0)
-
-
-if __name__ == "__main__":
-    helper.main()

@@ -1,17 +1,14 @@
-#!/usr/bin/env python3
-# check: slow
 """The cluster of examples/cluster, of three nodes over three members of etcd: through random kills, and without fencing. It runs in
 namespaces of its own, if they are available, and NAMESPACES in the environment is not `no`.
-Use: cluster.py PROGRAM, with KILLS and SEED in the environment"""
+The environment may set KILLS and SEED."""
 import os
 import shutil
 import subprocess
 import sys
 import unittest
 
-sys.path[0] += "/../lib"
-import helper  # noqa: E402
-from helper import PROGRAM  # noqa: E402
+import helper
+from helper import PROGRAM
 
 MISSING = [name for name in ("etcd", "setpriv", "flock", "pgrep") if not shutil.which(name)]
 # runs a command in namespaces, if they are available
@@ -19,11 +16,18 @@ WORLD = ("sh", "-c", '. "$0" && in_world "$@"', os.path.join(helper.TOP, "exampl
 PLAYER = os.path.join(helper.TOP, "tests/lib/cluster_kills.py")
 
 
+@helper.slow
 @unittest.skipIf(MISSING, f"no {', '.join(MISSING)} here")
 class Cluster(helper.Check):
+    has_failed = False
+
     def plays(self, *words: str) -> None:
-        """A part of cluster_kills.py, which ends well."""
-        done = subprocess.run([*WORLD, sys.executable, PLAYER, PROGRAM, self.here, *words], stdin=subprocess.DEVNULL, check=False)
+        """A part of cluster_kills.py, which ends well; the other one is not tried then."""
+        if Cluster.has_failed:
+            self.skipTest("another test of the cluster failed")
+        done = subprocess.run([*WORLD, sys.executable, PLAYER, self.here, *words], stdin=subprocess.DEVNULL,
+                              env={**os.environ, "PROGRAM": PROGRAM}, check=False)
+        Cluster.has_failed = done.returncode != 0
         self.assertEqual(done.returncode, 0, f"cluster_kills.py {' '.join(words)}")
 
     def test_kills(self) -> None:
@@ -33,7 +37,3 @@ class Cluster(helper.Check):
     def test_without_fencing(self) -> None:
         """without fencing, nothing of a lost node is taken over"""
         self.plays("without-fencing")
-
-
-if __name__ == "__main__":
-    helper.main(failfast=True)

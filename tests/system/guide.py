@@ -1,11 +1,8 @@
-#!/usr/bin/env python3
-# check: slow alone
 """The first hour in one go, and once more: the Debian package is built and installed, each block of the guide is run and prints what the
 guide says, twice, and the package is removed. It is installed into a directory of its own; with `/`, on this machine, as the guide says. If
 no gate has passed on these programs there is no package: then the check uses the program as it was built, and with `/` it fails, as it
 does if anything else is missing. Without a running systemd, and in a directory, tests/lib/systemctl.py plays it by the unit. It runs by
-itself: one of the guide's commands waits for a process that lives for a moment.
-Use: guide.py PROGRAM [/]"""
+itself: one of the guide's commands waits for a process that lives for a moment."""
 import contextlib
 import os
 import re
@@ -16,12 +13,11 @@ import socket
 import subprocess
 import sys
 
-sys.path[0] += "/../lib"
-import helper  # noqa: E402
-import packages  # noqa: E402
-from helper import PROGRAM  # noqa: E402
+import helper
+import packages
+from helper import PROGRAM
 
-ON_MACHINE = helper.IS_CALLED and sys.argv[2:3] == ["/"]
+ON_MACHINE = bool(os.environ.get("ON_MACHINE"))
 LIB = os.path.join(helper.TOP, "tests/lib")
 # what the guide needs, and the package that has it
 NEEDED = {"/usr/lib/ocf/resource.d/heartbeat/nginx": "resource-agents", "/usr/sbin/nginx": "nginx", "curl": "curl", "pgrep": "procps"}
@@ -52,6 +48,8 @@ def why_not() -> str:
     return f"{there[0]} is there already" if there else packages.why_none()
 
 
+@helper.slow
+@helper.alone
 class Guide(helper.Check):
     def setUp(self) -> None:
         super().setUp()
@@ -146,7 +144,3 @@ class Guide(helper.Check):
                 self.prints(guide)
         if self.is_installed:
             self.remove()
-
-
-if __name__ == "__main__":
-    helper.main()

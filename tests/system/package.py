@@ -1,8 +1,6 @@
-#!/usr/bin/env python3
 """The Debian packages of these programs and of the Python library: lintian, if it is installed, finds nothing wrong with them; what they
 install, here into a directory of their own, works and is complete; and their removal leaves what is an administrator's. Without a gate that
-passed on these programs, or without dpkg, it is skipped.
-Use: package.py PROGRAM"""
+passed on these programs, or without dpkg, it is skipped."""
 import glob
 import json
 import os
@@ -14,11 +12,10 @@ import tempfile
 import unittest
 from pathlib import Path
 
-sys.path[0] += "/../lib"
-import helper  # noqa: E402
-import packages  # noqa: E402
-from helper import PROGRAM  # noqa: E402
-from packages import dpkg, output  # noqa: E402
+import helper
+import packages
+from helper import PROGRAM
+from packages import dpkg, output
 
 NONE = packages.why_none()
 DOCUMENTS = ("README.md", "CHANGELOG.md", "docs/GUIDE.md", "docs/CLIENTS.md", "docs/CONTROL.md", "docs/FORMAT.md", "docs/CLUSTER.md",
@@ -163,7 +160,3 @@ class Package(helper.Check):
             (root / name).touch()
         dpkg(str(root), "--purge", "ocfexec", "python3-ocfexec")
         self.assertEqual(files_in(root), LEFT)
-
-
-if __name__ == "__main__":
-    helper.main()

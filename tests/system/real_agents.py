@@ -1,20 +1,15 @@
-#!/usr/bin/env python3
-# check: slow
 """The agents of the package resource-agents, unchanged, under ocfexec. The metadata of each agent are passed on byte for byte as the agent
 prints them by itself in the same environment. Agents that need no hardware and no other software are started, monitored and stopped, with
-the exit codes of the OCF Resource Agent API.
-Use: real_agents.py PROGRAM"""
+the exit codes of the OCF Resource Agent API."""
 import collections
 import contextlib
 import os
 import signal
 import subprocess
-import sys
 import unittest
 from collections.abc import Sequence
 
-sys.path[0] += "/../lib"
-import helper  # noqa: E402
+import helper
 
 ROOT, PATH = "/usr/lib/ocf", "/usr/sbin:/usr/bin:/sbin:/bin"
 AGENTS = f"{ROOT}/resource.d/heartbeat"
@@ -87,6 +82,7 @@ def by_itself(kind: str) -> bytes:
     return b'{"meta":%d}\n%s\n' % (len(done.stdout), done.stdout)
 
 
+@helper.slow
 @unittest.skipUnless(os.access(f"{AGENTS}/Dummy", os.X_OK), "install the package resource-agents")
 @unittest.skipUnless(os.geteuid() == 0, "agents write to /run/resource-agents: run it as root")
 class RealAgents(helper.Check):
@@ -147,7 +143,3 @@ class RealAgents(helper.Check):
         commands = [command for action in ACTIONS for command in (*(queued(kind, action) for kind in CROWD), DRAIN)]
         found = collections.Counter(ends_of(*map(self.registers, CROWD), *commands))
         self.assertEqual(found, {end(action, 0): len(CROWD) for action in ACTIONS})
-
-
-if __name__ == "__main__":
-    helper.main()

@@ -1,21 +1,16 @@
-#!/usr/bin/env python3
-# check: slow
 """The Debian source package of this commit: lintian, if it is installed, finds nothing wrong with it, and the packages are built from it.
 The compiler is simulated: its stand-in for `rt` copies the programs of this check. Without it the build names what is missing. It is
-skipped without git or dpkg-dev.
-Use: source.py PROGRAM"""
+skipped without git or dpkg-dev."""
 import os
 import shutil
 import subprocess
-import sys
 import tempfile
 import unittest
 from pathlib import Path
 
-sys.path[0] += "/../lib"
-import helper  # noqa: E402
-from helper import PROGRAM  # noqa: E402
-from packages import output  # noqa: E402
+import helper
+from helper import PROGRAM
+from packages import output
 
 AGENTS = os.environ.get("AGENTS") or os.path.join(helper.TOP, "crates/ocf_agents/out/ocf_agents")
 GIT = ("git", "-C", helper.TOP)
@@ -50,6 +45,7 @@ def version_of(deb: Path) -> str:
 NONE = why_none()
 
 
+@helper.slow
 @unittest.skipIf(NONE, NONE)
 class Source(helper.Check):
     folder: Path
@@ -99,7 +95,3 @@ class Source(helper.Check):
         self.assertEqual(output(self.place("root/usr/bin/ocfexec"), "--version"), output(PROGRAM, "--version"))
         gate = Path(self.place("root/usr/share/doc/ocfexec/README.gate")).read_text(encoding="utf-8")
         self.assertIn(f"source package of commit {output(*GIT, 'rev-parse', 'HEAD')}", gate)
-
-
-if __name__ == "__main__":
-    helper.main()

@@ -1,7 +1,5 @@
-#!/usr/bin/env python3
 """The unit of examples/ with the client and its file, run as systemd runs it: its start, its reload, a restart that leaves the services
-running, a kill, a stop, and a status that needs an administrator. systemd-analyze, if it is installed, checks all units.
-Use: unit.py PROGRAM"""
+running, a kill, a stop, and a status that needs an administrator. systemd-analyze, if it is installed, checks all units."""
 import gzip
 import json
 import os
@@ -12,11 +10,10 @@ import sys
 import time
 import unittest
 
-sys.path[0] += "/../lib"
-import helper  # noqa: E402
-import systemctl  # noqa: E402
-import units  # noqa: E402
-from helper import PROGRAM  # noqa: E402
+import helper
+import systemctl
+import units
+from helper import PROGRAM
 
 EXAMPLES = os.path.join(helper.TOP, "examples")
 AGENT = """echo $1 >> {here}/calls
@@ -230,7 +227,3 @@ class Keeper(helper.Check):
         for name in names:
             done = subprocess.run(["systemd-analyze", "verify", "--man=no", self.place(name)], capture_output=True, text=True, timeout=60)
             self.assertEqual((done.returncode, done.stdout + done.stderr), (0, ""), name)
-
-
-if __name__ == "__main__":
-    helper.main()
