@@ -1,5 +1,5 @@
-"""The tests under pytest, as `pytest tests -k timeout -n 8 -m "not slow"`: their marks, their order, and their names, which are sentences. The
-modules know nothing of pytest; helper.py marks a test by an attribute."""
+"""The tests under pytest, as `pytest tests -k timeout -n 8 -m "not slow"`: their marks, their order, and their names, which are sentences.
+Their modules know nothing of pytest; helper.py marks a test by an attribute."""
 import inspect
 import os
 import subprocess
@@ -80,6 +80,8 @@ def pytest_runtest_makereport(item: pytest.Item) -> Iterator[None]:
 
 def pytest_terminal_summary(terminalreporter: Any, config: pytest.Config) -> None:
     """Lists what was skipped, and why, and what failed; and keeps the seconds."""
+    if hasattr(config, "workerinput"):
+        return
     stats = terminalreporter.stats
     passed, failed = stats.get("passed", []), stats.get("failed", []) + stats.get("error", [])
     skipped = [f"{report.nodeid}: {report.longrepr[2].removeprefix('Skipped: ')}" for report in stats.get("skipped", [])]

@@ -25,7 +25,8 @@ from typing import Protocol
 from wrong_bodies import TOP, copied
 
 sys.path.append(str(TOP / "tests/lib"))
-from runner import CHECK, LATE, Script, scripts, slowness  # noqa: E402
+import one_by_one  # noqa: E402
+from helper import slowness  # noqa: E402
 
 # the bytes that stand for a number, as they are in the sources; the number of no edit is 0
 MARK = 0x5EED_5EED_7777_0000
@@ -46,9 +47,10 @@ if [ -f module.bc ]; then
 fi
 exec "$tool" "$@"
 """
-# the directories of checks that see the program itself: those of the repository would see the text of an edit; and how many seconds a
-# script of them may take, as with `make check`
-CHECKS, LIMIT = ["cli", "journal", "agents", "crash", "load"], 300
+# the directories of tests that see the program itself: those of the repository would see the text of an edit; how many seconds a module of
+# them may take; and a test that failed
+CHECKS, LIMIT = ["cli", "journal", "agents", "crash", "load"], 600
+FAILED, ENDED = re.compile(r"^failed +[0-9.]+ s  (.*)$", re.MULTILINE), "it ended with status"
 # what is built, by which script, and the files that a copy has of it
 BUILDS = {"": "package/program.sh build", "trials": "tests/trials/build.sh", "scenarios": "tests/scenarios/build.sh"}
 FILES = {"": ["ocfexec", "ocfexec-run-agent"], "trials": ["trials", "plain"], "scenarios": ["scenarios"]}
@@ -123,23 +125,23 @@ class Lane:
     top: Path
     programs: Path
 
-    def failed(self, script: Script, *words: str, only: str = "") -> set[str]:
-        """The checks of a script that fail with the programs, or whether the one of this sentence does."""
-        environment = {**os.environ, "FAST": "1", "ONLY": only, "PROGRAM": str(self.programs / "ocfexec"), "PYTHONDONTWRITEBYTECODE": "1",
+    def failed(self, module: str, *words: str) -> set[str]:
+        """The tests of a module that fail with the programs, each after its file."""
+        environment = {**os.environ, "FAST": "1", "PROGRAM": str(self.programs / "ocfexec"),
                        **{f"BUILT_{kind.upper()}": str(self.programs / kind / kind) for kind in BUILDS if kind}}
         with open(self.programs / "said", "w+", encoding="utf-8", errors="replace") as said:
-            running = subprocess.Popen([self.top / script.path, self.programs / "ocfexec", *words], cwd=self.top, env=environment,
-                                       stdin=subprocess.DEVNULL, stdout=said, stderr=said, start_new_session=True)
+            running = subprocess.Popen([sys.executable, self.top / "tests/lib/one_by_one.py", *words, self.top / module], cwd=self.top,
+                                       env=environment, stdin=subprocess.DEVNULL, stdout=said, stderr=said)
+            late = set()
             try:
-                status = running.wait(LIMIT * slowness())
+                running.wait(LIMIT * slowness())
             except subprocess.TimeoutExpired:
-                status = LATE
-            with contextlib.suppress(ProcessLookupError):
-                os.killpg(running.pid, signal.SIGKILL)
+                late = {f"{module}: {ENDED} {signal.SIGTERM}, late"}
+            # (it ends what it started)
+            running.terminate()
             running.wait()
             said.seek(0)
-            found = {name for word, _, name in CHECK.findall(said.read()) if word == "failed"}
-        return found or ({f"it ended with status {status}"} if status else set())
+            return set(FAILED.findall(said.read())) or late
 
 
 class Trial:
@@ -151,9 +153,9 @@ class Trial:
             self.lanes.put(Lane(room / f"top{number}", room / f"programs{number}"))
             shutil.copytree(TOP, room / f"top{number}", symlinks=True, ignore=shutil.ignore_patterns(".git", "out", "build"))
         self.pool = concurrent.futures.ThreadPoolExecutor(lanes)
-        found = [script for script in scripts() if script.folder in CHECKS and "slow" not in script.marks]
-        self.always = [(script, always) for script, (always, _) in sorted(zip(found, self.pool.map(self.without, found)),
-                                                                         key=lambda pair: pair[1][1])]
+        found = one_by_one.modules([str(TOP / "tests" / folder) for folder in CHECKS])
+        self.always = [(module, always) for module, (always, _) in sorted(zip(found, self.pool.map(self.without, found)),
+                                                                          key=lambda pair: pair[1][1])]
 
     @contextlib.contextmanager
     def lane(self, number: int) -> Iterator[Lane]:
@@ -164,26 +166,28 @@ class Trial:
         finally:
             self.lanes.put(lane)
 
-    def without(self, script: Script) -> tuple[set[str], float]:
+    def without(self, module: str) -> tuple[set[str], float]:
         """What fails without an edit, and the seconds that it took."""
         began = time.monotonic()
         with self.lane(0) as lane:
-            return lane.failed(script), time.monotonic() - began
+            return lane.failed(module), time.monotonic() - began
 
     def fate(self, number: int, crate: str = "") -> str:
-        """What the checks say of an edit. One counts if it fails twice, and not beside the same load without the edit. The scripts come
+        """What the tests say of an edit. One counts if it fails twice, and not beside the same load without the edit. The modules come
         first that showed most edits so far, of this crate and then of others."""
         with self.lane(number) as lane:
-            for script, always in sorted(self.always, key=lambda pair: [-self.shown[crate, pair[0].path], -self.shown[pair[0].path]]):
+            for module, always in sorted(self.always, key=lambda pair: [-self.shown[crate, pair[0]], -self.shown[pair[0]]]):
                 # (where none fails without an edit, the first that fails is enough)
-                found = lane.failed(script, *([] if always else ["-f"])) - always
+                found = lane.failed(module, *([] if always else ["-f"])) - always
                 sentence = min(found, default="").partition(": ")[2]
-                if not found or min(found) not in lane.failed(script, only=sentence):
+                # (a module that ended in another way is run whole)
+                again = ["--only", sentence] if not sentence.startswith(ENDED) else []
+                if not found or min(found) not in lane.failed(module, *again):
                     continue
                 numbered(self.top, 0, lane.programs)
-                if min(found) not in lane.failed(script, only=sentence):
-                    self.shown.update([script.path, (crate, script.path)])
-                    return f"refused by {script.path}: {min(found)}"
+                if min(found) not in lane.failed(module, *again):
+                    self.shown.update([module, (crate, module)])
+                    return f"refused by {min(found)}"
                 numbered(self.top, number, lane.programs)
         return "NOT REFUSED"
 

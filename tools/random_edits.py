@@ -431,7 +431,7 @@ def failing(*edits: Edit) -> frozenset[str] | None:
 
 def failed(top: Path, names: list[str]) -> frozenset[str]:
     """The checks of these scripts and directories that fail, each after its script."""
-    listed = re.search(r"^failed \d+:\n((?:    .*\n)*)", called(top, "tests/check.sh", "--fast", *names)[1], re.MULTILINE)
+    listed = re.search(r"^failed \d+:\n((?:    .*\n)*)", called(top, "env", "FAST=1", "tests/check.sh", *names)[1], re.MULTILINE)
     return frozenset(line.strip() for line in listed[1].splitlines()) if listed else frozenset()
 
 

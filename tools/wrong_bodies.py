@@ -301,9 +301,9 @@ def judged(crate: str, edits: list[Edit]) -> tuple[dict[str, str], str]:
 def passes(edit: Edit, copy: Path) -> bool:
     """Whether the check that an edit of mutants/tests names passes with the program of a copy."""
     script, sentence = CHECK.search(edit.text).groups()
-    environment = {**os.environ, "ONLY": sentence, "LIMIT": "6000"}
-    printed = called(copy, str(copy / script), str(copy / "build/ocfexec"), env=environment)[1]
-    return re.search(rf"^ok +[0-9.]+ s  \w+: {re.escape(sentence)}$", printed, re.MULTILINE) is not None
+    words = [sys.executable, "tests/lib/one_by_one.py", "--program", "build/ocfexec", "--only", sentence, script]
+    printed = called(copy, *words, env={**os.environ, "LIMIT": "6000", "TIME_LIMIT": "0"})[1]
+    return re.search(rf"^ok +[0-9.]+ s  {re.escape(f'{script}: {sentence}')}$", printed, re.MULTILINE) is not None
 
 
 def judged_by_tests(edits: list[Edit]) -> tuple[dict[str, str], str]:

@@ -1,6 +1,7 @@
 """Shared code of the tests: the program, a directory for each test, its agents, the lines of commands, and runs with input and output; the
 marks of tests, and their limit of time. They are run by pytest, with tests/conftest.py, or by one_by_one.py. A failing test prints how to
-repeat it, with the numbers that it asked for; a random test, which asked for SEED, leaves its directory, with its input, in tests/failed."""
+repeat it, with the numbers that it asked for; a random test, which asked for SEED, leaves its directory, with its input, in
+tests/failed."""
 import contextlib
 import functools
 import inspect

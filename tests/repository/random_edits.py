@@ -1,6 +1,7 @@
 """The random wrong bodies, tools/random_edits.py: what is drawn of a small source, and what is kept of a call; nothing is proved here."""
 import contextlib
 import os
+import shutil
 import sys
 from pathlib import Path
 from types import SimpleNamespace
@@ -56,6 +57,19 @@ pub fn is_open(bytes: [u8; 4], at: usize) -> Option<Gate<{ 2 }>>
     find(edited)
 }
 """
+# A module with a test that the program fails by its number.
+MODULE = '''import os
+
+import helper
+
+
+class Some(helper.Check):
+    def test_some(self):
+        """it is {name}"""
+        with open(helper.PROGRAM, "rb") as program:
+            number = int.from_bytes(program.read(), "little")
+        {body}
+'''
 
 
 class RandomEdits(helper.Check):
@@ -193,25 +207,23 @@ class RandomEdits(helper.Check):
         self.assertEqual((copy / "src/lib.rt").read_text(encoding="utf-8").count("if crate::wrong_body() == 1u64 {"), 2)
 
     def test_trial(self):
-        """a check shows an edit if it fails twice with it, and not without it"""
-        bodies_of = {"always": 'echo "failed    1.00 s  always: it fails"',
-                     "right": '[ "$number" != 2 ] && word=ok || word=failed; echo "$word   1.00 s  right: it is right"',
-                     "ended": '[ "$number" != 3 ] || exit 7; echo "ok   1.00 s  ended: it ends"',
-                     "once": '[ "$number" != 4 ] || mkdir there && echo "ok  1.00 s  once: twice" || echo "failed  1.00 s  once: twice"'}
+        """a test shows an edit if it fails twice with it, and not without it"""
+        bodies_of = {"always": "self.fail()", "right": "self.assertNotEqual(number, 2)", "ended": "number == 3 and os._exit(7)",
+                     "once": "number == 4 and not os.path.exists('there') and (os.mkdir('there'), self.fail())"}
         for name, body in bodies_of.items():
             path = Path(self.place(f"top/tests/cli/{name}.py"))
             path.parent.mkdir(parents=True, exist_ok=True)
-            path.write_text(f'#!/bin/sh\nnumber=$(($(od -An -t u8 "$1")))\n{body}\n', encoding="utf-8")
-            path.chmod(0o755)
+            path.write_text(MODULE.format(name=name, body=body), encoding="utf-8")
+        os.makedirs(self.place("top/tests/lib"))
+        for name in ("helper.py", "schema.py", "one_by_one.py"):
+            shutil.copy(os.path.join(helper.TOP, "tests/lib", name), self.place("top/tests/lib"))
         os.makedirs(self.place("marked/build"))
         Path(self.place("marked/build/ocfexec")).write_bytes(one_program.MARK.to_bytes(8, "little"))
-        marks = {**dict.fromkeys(bodies_of, set()), "none": {"slow"}}
-        found = [SimpleNamespace(path=f"tests/cli/{name}.py", folder="cli", marks=of_it) for name, of_it in marks.items()]
-        places = {"TOP": Path(self.place("top")), "FILES": {"": ["ocfexec"]}, "scripts": lambda: found}
-        with mock.patch.multiple(one_program, **places):
+        places = {"TOP": Path(self.place("top")), "FILES": {"": ["ocfexec"]}, "CHECKS": ["cli"]}
+        with mock.patch.multiple(one_program, **places), mock.patch.object(one_program.one_by_one, "TOP", Path(self.place("top"))):
             trial = one_program.Trial(Path(self.place("marked")), Path(self.place("room")), 1)
             self.assertEqual([trial.fate(number) for number in (1, 2, 3, 4)], [
-                "NOT REFUSED", "refused by tests/cli/right.py: right: it is right", "refused by tests/cli/ended.py: it ended with status 7",
+                "NOT REFUSED", "refused by tests/cli/right.py: it is right", "refused by tests/cli/ended.py: it ended with status 7",
                 "NOT REFUSED"])
 
     def judged(self, count, fates):
@@ -251,11 +263,11 @@ class RandomEdits(helper.Check):
             self.assertEqual(self.judged(2, {}), ({0: "proof", 2: "alive"}, [], []))
 
     def test_failed(self):
-        """of what the runner prints, the checks that failed are those of its list, and no check that was skipped"""
-        said = ("ok   0.1 s  one: it is\nfailed   0.25 s  one: it is so\nskipped 1:\n    tests/cli/two.py: it is there: install it\n"
-                "took longest:\n       0.25 s  tests/cli/one.py: it is so\nfailed 1:\n    tests/cli/one.py: it is so\n"
-                "once more: tests/check.sh one.py\n")
-        for printed, wanted in ((said, {"tests/cli/one.py: it is so"}), ("ok   0.25 s  one: it is so\n1 passed, 0 failed\n", set())):
+        """of what tests/check.sh prints, the tests that failed are those of its list, and no test that was skipped"""
+        said = ("ok   0.1 s  tests/cli/one.py: it is\nfailed   0.25 s  tests/cli/one.py: it is so\nskipped 1:\n    tests/cli/two.py: it is there: install it\n"
+                "failed 1:\n    tests/cli/one.py: it is so\n"
+                "once more: tests/check.sh tests/cli/one.py\n")
+        for printed, wanted in ((said, {"tests/cli/one.py: it is so"}), ("ok   0.25 s  tests/cli/one.py: it is so\n1 passed, 0 failed\n", set())):
             with mock.patch.object(edits, "called", lambda *_, printed=printed: (0, printed)):
                 self.assertEqual(edits.failed(Path(self.here), ["cli"]), wanted)
 

@@ -29,6 +29,15 @@ CRATES = {"low": "", "high": "low", "beside": ""}
 BODIES = {"first": "n + 1", "second": "first(n)"}
 SOURCE = "".join(f"#[tactic(auto)]\npub fn {name}(n: u64) -> u64 {{\n    {body}\n}}\n\n" for name, body in BODIES.items())
 EVERY = ["beside/one", "high/one", "high/two", "low/one"]
+ADDS = '''import helper
+
+
+class Adds(helper.Check):
+    def test_adds(self):
+        """it adds"""
+        with open(helper.PROGRAM, encoding="ascii") as program:
+            self.assertIn("1", program.read())
+'''
 
 
 class WrongBodies(helper.Check):
@@ -185,9 +194,10 @@ class WrongBodies(helper.Check):
         """an edit that a test refuses is tried with the program compiled without it and with it, by the check that it names"""
         self.write("top/crates.txt", "low:\nhigh: low\nbeside:\nocfexec: high\n")
         self.write("top/package/program.sh", '#!/bin/sh\nmkdir -p "$1"\ngrep -c "n + 1" crates/low/src/lib.rt > "$1/ocfexec" || true\n')
-        self.write("top/tests/cli/adds.sh", '#!/bin/sh\n[ "$ONLY" = "it adds" ]\n'
-                                            'grep -c 1 "$1" > /dev/null && echo "ok        0.00 s  adds: it adds"\nexit 0\n')
-        edit = "file: crates/low/src/lib.rt\nold: n + 1\nnew: n + {}\nrefused by: tests/cli/adds.sh, it adds\n"
+        self.write("top/tests/cli/adds.py", ADDS)
+        for name in ("helper.py", "schema.py", "one_by_one.py"):
+            self.write(f"top/tests/lib/{name}", Path(helper.TOP, "tests/lib", name).read_text(encoding="utf-8"))
+        edit = "file: crates/low/src/lib.rt\nold: n + 1\nnew: n + {}\nrefused by: tests/cli/adds.py, it adds\n"
         for text, counts, what in ((edit.format(2), (1, 0), "refused"), (edit.format(1), (0, 1), "NOT REFUSED"),
                                    (edit.format(2).replace("it adds", "it adds up"), (0, 1), "does not pass without it")):
             self.write("top/mutants/tests/adds_two.edit", text)
