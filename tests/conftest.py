@@ -85,11 +85,13 @@ def pytest_terminal_summary(terminalreporter: Any, config: pytest.Config) -> Non
     stats = terminalreporter.stats
     passed, failed = stats.get("passed", []), stats.get("failed", []) + stats.get("error", [])
     skipped = [f"{report.nodeid}: {report.longrepr[2].removeprefix('Skipped: ')}" for report in stats.get("skipped", [])]
-    for what, names in (("skipped", skipped), ("failed", [report.nodeid for report in failed])):
+    # (a test may fail more than once, as in its parts and at its end)
+    took = {report.nodeid: round(report.duration, 2) for report in passed + failed if report.when == "call"}
+    failed = {report.nodeid for report in failed}
+    for what, names in (("skipped", skipped), ("failed", failed)):
         if names:
             terminalreporter.write_line("\n    tests/".join([f"{what} {len(names)}:", *sorted(names)]))
-    took = {report.nodeid: round(report.duration, 2) for report in passed + failed if report.when == "call"}
     config.cache.set(SECONDS, config.cache.get(SECONDS, {}) | took)
     if counts := config.getoption("--counts"):
         with open(counts, "a", encoding="ascii") as file:
-            print(len(passed), len(failed), file=file)
+            print(len({report.nodeid for report in passed} - failed), len(failed), file=file)

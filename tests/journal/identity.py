@@ -226,7 +226,7 @@ class Identity(helper.Check):
                         os.remove(path)
                     os.chdir(folder)
                     make(name)
-                    os.chdir(self.here)
+                    os.chdir(helper.TOP)
                     with self.subTest(name=name, kind=kind, word=word):
                         done = helper.run(word, "--journal", folder, timeout=helper.PATIENCE)
                         self.assertEqual(done.returncode, 5 if name in helper.PARTS else 0, done.stderr)

@@ -82,7 +82,7 @@ def needs(name):
 def in_memory(case):
     """Marks a class of tests whose runs sync thousands of times: their files are in memory, if programs can be run there. The data of a
     killed program is there all the same."""
-    case.folder = MEMORY if os.access(MEMORY, os.W_OK) and not os.statvfs(MEMORY).f_flag & os.ST_NOEXEC else None
+    case.temporary = MEMORY if os.access(MEMORY, os.W_OK) and not os.statvfs(MEMORY).f_flag & os.ST_NOEXEC else None
     return case
 
 
@@ -451,7 +451,7 @@ class Noted:
     """A result of unittest or of pytest for one test, which notes whether that fails. A part of the test that fails is named."""
 
     def __init__(self, result):
-        self.result, self.has_failed = result, False
+        self.result, self.has_failed, self.failfast = result, False, getattr(result, "failfast", False)
 
     def __getattr__(self, name):
         return getattr(self.result, name)
@@ -471,37 +471,37 @@ class Noted:
 
 
 class Check(unittest.TestCase):
-    """A check has a directory of its own, `here`, which is also the root of its agents. It ends after `limit` seconds."""
+    """A check has a directory of its own, `here`, which is also the root of its agents. It ends after `time_limit` seconds."""
 
     longMessage = True
-    limit, needed, folder, here = LIMIT, (), None, None
+    time_limit, needed, temporary, here = LIMIT, (), None, None
 
     def setUp(self):
         for name in self.needed:
             if f"BUILT_{name.upper()}" not in os.environ:
                 build(name)
         # (a build counts for no test)
-        self.begun = time.monotonic()
+        self._since = time.monotonic()
         signal.signal(signal.SIGALRM, self.times_out)
-        signal.setitimer(signal.ITIMER_REAL, self.limit, GRACE)
+        signal.setitimer(signal.ITIMER_REAL, self.time_limit, GRACE)
         self.here = tempfile.mkdtemp()
 
     def times_out(self, *_):
         """Ends what the test started, and the test itself, unless the machine is busy."""
-        left = self.begun + self.limit * min(SLOWER, slowness()) - time.monotonic()
+        left = self._since + self.time_limit * min(SLOWER, slowness()) - time.monotonic()
         if left > 0:
             signal.setitimer(signal.ITIMER_REAL, left, GRACE)
             return
         for pid in descendants(os.getpid()):
             with contextlib.suppress(ProcessLookupError):
                 os.kill(pid, signal.SIGKILL)
-        self.fail(f"it took longer than {self.limit} s")
+        self.fail(f"it took longer than {self.time_limit} s")
 
     def run(self, result=None):
         numbers.clear()
         waited_before[0] = waited() or 0
         noted = Noted(self.defaultTestResult() if result is None else result)
-        with unittest.mock.patch.object(tempfile, "tempdir", self.folder or tempfile.tempdir):
+        with unittest.mock.patch.object(tempfile, "tempdir", self.temporary or tempfile.tempdir):
             try:
                 super().run(noted)
             except KeyboardInterrupt:
@@ -517,7 +517,7 @@ class Check(unittest.TestCase):
     def say_again(self):
         """Prints how to repeat a failing test; the input and the files of a random one are kept."""
         path = os.path.relpath(inspect.getfile(type(self)), TOP)
-        words = [sys.executable, *RUNNER.split(), "--program", PROGRAM, path, "--only", self.shortDescription() or self.id()]
+        words = [sys.executable, *RUNNER.split(), f"--program={PROGRAM}", path, "--only", self.shortDescription() or self.id()]
         again = shlex.join([*(f"{name}={value}" for name, value in numbers.items()), *words])
         print(f"once more: {again}", flush=True)
         if "SEED" in numbers and self.here:

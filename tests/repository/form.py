@@ -33,8 +33,9 @@ class Form(helper.Check):
     def test_columns(self):
         """no line of a test, a script or a shim is longer than 140 columns, except one that the program writes"""
         files = [path for ending in ("py", "sh", "c") for path in sorted(TESTS.rglob(f"*.{ending}")) if "out" not in path.parts]
-        lines = [(f"{path}:{number}", line) for path in files for number, line in enumerate(path.read_text(encoding="utf-8").split("\n"), 1)]
-        self.assertEqual([place for place, line in lines if len(line) > LONGEST and line[0] != "{"], [])
+        found = [f"{path}:{number}" for path in files for number, line in enumerate(path.read_text(encoding="utf-8").splitlines(), 1)
+                 if len(line) > LONGEST and line[0] != "{"]
+        self.assertEqual(found, [])
 
     def test_messages(self):
         """an assertion of truth has a message that says what was wanted"""

@@ -264,10 +264,10 @@ class RandomEdits(helper.Check):
 
     def test_failed(self):
         """of what tests/check.sh prints, the tests that failed are those of its list, and no test that was skipped"""
-        said = ("ok   0.1 s  tests/cli/one.py: it is\nfailed   0.25 s  tests/cli/one.py: it is so\nskipped 1:\n    tests/cli/two.py: it is there: install it\n"
-                "failed 1:\n    tests/cli/one.py: it is so\n"
-                "once more: tests/check.sh tests/cli/one.py\n")
-        for printed, wanted in ((said, {"tests/cli/one.py: it is so"}), ("ok   0.25 s  tests/cli/one.py: it is so\n1 passed, 0 failed\n", set())):
+        one = "tests/cli/one.py: it is so"
+        said = (f"ok   0.1 s  tests/cli/one.py: it is\nfailed   0.25 s  {one}\nskipped 1:\n    tests/cli/two.py: it is there: install it\n"
+                f"failed 1:\n    {one}\nonce more: tests/check.sh tests/cli/one.py\n")
+        for printed, wanted in ((said, {one}), (f"ok   0.25 s  {one}\n1 passed, 0 failed\n", set())):
             with mock.patch.object(edits, "called", lambda *_, printed=printed: (0, printed)):
                 self.assertEqual(edits.failed(Path(self.here), ["cli"]), wanted)
 
