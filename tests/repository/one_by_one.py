@@ -75,7 +75,8 @@ class OneByOne(helper.Check):
         self.module("a_missing", "import not_there\n")
         self.module("b_none", "import helper\n")
         self.module("c_ends", "import os\n\n\n", ends="os._exit(3)")
-        self.module("d_class", f"{MODULE}    @classmethod\n    def setUpClass(cls): raise OSError\n\n" + TEST.format(name="is", body="pass"))
+        fails = "    @classmethod\n    def setUpClass(cls): raise OSError\n\n"
+        self.module("d_class", MODULE + fails + TEST.format(name="is", body="pass"))
         self.module("good", passes="pass")
         status, said = self.ran()
         self.assertEqual((status, said[-1]), (1, "1 passed, 4 failed"), said)
