@@ -1,7 +1,7 @@
 #!/usr/bin/env python3
 """How many tests of each kind there are, as tables in Markdown. They are counted in their sources, so a test of a hundred rounds counts
-once. The seconds are those that the scripts of a directory took together in the last `make check` of this copy, which runs several at once
-(tests/out/times); where one has not run in it, there are none.
+once. The seconds are those that the tests of a directory took together when each of them last ran by pytest in this copy, several at once
+(tests/out/pytest); where a module has not run there are none.
 
 With --into, the tables take the place of what stands in a file between the lines <!-- counts --> and <!-- end of counts -->.
 
@@ -10,6 +10,7 @@ import argparse
 import ast
 import collections
 import datetime
+import json
 import re
 import subprocess
 import sys
@@ -21,11 +22,11 @@ BEGIN, END = "<!-- counts -->", "<!-- end of counts -->"
 FOLDERS = {"cli": "what a user or a client sees of the program", "journal": "the bytes and files of a journal, and the order of syncs",
            "agents": "real agents and processes", "crash": "kills, faults, lack of memory, long histories",
            "load": "many lines, long times", "system": "package, unit, clients, cluster",
-           "repository": "documents, contracts, edits and scripts"}
+           "repository": "documents, contracts, edits and tools"}
 FUNCTION = re.compile(r"^ *(?:pub(?:\([a-z]+\))? )?(?:ghost )?fn \w", re.MULTILINE)
 TEST, SCENARIO, OK = re.compile(r"#\[test\]"), re.compile(r"^scenario ", re.MULTILINE), re.compile(r"^ok ", re.MULTILINE)
-# the mark of a slow script
-SLOW = re.compile(r"^# check: .*\bslow\b", re.MULTILINE)
+# the mark of a slow test, or of a class of them; and the seconds of tests, by their names
+SLOW, SECONDS = "helper.slow", "tests/out/pytest/v/ocfexec/seconds"
 
 
 def files(pattern):
@@ -69,33 +70,30 @@ def kinds():
 
 
 def times():
-    """The seconds of each directory, if each of its scripts has run."""
+    """The seconds of each directory, if each of its modules has run."""
     try:
-        kept = (TOP / "tests/out/times").read_text(encoding="utf-8").splitlines()
+        kept = json.loads((TOP / SECONDS).read_text(encoding="utf-8"))
     except OSError:
         return {}
-    seconds = {path: float(took) for took, path in map(str.split, kept)}
-    scripts = {folder: [str(path.relative_to(TOP)) for path in files(f"tests/{folder}/*.py")] for folder in FOLDERS}
-    return {folder: round(sum(map(seconds.get, paths))) for folder, paths in scripts.items() if seconds.keys() >= set(paths)}
+    seconds = collections.Counter()
+    for name, took in kept.items():
+        seconds[name.partition(": ")[0]] += took
+    modules = {folder: [str(path.relative_to(TOP / "tests")) for path in files(f"tests/{folder}/*.py")] for folder in FOLDERS}
+    return {folder: round(sum(map(seconds.get, paths))) for folder, paths in modules.items() if seconds.keys() >= set(paths)}
 
 
 def cases(text):
-    """The tests of a module of unittest, each by its decorators."""
+    """The tests of a module of unittest, each by its decorators and those of its class."""
     found = [node for node in ast.parse(text).body if isinstance(node, ast.ClassDef) and node.bases]
-    tests = [node for case in found for node in case.body if isinstance(node, ast.FunctionDef) and node.name.startswith("test_")]
-    return [list(map(ast.unparse, test.decorator_list)) for test in tests]
+    tests = [(case, node) for case in found for node in case.body if isinstance(node, ast.FunctionDef) and node.name.startswith("test_")]
+    return [list(map(ast.unparse, case.decorator_list + test.decorator_list)) for case, test in tests]
 
 
 def of_folder(folder):
-    """How many scripts a directory has, how many checks, and how many of these are slow."""
-    scripts = files(f"tests/{folder}/*.py")
-    found = collections.Counter(scripts=len(scripts))
-    for path in scripts:
-        text = path.read_text(encoding="utf-8")
-        tests = cases(text)
-        is_slow = SLOW.search("\n".join(text.splitlines()[:5]))
-        found += collections.Counter(checks=len(tests), slow=len(tests) if is_slow else sum("helper.slow" in one for one in tests))
-    return found
+    """How many modules a directory has, how many tests, and how many of these are slow."""
+    modules = files(f"tests/{folder}/*.py")
+    tests = [test for path in modules for test in cases(path.read_text(encoding="utf-8"))]
+    return collections.Counter(modules=len(modules), tests=len(tests), slow=sum(SLOW in test for test in tests))
 
 
 def table(heads, rows):
@@ -107,12 +105,12 @@ def said():
     """Both tables."""
     commit = subprocess.run(["git", "rev-parse", "--short=8", "HEAD"], cwd=TOP, check=True, capture_output=True, text=True).stdout.strip()
     found, took = {folder: of_folder(folder) for folder in FOLDERS}, times()
-    rows = [(f"`tests/{folder}`", of["scripts"], of["checks"], of["slow"], took.get(folder, ""), FOLDERS[folder])
+    rows = [(f"`tests/{folder}`", of["modules"], of["tests"], of["slow"], took.get(folder, ""), FOLDERS[folder])
             for folder, of in found.items()]
     sums = sum(found.values(), collections.Counter())
-    rows.append(("all", sums["scripts"], sums["checks"], sums["slow"], sum(took.values()) if len(took) == len(FOLDERS) else "", ""))
+    rows.append(("all", sums["modules"], sums["tests"], sums["slow"], sum(took.values()) if len(took) == len(FOLDERS) else "", ""))
     return "\n\n".join([f"Counted on {datetime.date.today()}, above {commit}.", table(["what", "number", "where"], kinds()),
-                        table(["directory", "scripts", "checks", "slow", "seconds", "about"], rows)])
+                        table(["directory", "modules", "tests", "slow", "seconds", "about"], rows)])
 
 
 def main():
