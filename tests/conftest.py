@@ -83,10 +83,10 @@ def pytest_terminal_summary(terminalreporter: Any, config: pytest.Config) -> Non
     if hasattr(config, "workerinput"):
         return
     stats = terminalreporter.stats
-    passed, failed = stats.get("passed", []), stats.get("failed", []) + stats.get("error", [])
+    passed, failed = ([report for word in words for report in stats.get(word, [])] for words in (["passed"], ["failed", "error"]))
     skipped = [f"{report.nodeid}: {report.longrepr[2].removeprefix('Skipped: ')}" for report in stats.get("skipped", [])]
     # (a test may fail more than once, as in its parts and at its end)
-    took = {report.nodeid: round(report.duration, 2) for report in passed + failed if report.when == "call"}
+    took = {report.nodeid: round(getattr(report, "duration", 0), 2) for report in [*passed, *failed, *stats.get("skipped", [])]}
     failed = {report.nodeid for report in failed}
     for what, names in (("skipped", skipped), ("failed", failed)):
         if names:

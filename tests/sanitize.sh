@@ -19,4 +19,4 @@ if ! nm "$work/ocfexec.o" | grep -c -e __asan_report_load -e __asan_load > "$wor
     echo "sanitize.sh: no access of $work/ocfexec.o is looked at: no __asan_load among its names" >&2
     exit 1
 fi
-LINKED=1 "$top/tests/crash/growths.py" "$work/ocfexec"
+LINKED=1 TIME_LIMIT=0 "$top/tests/lib/one_by_one.py" --program "$work/ocfexec" "$top/tests/crash/growths.py"
