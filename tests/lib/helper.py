@@ -467,6 +467,8 @@ class Noted:
     def addSubTest(self, test, part, error):
         if error:
             print(f"failed: {part}", flush=True)
+        # (pytest takes one failure of a test)
+        if error and (isinstance(self.result, unittest.TestResult) or not self.has_failed):
             (self.addFailure if issubclass(error[0], test.failureException) else self.addError)(test, error)
 
 
