@@ -51,6 +51,8 @@ for ignored in signal.valid_signals() - {signal.SIGPIPE, signal.SIGXFSZ}:
         signal.signal(ignored, signal.SIG_DFL)
 # (a service's standard error is the system's journal, and not that of the programs which are tested)
 os.environ.pop("JOURNAL_STREAM", None)
+# (if python3 is a script that looks for one, as that of pyenv, each start of it takes as long again)
+os.environ["PATH"] = os.pathsep.join([os.path.dirname(sys.executable), os.environ["PATH"]])
 
 
 def number(name, default):
