@@ -97,7 +97,7 @@ class OneByOne(helper.Check):
     def test_ended(self):
         """a call that is ended ends its module, which cleans up"""
         self.module("lasts", "import subprocess\n\n", lasts="print(self.here, flush=True); subprocess.run(['sleep', '600'])")
-        with subprocess.Popen(self.words(), stdout=subprocess.PIPE, text=True, env=self.environment) as run:
+        with subprocess.Popen(self.words(), stdout=subprocess.PIPE, stderr=subprocess.DEVNULL, text=True, env=self.environment) as run:
             here = run.stdout.readline().rstrip("\n")
             self.assertTrue(os.path.isdir(here), here)
             run.terminate()
