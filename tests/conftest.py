@@ -56,8 +56,8 @@ def attribute(item: Any, name: str) -> Any:
 def pytest_collection_modifyitems(config: pytest.Config, items: list[pytest.Item]) -> None:
     """The longest tests of several at once come first; but last are those that wait until a program is built."""
     if only := config.getoption("--only"):
-        config.hook.pytest_deselected(items=[item for item in items if not item.sentence.endswith(f": {only}")])
-        items[:] = [item for item in items if item.sentence.endswith(f": {only}")]
+        config.hook.pytest_deselected(items=[item for item in items if item.sentence.partition(": ")[2] != only])
+        items[:] = [item for item in items if item.sentence.partition(": ")[2] == only]
     if hasattr(config, "workerinput"):
         seconds = config.cache.get(SECONDS, {})
         items.sort(key=lambda item: (bool(attribute(item, "needed")),
