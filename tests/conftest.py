@@ -23,13 +23,6 @@ def pytest_addoption(parser: pytest.Parser) -> None:
     parser.addoption("--counts", metavar="FILE", help="add a line to this file, with the numbers of passed and of failed tests")
 
 
-@pytest.hookimpl(tryfirst=True)
-def pytest_cmdline_main(config: pytest.Config) -> None:
-    if getattr(config.option, "numprocesses", None):
-        # (one test after another is handed out, in the order of the collection)
-        config.option.dist = "loadgroup"
-
-
 def pytest_configure(config: pytest.Config) -> None:
     # (the tests read it when they are imported, those of other processes, too)
     if program := config.getoption("--program"):
@@ -37,16 +30,13 @@ def pytest_configure(config: pytest.Config) -> None:
 
 
 def pytest_itemcollected(item: pytest.Item) -> None:
-    """A test is named by its file and its sentence. One that shares something with others of its class, or with others on its machine, is
-    run by the same process as these."""
+    """A test is named by its file and its sentence."""
     sentence = inspect.getdoc(item.obj) or item.name
-    item._nodeid = item.sentence = f"{item.path.relative_to(TESTS)}: {sentence}"
+    item._nodeid = f"{item.path.relative_to(TESTS)}: {sentence}"
     item.extra_keyword_matches.add(sentence)
     for mark in ("slow", "alone"):
         if attribute(item, f"is_{mark}"):
             item.add_marker(mark)
-    if "setUpClass" in vars(item.cls) or item.path.parent.name == "system":
-        item.add_marker(pytest.mark.xdist_group(item.path.stem))
 
 
 def attribute(item: Any, name: str) -> Any:
@@ -56,12 +46,26 @@ def attribute(item: Any, name: str) -> Any:
 def pytest_collection_modifyitems(config: pytest.Config, items: list[pytest.Item]) -> None:
     """The longest tests of several at once come first; but last are those that wait until a program is built."""
     if only := config.getoption("--only"):
-        config.hook.pytest_deselected(items=[item for item in items if item.sentence.partition(": ")[2] != only])
-        items[:] = [item for item in items if item.sentence.partition(": ")[2] == only]
+        config.hook.pytest_deselected(items=[item for item in items if item.nodeid.partition(": ")[2] != only])
+        items[:] = [item for item in items if item.nodeid.partition(": ")[2] == only]
     if hasattr(config, "workerinput"):
         seconds = config.cache.get(SECONDS, {})
         items.sort(key=lambda item: (bool(attribute(item, "needed")),
-                                     -seconds.get(item.sentence, SLOW if item.get_closest_marker("slow") else 0)))
+                                     -seconds.get(item.nodeid, SLOW if item.get_closest_marker("slow") else 0)))
+
+
+@pytest.hookimpl(optionalhook=True)
+def pytest_xdist_make_scheduler(config: pytest.Config, log: Any) -> Any:
+    """Hands out one test after another, in their order; but together those of a module that share what is made for a class, or that are
+    about the whole machine."""
+    from xdist.scheduler import LoadScopeScheduling
+
+    class Scheduling(LoadScopeScheduling):
+        def _split_scope(self, nodeid: str) -> str:
+            path = nodeid.partition(": ")[0]
+            return path if path.startswith("system/") or "def setUpClass" in (TESTS / path).read_text(encoding="utf-8") else nodeid
+
+    return Scheduling(config, log)
 
 
 def pytest_collection_finish(session: pytest.Session) -> None:
@@ -74,8 +78,8 @@ def pytest_collection_finish(session: pytest.Session) -> None:
 @pytest.hookimpl(hookwrapper=True)
 def pytest_runtest_makereport(item: pytest.Item) -> Iterator[None]:
     report = (yield).get_result()
-    # (without the group of xdist; the last word is the head of the report of a failure)
-    report.nodeid, report.location = item.sentence, (*report.location[:2], item.sentence + " ")
+    # (the head of the report of a failure)
+    report.location = *report.location[:2], item.nodeid + " "
 
 
 def pytest_terminal_summary(terminalreporter: Any, config: pytest.Config) -> None:
