@@ -29,7 +29,8 @@ for python in python3 /usr/bin/python3 ""; do
     "$python" -c "import pytest, xdist" 2> /dev/null && break
 done
 if [ -z "$python" ]; then
-    echo "check.sh: pytest is missing, so the tests run one by one; install it by apt-get install python3-pytest python3-pytest-xdist" >&2
+    echo "check.sh: there is no pytest with xdist, so the tests run one by one;" \
+        "to have it: apt-get install python3-pytest python3-pytest-xdist python3-jsonschema" >&2
     exec python3 tests/lib/one_by_one.py "${paths[@]}"
 fi
 counts=$(mktemp)
