@@ -3,6 +3,7 @@ marks of tests, and their limit of time. They are run by pytest, with tests/conf
 repeat it, with the numbers that it asked for; a random test, which asked for SEED, leaves its directory, with its input, in
 tests/failed."""
 import contextlib
+import faulthandler
 import functools
 import inspect
 import json
@@ -32,8 +33,10 @@ LAST, PATIENCE, SLOWER = 10, 60, 4
 # where the system reports for how long processes waited; for how many seconds in a test a quiet machine holds processes back at most; how
 # many times slower a busy one is at least; and for how many seconds that may hold a process back
 PRESSURE, QUIET, BUSY, BURST = "/proc/pressure", 0.25, 1.2, 10
-# how many seconds a test may take, or 0 for as many as it likes, and how many more to clean up; and how many a whole run may
-LIMIT, GRACE, WHOLE = int(os.environ.get("TIME_LIMIT", 300)), 60, 280
+# how many seconds a test may take, or 0 for as many as it likes, and how many more once what it started was ended; and how many a whole
+# run may
+LIMIT = int(os.environ.get("TIME_LIMIT", 300))
+GRACE, WHOLE = LIMIT / 10, 280
 # the lines about a process that has not ended a tenth of a second after it was killed, and about its end: on a busy machine that is no
 # fault of the program
 STILL_ALIVE = re.compile(r"ocfexec: (?:\S+ waits for )?pid \d+ \([^\n]*\)[^\n]* is still alive after SIGKILL\n"
@@ -47,7 +50,8 @@ numbers, waited_before = {}, [0.0]
 # The program names the signals that are ignored when it starts, such as those ignored by nohup or a script's `&`. Signals that Python
 # itself ignores have their default action in the processes that it starts.
 for ignored in signal.valid_signals() - {signal.SIGPIPE, signal.SIGXFSZ}:
-    if signal.getsignal(ignored) == signal.SIG_IGN:
+    # (xdist may run tests in another thread, where no action can be set)
+    if signal.getsignal(ignored) == signal.SIG_IGN and threading.current_thread() is threading.main_thread():
         signal.signal(ignored, signal.SIG_DFL)
 # (a service's standard error is the system's journal, and not that of the programs which are tested)
 os.environ.pop("JOURNAL_STREAM", None)
@@ -485,21 +489,30 @@ class Check(unittest.TestCase):
             if f"BUILT_{name.upper()}" not in os.environ:
                 build(name)
         # (a build counts for no test)
-        self._since = time.monotonic()
-        signal.signal(signal.SIGALRM, self.times_out)
-        signal.setitimer(signal.ITIMER_REAL, self.time_limit, GRACE)
+        self.is_over, self.is_late = threading.Event(), False
+        if self.time_limit:
+            threading.Thread(target=self.times_out, args=[time.monotonic()], daemon=True).start()
+        self.addCleanup(self.in_time)
         self.here = tempfile.mkdtemp()
 
-    def times_out(self, *_):
-        """Ends what the test started, and the test itself, unless the machine is busy."""
-        left = self._since + self.time_limit * min(SLOWER, slowness()) - time.monotonic()
-        if left > 0:
-            signal.setitimer(signal.ITIMER_REAL, left, GRACE)
-            return
-        for pid in descendants(os.getpid()):
-            with contextlib.suppress(ProcessLookupError):
-                os.kill(pid, signal.SIGKILL)
-        self.fail(f"it took longer than {self.time_limit} s")
+    def times_out(self, began):
+        """Ends what the test started once it has taken too long, which is longer on a busy machine; and then its process, if it goes on."""
+        left = self.time_limit
+        while not self.is_over.wait(left):
+            left = began + self.time_limit * min(SLOWER, slowness()) - time.monotonic()
+            if left <= 0 and self.is_late:
+                faulthandler.dump_traceback()
+                os._exit(1)
+            if left <= 0:
+                self.is_late, left = True, GRACE
+                for pid in descendants(os.getpid()):
+                    with contextlib.suppress(ProcessLookupError):
+                        os.kill(pid, signal.SIGKILL)
+
+    def in_time(self):
+        self.is_over.set()
+        if self.is_late:
+            self.fail(f"it took longer than {self.time_limit} s")
 
     def run(self, result=None):
         numbers.clear()
@@ -512,7 +525,6 @@ class Check(unittest.TestCase):
                 self.doCleanups()
                 raise
             finally:
-                signal.setitimer(signal.ITIMER_REAL, 0)
                 if noted.has_failed:
                     self.say_again()
                 self.clear()

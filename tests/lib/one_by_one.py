@@ -4,7 +4,6 @@ printed as `ok`, `failed` or `skipped`, with its seconds, its file and its sente
 reason, those that failed, and the counts. A module fails that has no test, that cannot be imported, or that ends in another way."""
 import argparse
 import contextlib
-import faulthandler
 import importlib.util
 import multiprocessing
 import os
@@ -42,17 +41,15 @@ def tests_of(path: str) -> Iterator[Any]:
 
 
 class Report(unittest.TestResult):
-    """Prints each test of a module, and sends its word and its name. A test that goes on for this long ends the process."""
+    """Prints each test of a module, and sends its word and its name."""
 
-    def __init__(self, path: str, sending: Any, longest: float):
+    def __init__(self, path: str, sending: Any):
         super().__init__()
-        self.path, self.sending, self.longest, self.began, self.word, self.why = path, sending, longest, time.monotonic(), "", ""
+        self.path, self.sending, self.began, self.word, self.why = path, sending, time.monotonic(), "", ""
 
     def startTest(self, test: Any) -> None:
         super().startTest(test)
         self.began, self.word, self.why = time.monotonic(), "ok", ""
-        if self.longest:
-            faulthandler.dump_traceback_later(self.longest, exit=True)
 
     def addSkip(self, test: Any, reason: str) -> None:
         self.word, self.why = "skipped", f": {reason}"
@@ -87,8 +84,7 @@ def run_module(path: str, given: argparse.Namespace, sending: Any) -> None:
     os.setsid()
     # (a test that is ended cleans up)
     signal.signal(signal.SIGTERM, signal.default_int_handler)
-    import helper
-    tests, report = list(tests_of(path)), Report(path, sending, helper.LIMIT and helper.LIMIT * helper.SLOWER + helper.GRACE)
+    tests, report = list(tests_of(path)), Report(path, sending)
     report.failfast = given.f
     unittest.TestSuite(test for test in tests if given.only in ("", test.shortDescription())
                        and given.k in f"{test.id()} {test.shortDescription()}").run(report)

@@ -84,13 +84,15 @@ class OneByOne(helper.Check):
             self.assertIn(f"failed tests/cli/{name}.py: it ended with status {number}", said)
 
     def test_limit(self):
-        """a test that takes too long fails, what it started is ended, and the next one goes on"""
+        """a test that takes too long fails, what it started is ended, and the next one goes on; one that goes on even so ends its module"""
         self.environment["TIME_LIMIT"] = "1"
         hangs = f"subprocess.run('sleep 600 & echo $! > {self.place('pid')}; wait', shell=True)"
-        self.module("hangs", "import subprocess\nimport time\n\n", a_hangs=hangs, b_sleeps="time.sleep(600)", c_passes="pass")
+        self.module("hangs", "import subprocess\n\n", a_hangs=hangs, b_passes="pass")
+        self.module("sleeps", "import time\n\n", sleeps="time.sleep(600)")
         status, said = self.ran()
         self.assertEqual((status, said[-1]), (1, "1 passed, 2 failed"), said)
-        self.assertEqual(said.count("AssertionError: it took longer than 1 s"), 2)
+        self.assertEqual(said.count("AssertionError: it took longer than 1 s"), 1)
+        self.assertIn("failed tests/cli/sleeps.py: it ended with status 1", said)
         pid, = self.numbers_in(self.place("pid"))
         self.eventually("the end of what it started", lambda: not helper.is_alive(pid))
 
