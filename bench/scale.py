@@ -8,6 +8,7 @@ python3-matplotlib for the picture.
 Use: scale.py PROGRAM PICTURE.svg [ROUNDS]; or scale.py FIGURES.json PICTURE.svg"""
 from __future__ import annotations
 
+import collections
 import datetime
 import json
 import os
@@ -17,15 +18,15 @@ import sys
 import tempfile
 import time
 from pathlib import Path
-from typing import Any, Callable
+from typing import Any
 
 from plots import QUIET, ROUNDS, plt
 
 RESOURCES, MONITORS = (1, 4, 16, 64, 256), (0, 1, 2, 4, 8)
 # starts in all, and how many a resource has in its queue at most; questions; openings; and an hour, in milliseconds
 STARTS, QUEUE, QUESTIONS, OPENINGS, HOUR = 512, 16, 200, 5, 3_600_000
-# how many milliseconds an agent sleeps while questions are asked
-SLEEP = 1500
+# how many milliseconds an agent sleeps; and after how many seconds questions are asked meanwhile, when all agents run
+SLEEP, SETTLED = 1000, 0.3
 # what is drawn: its unit, and what is said of it
 PANELS = {"rate": "starts a second", "processor": "processor time of a start, ms", "memory": "resident memory, MB",
           "rest": "a question at rest, µs", "busy": "a question while one agent of each\nresource sleeps, µs", "opening": "an opening, ms"}
@@ -35,31 +36,41 @@ Command = dict[str, Any]
 
 
 class Served:
-    """An executor that serves, over a journal, and the lines that it answers."""
+    """An executor that serves, over a journal: how many replies it has sent, and how many ends of each action."""
 
     def __init__(self, program: str, here: str):
         words = [program, "serve", "--journal", os.path.join(here, "journal"), "--root", here]
+        self.replies, self.ends = 0, collections.Counter()
         began = time.perf_counter()
         self.run = subprocess.Popen(words, stdin=subprocess.PIPE, stdout=subprocess.PIPE)
-        self.until(lambda line: b'"ready":true' in line)
+        self.read()
         self.took = time.perf_counter() - began
 
-    def until(self, holds: Callable[[bytes], bool], count: int = 1) -> None:
-        """Reads lines until this holds for so many of them."""
-        while count:
-            line = self.run.stdout.readline()
-            if not line or b'"error"' in line:
-                sys.exit(f"scale.py: it refuses, or ends: {line}")
-            count -= holds(line)
+    def read(self) -> None:
+        """Reads a line; the first one says that it is ready."""
+        line = self.run.stdout.readline()
+        if not line or b'"error"' in line:
+            sys.exit(f"scale.py: it refuses, or ends: {line}")
+        if b'"outcome"' in line:
+            self.ends[json.loads(line)["action"]] += 1
+        else:
+            self.replies += 1
 
     def ask(self, *commands: Command) -> None:
-        """Writes commands at once, and reads the answer to each."""
+        """Writes commands at once, and reads until each has its reply."""
+        wanted = self.replies + len(commands)
         self.write(*commands)
-        self.until(lambda line: b'"outcome"' not in line, len(commands))
+        while self.replies < wanted:
+            self.read()
 
     def write(self, *commands: Command) -> None:
         self.run.stdin.write("".join(json.dumps(command) + "\n" for command in commands).encode())
         self.run.stdin.flush()
+
+    def wait(self, action: str, count: int) -> None:
+        """Reads until so many of these actions have ended."""
+        while self.ends[action] < count:
+            self.read()
 
     def processor(self) -> float:
         """The seconds of the processor that it took by itself."""
@@ -86,9 +97,9 @@ def starts(served: Served, resources: int) -> Figures:
     turns = min(QUEUE, STARTS // resources)
     batches, batch = STARTS // (resources * turns), named(resources, op="exec", action="start", timeout=60_000) * turns
     began, before = time.perf_counter(), served.processor()
-    for _ in range(batches):
-        served.write(*batch)
-        served.until(lambda line: b'"outcome"' in line, len(batch))
+    for number in range(batches):
+        served.ask(*batch)
+        served.wait("start", (number + 1) * len(batch))
     done = batches * len(batch)
     return {"rate": done / (time.perf_counter() - began), "processor": 1000 * (served.processor() - before) / done}
 
@@ -122,11 +133,15 @@ def measured(program: str, agents: str, resources: int, monitors: int) -> Figure
         served.ask(*named(resources, op="register", provider="bench", type="Compiled", params={"wait": "0"}))
         for number in range(monitors):
             served.ask(*named(resources, op="recur", interval=HOUR + number))
+        # (each is due at once)
+        served.wait("monitor", resources * monitors)
         found = starts(served, resources) | {"rest": question(served), "memory": served.memory()}
         served.ask(*named(resources, op="params", params={"wait": str(SLEEP)}))
+        ended = served.ends["start"]
         served.ask(*named(resources, op="exec", action="start", timeout=60_000))
+        time.sleep(SETTLED)
         found["busy"] = question(served)
-        served.until(lambda line: b'"outcome"' in line, resources)
+        served.wait("start", ended + resources)
         served.end()
         return found | {"opening": openings(program, here)}
 

@@ -5,7 +5,7 @@ An edit that does not compile is replaced by the next one of the seed, so a seed
 What becomes of each: the proof of its crate refuses it; or, with --tests, a check of `make check FAST=1` of the program compiled with it;
 or, where it changes what other crates see, the proof of a crate that names its crate; or it is alive. Edits of one crate are tried
 together. mutants/out/random has the edits, and in its file `tried` what became of each, with the sum of the crates' texts that this rests
-on, so an interrupted run goes on. mutants/random.tried has the same of the score in docs/TESTING.md, which is read, too, and never written
+on, so an interrupted run goes on. mutants/random.tried has such lines of the seed of docs/TESTING.md; it is read, too, and never written
 here. The table is over the edits of this call.
 
 Use: random_edits.py [--seed N] [--count M] [--tests] [-j CRATES] [CRATE..]"""
@@ -31,7 +31,7 @@ import wrong_bodies as bodies
 from wrong_bodies import MUTANTS, TOP, called
 
 FOLDER = MUTANTS / "out/random"
-# what became of the edits of the score in docs/TESTING.md
+# what became of edits of the seed of docs/TESTING.md
 SCORE = MUTANTS / "random.tried"
 NO_CODE = re.compile(r'//[^\n]*|/\*.*?\*/|\bb?r(#*)".*?"\1|"(?:\\.|[^"\\])*"|\'(?:\\(?:x\w\w|u\{\w+\}|.)|[^\\\'\n])\'', re.DOTALL)
 NO_BODY = re.compile(r"\bghost use [^;]*;|#!?(?=\[)|\b(?:requires|ensures)(?: \*)?(?:\s+\w+)?\s*(?=\{)|\bghost\s+\w+\s*[:=]\s*(?=\{)")
