@@ -42,7 +42,7 @@ static lrmd_key_value_t *parameters(const struct load *load, int resource) {
     snprintf(wait, sizeof wait, "%d", load_wait(load, resource));
     if (load_wait(load, resource))
         all = lrmd_key_value_add(all, "wait", wait);
-    if (load_notes(load))
+    if (load_has_to(load))
         all = lrmd_key_value_add(all, "to", load->to);
     return all;
 }

@@ -48,7 +48,7 @@ void load_ended(int resource, int code) {
     reported[report_count++].at = seconds(CLOCK_MONOTONIC);
 }
 
-int load_notes(const struct load *load) {
+int load_has_to(const struct load *load) {
     return strcmp(load->to, "-") != 0;
 }
 

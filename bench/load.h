@@ -16,7 +16,7 @@ struct load {
 };
 
 /* Whether the parameter `to` is given. */
-int load_notes(const struct load *load);
+int load_has_to(const struct load *load);
 
 /* The parameter `wait` of a resource, or 0. */
 int load_wait(const struct load *load, int resource);

@@ -73,7 +73,7 @@ static void put_parameters(const struct load *load, int resource) {
     int wait = load_wait(load, resource);
     if (wait)
         fprintf(commands, "\"wait\":\"%d\"", wait);
-    if (load_notes(load))
+    if (load_has_to(load))
         fprintf(commands, "%s\"to\":\"%s\"", wait ? "," : "", load->to);
 }
 
