@@ -126,6 +126,62 @@ def counted(part):
     return found
 
 
+class Shown:
+    """What `show`, `status` and the second reader say of a journal, and the families that this means."""
+
+    def __init__(self, folder):
+        lines = helper.replies(helper.run("status", "--json", "--journal", folder).stdout)
+        self.names = lines[0]["resources"]
+        self.states = {line["id"]: line for line in lines if "state" in line}
+        self.part = journal_format.found(*helper.parts(folder))
+        self.counts = counted(self.part)
+        assert list(self.counts) == self.names, (self.counts, self.names)
+        infos = dict(zip(self.names, lines[1::2]))
+        results = {name: lines[2 + 2 * at]["results"] for at, name in enumerate(self.names)}
+        self.last = [(name, results[name][-1]) for name in self.names if results[name]]
+        self.failed = [(name, infos[name]["failed"]) for name in self.names if infos[name]["failed"]]
+        # the last result of each monitor, by its resource and its interval
+        runs = [((name, str(monitor["interval"])), [result for result in results[name] if result["call"] == monitor["call"]])
+                for name in self.names for monitor in infos[name]["recurring"]]
+        self.monitors = [(monitor, each[-1]) for monitor, each in runs if each]
+
+    def of_journal(self):
+        kinds = [event["event"] for event in self.part.events()]
+        return {
+            "ocfexec_journal_epoch": [((), self.part.epoch)], "ocfexec_journal_bytes": [((), self.part.end)],
+            "ocfexec_calls_total": [((), self.part.state["next_call"] - 1 + kinds.count("exec") + kinds.count("recur"))],
+            "ocfexec_runs_total": [((), self.part.state["next_run"] - 1 + kinds.count("begin"))],
+            "ocfexec_resources": [((), len(self.names))],
+        }
+
+    def of_resources(self):
+        states, counts = self.states, self.counts
+        return {
+            "ocfexec_resource_state": [((name, state), int(states[name]["state"] == state)) for name in self.names for state in STATES],
+            "ocfexec_resource_queued_actions": [((name,), states[name]["queued"]) for name in self.names],
+            "ocfexec_resource_running_actions": [((name,), int(states[name]["running"] is not None)) for name in self.names],
+            "ocfexec_resource_runs_total": [((name,), counts[name]["runs"]) for name in self.names],
+            "ocfexec_resource_failures_total": [((name,), counts[name]["failures"]) for name in self.names],
+        }
+
+    def of_results(self):
+        return {
+            "ocfexec_resource_last_code": [((name, each["action"], each["outcome"]), each["code"]) for name, each in self.last],
+            "ocfexec_resource_failure_code": [((name, each["action"], each["outcome"]), each["code"]) for name, each in self.failed],
+            "ocfexec_monitor_last_code": [((*monitor, each["outcome"]), each["code"]) for monitor, each in self.monitors],
+        }
+
+    def moments(self):
+        """The moments whose ages are printed, by family and series; in milliseconds since 1970."""
+        newest = max([self.part.state["clock"], *(event["at"] for event in self.part.events())])
+        return {
+            "ocfexec_last_record_age_seconds": {(): newest} if newest else {},
+            "ocfexec_resource_last_age_seconds": {(name,): each["at"] for name, each in self.last},
+            "ocfexec_resource_failure_age_seconds": {(name,): each["at"] for name, each in self.failed},
+            "ocfexec_monitor_last_age_seconds": {monitor: each["at"] for monitor, each in self.monitors},
+        }
+
+
 class Metrics(helper.Check):
     def setUp(self):
         super().setUp()
@@ -159,51 +215,23 @@ class Metrics(helper.Check):
         """The output agrees with that of `show` and `status` and with the second reader."""
         now = time.time()
         found = self.metrics()
-        lines = helper.replies(helper.run("status", "--json", "--journal", self.folder).stdout)
-        names = lines[0]["resources"]
-        states = {line["id"]: line for line in lines if "state" in line}
-        infos = dict(zip(names, lines[1::2]))
-        results = {name: lines[2 + 2 * at]["results"] for at, name in enumerate(names)}
+        shown = Shown(self.folder)
         ages = {family: dict(found.pop(family)) for family in [family for family in found if family.endswith("_age_seconds")]}
-        part = journal_format.found(*helper.parts(self.folder))
-        kinds = [event["event"] for event in part.events()]
         is_up = self.is_held()
         self.assertEqual(len(found.pop("ocfexec_start_time_seconds")), is_up)
         # (what a killed executor left ends at some time)
-        self.assertLessEqual(set(found.pop("ocfexec_resource_held")), {((name,), 1) for name in names})
-        counts = counted(part)
-        self.assertEqual(list(counts), names)
-        runs = [(name, monitor["interval"], [result for result in results[name] if result["call"] == monitor["call"]])
-                for name in names for monitor in infos[name]["recurring"]]
-        last = [(name, results[name][-1]) for name in names if results[name]]
-        failed = [(name, infos[name]["failed"]) for name in names if infos[name]["failed"]]
-        self.assertEqual(found, {
-            "ocfexec_up": [((), is_up)], "ocfexec_journal_epoch": [((), part.epoch)], "ocfexec_journal_bytes": [((), part.end)],
-            "ocfexec_calls_total": [((), part.state["next_call"] - 1 + kinds.count("exec") + kinds.count("recur"))],
-            "ocfexec_runs_total": [((), part.state["next_run"] - 1 + kinds.count("begin"))], "ocfexec_resources": [((), len(names))],
-            "ocfexec_resource_state": [((name, state), int(states[name]["state"] == state)) for name in names for state in STATES],
-            "ocfexec_resource_queued_actions": [((name,), states[name]["queued"]) for name in names],
-            "ocfexec_resource_running_actions": [((name,), int(states[name]["running"] is not None)) for name in names],
-            "ocfexec_resource_runs_total": [((name,), counts[name]["runs"]) for name in names],
-            "ocfexec_resource_failures_total": [((name,), counts[name]["failures"]) for name in names],
-            "ocfexec_resource_last_code": [((name, each["action"], each["outcome"]), each["code"]) for name, each in last],
-            "ocfexec_resource_failure_code": [((name, each["action"], each["outcome"]), each["code"]) for name, each in failed],
-            "ocfexec_monitor_last_code": [((name, str(interval), each[-1]["outcome"]), each[-1]["code"])
-                                          for name, interval, each in runs if each],
-        })
-        newest = max([part.state["clock"], *(event["at"] for event in part.events())])
-        at = {
-            "ocfexec_last_record_age_seconds": {(): newest} if newest else {},
-            "ocfexec_resource_last_age_seconds": {(name,): each["at"] for name, each in last},
-            "ocfexec_resource_failure_age_seconds": {(name,): each["at"] for name, each in failed},
-            "ocfexec_monitor_last_age_seconds": {(name, str(interval)): each[-1]["at"] for name, interval, each in runs if each},
-        }
-        for family, moments in at.items():
+        self.assertLessEqual(set(found.pop("ocfexec_resource_held")), {((name,), 1) for name in shown.names})
+        self.assertEqual(found, {"ocfexec_up": [((), is_up)], **shown.of_journal(), **shown.of_resources(), **shown.of_results()})
+        self.are_ages(ages, shown, now)
+        return found
+
+    def are_ages(self, ages, shown, now):
+        """Each age is that of its moment, to a few seconds."""
+        for family, moments in shown.moments().items():
             self.assertEqual(list(ages[family]), list(moments), family)
             for series, moment in moments.items():
                 wanted, most = now - moment / 1000, 5 + helper.more_patience(5)
                 self.assertAlmostEqual(ages[family][series], wanted, delta=most, msg=f"{family} of {series}")
-        return found
 
     def is_held(self):
         """Whether an executor holds the lock of the directory."""
