@@ -85,7 +85,7 @@ class Endings(helper.Check):
     def opened(self, way="serve", **how):
         return self.started(way, "--memory", "--root", self.here, err=self.err, **how)
 
-    def said(self):
+    def error_text(self):
         with open(self.err, encoding="utf-8") as err:
             return err.read()
 
@@ -108,7 +108,7 @@ class Endings(helper.Check):
     def ended(self, pids):
         """All have ended when the notice comes, or it was reported that one of them was killed and had not ended yet."""
         alive = [pid for pid in pids if helper.is_alive(pid)]
-        self.assertTrue(not alive or helper.STILL_ALIVE.search(self.said()), f"{alive} live; {self.said()}")
+        self.assertTrue(not alive or helper.STILL_ALIVE.search(self.error_text()), f"{alive} live; {self.error_text()}")
         self.eventually("they end", lambda: not any(map(helper.is_alive, pids)))
 
     def slow(self, way):
@@ -137,7 +137,7 @@ class Endings(helper.Check):
             with self.subTest(way):
                 _, pids = self.timed_out("NOTE child; :", way=way)
                 self.ended(pids)
-                self.assertEqual(helper.STILL_ALIVE.sub("", self.said()), "")
+                self.assertEqual(helper.STILL_ALIVE.sub("", self.error_text()), "")
                 os.remove(os.path.join(self.up, "child"))
 
     def test_grandchild(self):
@@ -179,7 +179,7 @@ class Endings(helper.Check):
         """a daemon, in a session of its own and with an ended parent, lives on"""
         _, pids = self.timed_out("(setsid NOTE child &) ; sleep 600")
         self.assertTrue(helper.is_alive(pids[0]), "the daemon lives")
-        self.assertEqual(helper.STILL_ALIVE.sub("", self.said()), "")
+        self.assertEqual(helper.STILL_ALIVE.sub("", self.error_text()), "")
 
     def test_earlier_service(self):
         """the service of an earlier start lives on after a monitor times out, also as a background job of that start"""
@@ -252,12 +252,13 @@ class Endings(helper.Check):
         _, found = run.awaits(lambda value: "queued" in value, after=before)
         self.assertEqual((len(found["queued"]), found["running"]), (2, None), "its actions are neither begun nor answered")
         # (the kill is repeated each second, and is reported once)
-        self.assertEqual(len(re.findall(r"^ocfexec: r0 waits for pid \d+ \(Stuck\) of start, ", self.said(), re.MULTILINE)), 1, self.said())
+        found = self.error_text()
+        self.assertEqual(len(re.findall(r"^ocfexec: r0 waits for pid \d+ \(Stuck\) of start, ", found, re.MULTILINE)), 1, found)
         os.remove(stuck)
         for what in ("monitor", "stop"):
             _, end = run.awaits(lambda value, what=what: helper.is_notice(value, id="r0", action=what))
             self.assertEqual((end["outcome"], end["code"]), ("done", 0))
-        self.eventually("60 waits are over", lambda: self.said().count(" waits no longer: ") == 60)
+        self.eventually("60 waits are over", lambda: self.error_text().count(" waits no longer: ") == 60)
 
     def with_mount(self, mount):
         """A serving run with a mount of its own, with a copy of the shell to run agents."""
@@ -279,7 +280,7 @@ class Endings(helper.Check):
     def test_no_shell(self):
         """if no shell can be run, the agent itself is killed, and its resource is held as long as what it started lives"""
         run, child = self.with_mount("mount --bind /dev/null /bin/sh")
-        self.assertRegex(self.said(), r"ocfexec: r1 waits for pid \d+ \(\w+\) of start, ")
+        self.assertRegex(self.error_text(), r"ocfexec: r1 waits for pid \d+ \(\w+\) of start, ")
         run.send(helper.action("r1", "stop"), helper.register("r2", "Direct", up=self.up), helper.action("r2", "monitor"))
         run.awaits(lambda value: helper.is_notice(value, id="r2", outcome="done"))
         self.assertEqual([end for end in run.notices() if end["action"] == "stop"], [], "no stop beside the start")
@@ -292,4 +293,4 @@ class Endings(helper.Check):
         """if /proc lists nothing, the agent's group is killed, and a line says that other processes cannot be found"""
         _, child = self.with_mount("mount -t tmpfs none /proc")
         self.eventually("its child ends", lambda: not helper.is_alive(child))
-        self.assertIn("ocfexec: cannot find and stop all processes that a killed action started: ", self.said())
+        self.assertIn("ocfexec: cannot find and stop all processes that a killed action started: ", self.error_text())

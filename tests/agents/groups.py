@@ -147,7 +147,7 @@ class Groups(acting.Acting):
         # (without setsid, which would do it, too)
         pid, group, session, _ = self.finds_itself(env={**os.environ, "PATH": self.here})
         self.assertEqual((group, session), (pid, pid))
-        self.assertEqual(self.said(), "")
+        self.assertEqual(self.error_text(), "")
 
     @unittest.skipUnless(shutil.which("setsid"), "install util-linux")
     def test_leads_by_setsid(self):
@@ -175,8 +175,8 @@ class Groups(acting.Acting):
         with open(os.path.join(self.up, "leader"), encoding="ascii") as leader:
             group = int(leader.read().split()[3])
         self.assertEqual(group, os.getpgid(run.run.pid))
-        self.assertEqual(len(self.said().splitlines()), 1, self.said())
-        self.assertRegex(self.said(), r"\Aocfexec: .*(setsid|ocfexec-run-agent)")
+        self.assertEqual(len(self.error_text().splitlines()), 1, self.error_text())
+        self.assertRegex(self.error_text(), r"\Aocfexec: .*(setsid|ocfexec-run-agent)")
 
     def test_no_groups(self):
         """with --no-groups an agent runs in the executor's group, and a timeout ends it with what descends from it"""

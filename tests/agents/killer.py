@@ -259,7 +259,7 @@ class Killer(acting.Acting):
         self.is_down(run)
         self.assertNotIn("waits", helper.run("status", "--journal", folder).stdout.decode())
         for line in (r"^ocfexec: r1 waits for pid \d+ \(.*\) of start, ", r"^ocfexec: r1 waits no longer: "):
-            self.assertEqual(len(self.lines_of(line)), 1, self.said())
+            self.assertEqual(len(self.lines_of(line)), 1, self.error_text())
 
     def stamps(self):
         """The moments at which the monitors of the other resource began, in seconds."""

@@ -164,7 +164,7 @@ class Readers(acting.Acting):
         run = self.started("-m", "sh", "-c", full, "sh", logs, helper.PROGRAM, "serve", "--memory", "--root", self.here, "--logs", logs,
                            err=self.err, program="unshare", start_new_session=True)
         self.at_full_device(run)
-        self.assertTrue(self.lines_of(r"\.log: No space left on device\b"), self.said())
+        self.assertTrue(self.lines_of(r"\.log: No space left on device\b"), self.error_text())
         # (the device is seen only by the executor)
         os.remove(f"/proc/{run.run.pid}/root{logs}/filled")
         self.succeeds(run)

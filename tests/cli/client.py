@@ -180,7 +180,7 @@ class Kept(keeping.Keeping):
         self.waits("second start", lambda: self.starts() > 1)
         self.assertEqual(self.ended(client, signal.SIGTERM), 0)
         # (its monitor may end so more than once, until the file is gone)
-        self.assertIn(self.said().count("does not run"), (self.starts() - 1, self.starts()))
+        self.assertIn(self.error_text().count("does not run"), (self.starts() - 1, self.starts()))
 
     def test_changed(self):
         """a resource whose agent or parameters change is stopped as it was, and started as it is now, also after a restart"""
@@ -207,7 +207,7 @@ class Kept(keeping.Keeping):
         with open(self.place("resources.json"), "w", encoding="ascii") as file:
             file.write('{"resources": {"a": 1}}')
         os.kill(client.run.pid, signal.SIGHUP)
-        self.waits("refusal", lambda: "resources.a: expected an object" in self.said())
+        self.waits("refusal", lambda: "resources.a: expected an object" in self.error_text())
         self.wants(b=self.dummy("b"))
         os.kill(client.run.pid, signal.SIGHUP)
         self.waits("removal of a", lambda: list(helper.results(self.place("journal"))) == ["b"])
@@ -220,7 +220,7 @@ class Kept(keeping.Keeping):
             file.write("start\n")
         self.wants(a=self.dummy("a", restarts=3), b=self.dummy("b"))
         began, client = time.monotonic(), self.client()
-        self.waits("end of its tries", lambda: "client: a is given up: start ended with 1" in self.said())
+        self.waits("end of its tries", lambda: "client: a is given up: start ended with 1" in self.error_text())
         self.assertEqual(self.starts(), 1 + 1 + 3)
         self.assertGreaterEqual(time.monotonic() - began, 1 + 2)
         self.comes(client, id="b", interval=100, code=0)
@@ -236,7 +236,7 @@ class Kept(keeping.Keeping):
         self.comes(client, id="a", interval=100, code=0)
         with open(self.place("a.fails"), "w", encoding="ascii") as file:
             file.write("monitor\nstop\n")
-        self.waits("end of its tries", lambda: "client: a is given up: stop ended with 1" in self.said())
+        self.waits("end of its tries", lambda: "client: a is given up: stop ended with 1" in self.error_text())
         self.assertEqual(self.starts(), 1)
         self.assertEqual(self.ended(client, signal.SIGTERM), 1)
 
@@ -244,7 +244,8 @@ class Kept(keeping.Keeping):
         """a resource whose agent is missing is given up and named, even if no other line comes"""
         self.wants(a=self.dummy("a", "Nothing", restarts=1))
         client = self.client()
-        self.waits("end of its tries", lambda: "client: a is given up: stop was not started, with 5 (OCF_ERR_INSTALLED)" in self.said())
+        given_up = "client: a is given up: stop was not started, with 5 (OCF_ERR_INSTALLED)"
+        self.waits("end of its tries", lambda: given_up in self.error_text())
         self.assertEqual(self.ended(client, signal.SIGTERM), 1)
 
     def test_wrong(self):
@@ -287,10 +288,10 @@ class Kept(keeping.Keeping):
     def test_nothing(self):
         """without a file, or with an empty one, it says so and starts nothing, until the file names a resource"""
         client = self.client()
-        self.waits("word of it", lambda: self.said().count("nothing to do until SIGHUP") == 1)
+        self.waits("word of it", lambda: self.error_text().count("nothing to do until SIGHUP") == 1)
         self.wants()
         os.kill(client.run.pid, signal.SIGHUP)
-        self.waits("word of it", lambda: self.said().count("nothing to do until SIGHUP") == 2)
+        self.waits("word of it", lambda: self.error_text().count("nothing to do until SIGHUP") == 2)
         self.assertEqual((self.child(client), os.listdir(self.place("journal"))), (None, []))
         self.wants(a=self.dummy("a"))
         os.kill(client.run.pid, signal.SIGHUP)
@@ -364,7 +365,7 @@ class Kept(keeping.Keeping):
         os.kill(executor, signal.SIGSTOP)
         self.stops("a")
         self.runs("a")
-        said = self.said()
+        said = self.error_text()
         for line in ("client: the reply to version did not come within 5 s",
                      f"client: the executor, process {executor}, is killed, and the journal is opened again", "client: a runs"):
             self.assertIn(line, said)
@@ -380,10 +381,10 @@ class Kept(keeping.Keeping):
         words = ("--patience", "2", "--file", self.place("resources.json"), self.place("slow"), PROGRAM, "serve", "--journal",
                  self.place("journal"), "--root", self.here)
         client = self.started(*words, program=CLIENT, err=self.place("err"))
-        self.waits("word of it", lambda: "client: the executor has been opening its journal for " in self.said())
+        self.waits("word of it", lambda: "client: the executor has been opening its journal for " in self.error_text())
         self.assertEqual(self.ended(client, signal.SIGUSR1), 0)
         client = self.started(*words, program=CLIENT, err=self.place("err"))
-        self.waits("word of it", lambda: "client: the executor has been opening its journal for " in self.said())
+        self.waits("word of it", lambda: "client: the executor has been opening its journal for " in self.error_text())
         with open(self.place("good"), "w", encoding="ascii"):
             pass
         self.runs("a")
@@ -424,7 +425,7 @@ class Kept(keeping.Keeping):
         client = self.unread()
         client.stdout.close()
         self.runs("a")
-        self.waits("word of it", lambda: "client: results are not printed: their reader has gone" in self.said())
+        self.waits("word of it", lambda: "client: results are not printed: their reader has gone" in self.error_text())
         for _ in range(2):
             self.stops("a")
             self.runs("a")
@@ -441,8 +442,8 @@ class Kept(keeping.Keeping):
         limits.prlimit(client.run.pid, limits.RLIMIT_NOFILE, (3, before[1]))
         os.kill(self.child(client), signal.SIGKILL)
         self.stops("a")
-        self.waits("two more tries", lambda: "client: it is tried again in 2 s" in self.said())
-        self.assertIn("client: [Errno 24] Too many open files", self.said())
+        self.waits("two more tries", lambda: "client: it is tried again in 2 s" in self.error_text())
+        self.assertIn("client: [Errno 24] Too many open files", self.error_text())
         self.assertIsNone(client.run.poll(), "it has not ended")
         limits.prlimit(client.run.pid, limits.RLIMIT_NOFILE, before)
         self.runs("a")
@@ -456,8 +457,8 @@ class Kept(keeping.Keeping):
         os.chmod(self.place("talks"), 0o755)
         client = self.started("--file", self.place("resources.json"), self.place("talks"), PROGRAM, "serve", "--journal",
                               self.place("journal"), "--root", self.here, program=CLIENT, err=self.place("err"))
-        self.waits("two tries", lambda: self.said().count("good morning") >= 2)
-        self.assertIn("client: it is tried again in 1 s\n", self.said())
+        self.waits("two tries", lambda: self.error_text().count("good morning") >= 2)
+        self.assertIn("client: it is tried again in 1 s\n", self.error_text())
         with open(self.place("good"), "w", encoding="ascii"):
             pass
         self.runs("a")
@@ -520,12 +521,12 @@ class Kept(keeping.Keeping):
         for count, one in enumerate(wrong, 1):
             self.wants(a=one, b=self.dummy("b"))
             os.kill(client.run.pid, signal.SIGHUP)
-            self.waits("word of it", lambda wanted=count: self.said().count("client: a stays as it was: ") == wanted)
+            self.waits("word of it", lambda wanted=count: self.error_text().count("client: a stays as it was: ") == wanted)
             self.comes(client, len(client.lines), id="a", interval=100, code=0)
         big = self.described("a", **{f"p{number}": "x" * 1024 for number in range(17)})
         self.wants(a=big, b=self.dummy("b"))
         os.kill(client.run.pid, signal.SIGHUP)
-        self.waits("word of it", lambda: "resources.a.params: with the names" in self.said())
+        self.waits("word of it", lambda: "resources.a.params: with the names" in self.error_text())
         self.stops("a")
         self.runs("a")
         self.assertEqual((self.called("Described", "stop"), self.called("Described", "start")), (0, 2), "no agent stopped it")
@@ -534,12 +535,12 @@ class Kept(keeping.Keeping):
         self.waits("the change", lambda: self.called("Described", "start") == 3)
         self.assertEqual(self.ended(client, signal.SIGTERM), 0)
         [info] = [value for value in helper.replies(helper.shown(self.place("journal"))) if value.get("id") == "a"]
-        self.assertEqual(info["params"].get("configfile"), "x", self.said())
+        self.assertEqual(info["params"].get("configfile"), "x", self.error_text())
 
     def test_damaged(self):
         """a damaged journal ends it with that status, and so does a wrong argument"""
         self.wants(a=self.dummy("a"))
-        self.spelled("damaged", b"\x01 no journal", b"")
+        self.journal_of("damaged", b"\x01 no journal", b"")
         for words, status in ((("--journal", self.place("damaged")), 3), (("--journey", "x"), 2)):
             done = subprocess.run([CLIENT, "--file", self.place("resources.json"), PROGRAM, "serve", *words],
                                   capture_output=True, timeout=helper.WHOLE)

@@ -113,7 +113,7 @@ class Hand(keeping.Keeping):
         """What ocfctl prints, which ends with this status."""
         done = subprocess.run([CTL, words[0], "--socket", self.place("control"), *words[1:]], capture_output=True, text=True,
                               timeout=helper.WHOLE, **how)
-        self.assertEqual(done.returncode, status, f"{words}: {done.stdout}{done.stderr}\n{self.said()}")
+        self.assertEqual(done.returncode, status, f"{words}: {done.stdout}{done.stderr}\n{self.error_text()}")
         return done.stdout + done.stderr
 
     def failed_monitors(self, client):
@@ -287,7 +287,7 @@ class Verbs(Hand):
         self.up(a=self.role("a"))
         self.fails("a", "stop")
         self.assertIn("a: not stopped, which is not as it should be", self.ctl("stop", "a", status=1))
-        self.assertIn("client: a could not be stopped: stop ended with 5", self.said())
+        self.assertIn("client: a could not be stopped: stop ended with 5", self.error_text())
         self.mended("a")
         time.sleep(0.3)
         self.assertTrue(self.is_up("a"), "its service runs")
@@ -317,7 +317,7 @@ class Verbs(Hand):
         self.becomes("a", lambda one: one["doing"] and one["doing"]["action"] == "start")
         run = subprocess.Popen([CTL, "start", "--socket", self.place("control"), "a"], stdout=subprocess.PIPE, text=True)
         self.addCleanup(run.stdout.close)
-        self.waits("the second start", lambda: self.said().count("a: start by hand") == 2)
+        self.waits("the second start", lambda: self.error_text().count("a: start by hand") == 2)
         os.remove(self.place("a.slow"))
         self.assertRegex(run.communicate(timeout=helper.WHOLE)[0], r"a: running\n\Z")
         self.assertEqual(self.failed_monitors(client), [])
@@ -424,13 +424,13 @@ class Verbs(Hand):
         self.assertEqual(self.ctl("ids").split(), ["a", "b"])
         self.comes(client, len(client.lines), id="b", interval=100, code=0)
         self.assertEqual(self.happened("stop", "start"), before)
-        self.assertNotIn("was read again", self.said())
+        self.assertNotIn("was read again", self.error_text())
         self.wants(a=self.role("a", type="Described"))
         self.assertIn("a: running\n", self.ctl("reload"))
         self.waits("the removal of b", lambda: self.ctl("ids").split() == ["a"])
         self.wants(**wrong)
         self.ctl("reload", "--offline", status=1)
-        self.assertIn("a stays as it was: params.confgfile: ", self.said())
+        self.assertIn("a stays as it was: params.confgfile: ", self.error_text())
 
     def test_reload_first(self):
         """the first resources of a file are asked for, too, though no executor runs yet"""
@@ -482,8 +482,8 @@ class Verbs(Hand):
             self.assertNotEqual(line, "", f"it ended after {found}")
             found += [line[20:]] if line[20:21] == "x" else []
         # the executor writes the line of a result after its notice
-        self.eventually("the last line of the executor", lambda: found[-1] in self.said())
-        said = self.said().splitlines(keepends=True)
+        self.eventually("the last line of the executor", lambda: found[-1] in self.error_text())
+        said = self.error_text().splitlines(keepends=True)
         self.assertEqual([line for line in found if line not in said], [])
 
     def test_json(self):
@@ -526,9 +526,9 @@ class Targets(Hand):
         self.ctl("stop", "a")
         since = self.status_of("a")["target_by_hand"]
         os.kill(client.run.pid, signal.SIGHUP)
-        self.waits("the reload", lambda: "was read again" in self.said())
+        self.waits("the reload", lambda: "was read again" in self.error_text())
         os.kill(self.child(client), signal.SIGKILL)
-        self.waits("another executor", lambda: "was ended by SIGKILL" in self.said())
+        self.waits("another executor", lambda: "was ended by SIGKILL" in self.error_text())
         self.becomes("a", lambda one: one["settled"])
         os.kill(client.run.pid, signal.SIGKILL)
         client.run.wait()
@@ -603,7 +603,7 @@ class Targets(Hand):
             file.write('{"targets": {"a": "stopped"}}')
         client = self.client()
         self.assertEqual(client.run.wait(helper.PATIENCE), 2)
-        self.assertIn("was not written by this program", self.said())
+        self.assertIn("was not written by this program", self.error_text())
 
     def test_synced(self):
         """what was set by hand is synced before it is renamed, and its directory after that"""
@@ -690,7 +690,7 @@ class Order(Hand):
         for name in wanted:
             self.becomes(name, lambda one: one["state"] == "running")
         os.kill(self.child(client), signal.SIGKILL)
-        self.waits("another executor", lambda: "was ended by SIGKILL" in self.said())
+        self.waits("another executor", lambda: "was ended by SIGKILL" in self.error_text())
         for name in wanted:
             self.becomes(name, lambda one: one["state"] == "running")
         self.assertEqual(self.happened("start", "stop"), ["start db", "start web"])
@@ -834,7 +834,7 @@ class Socket(Hand):
         self.assertEqual(one.until(lambda line: line["kind"] == "notice")[-1]["tag"], "mine")
         self.ctl("reload")
         os.kill(self.child(client), signal.SIGKILL)
-        self.waits("another executor", lambda: "was ended by SIGKILL" in self.said())
+        self.waits("another executor", lambda: "was ended by SIGKILL" in self.error_text())
         self.becomes("a", lambda one: one["settled"])
         self.assertEqual(self.ended(client, signal.SIGTERM), 0)
         client = self.client()
@@ -851,7 +851,7 @@ class Socket(Hand):
         self.assertEqual(self.ended(client, signal.SIGUSR1), 0)
         os.remove(self.place("resources.json"))
         client = self.client()
-        self.waits("word of it", lambda: "nothing to do until SIGHUP" in self.said())
+        self.waits("word of it", lambda: "nothing to do until SIGHUP" in self.error_text())
         one = self.connected_to_new(client)
         self.waits("an executor", lambda: one.ask({"op": "list"}).get("resources") == ["a"])
         new = {"op": "register", "id": "x", "provider": "test", "type": "Role", "params": {"state": self.place("x")}}
@@ -925,7 +925,7 @@ class Programs(Hand):
         for thread in threads:
             thread.join(helper.PATIENCE * helper.SLOWER)
         self.assertEqual(failed, [])
-        self.waits("word of the slow one", lambda: "does not read from the control socket, and is cut off" in self.said())
+        self.waits("word of the slow one", lambda: "does not read from the control socket, and is cut off" in self.error_text())
         writer.join(helper.PATIENCE)
         *_, last = slow.until(lambda line: line["kind"] == "trouble")
         self.assertEqual((last["error"], slow.line()), ("slow", None))

@@ -54,7 +54,7 @@ class Keeper:
     def is_up(self):
         return os.path.exists(self.state)
 
-    def said(self):
+    def error_text(self):
         with open(os.path.join(self.folder, "err"), encoding="utf-8") as file:
             return f"{os.path.basename(self.folder)} said:\n{file.read()[-2000:]}"
 
@@ -103,7 +103,7 @@ class Keepers(helper.Check):
         until = time.monotonic() + seconds
         while not (found := holds()):
             if time.monotonic() > until + helper.more_patience(seconds):
-                self.fail(f"no {what} within {seconds} s; {keeper.said()}")
+                self.fail(f"no {what} within {seconds} s; {keeper.error_text()}")
             time.sleep(0.01)
         return found
 
@@ -111,7 +111,7 @@ class Keepers(helper.Check):
         """The service is up again in time, and is monitored."""
         began = time.monotonic()
         self.waits(keeper, "service", keeper.is_up, INTERVAL + seconds)
-        self.took_less(INTERVAL + seconds, time.monotonic() - began, f"a service that is down; {keeper.said()}")
+        self.took_less(INTERVAL + seconds, time.monotonic() - began, f"a service that is down; {keeper.error_text()}")
         monitors = keeper.monitors()
         self.waits(keeper, "monitor", lambda: keeper.monitors() > monitors)
 
@@ -120,7 +120,7 @@ class Keepers(helper.Check):
         for keeper in keepers:
             keeper.run.send_signal(signal.SIGTERM)
         for keeper in keepers:
-            self.assertEqual((keeper.run.wait(helper.WHOLE), keeper.is_up()), (0, False), keeper.said())
+            self.assertEqual((keeper.run.wait(helper.WHOLE), keeper.is_up()), (0, False), keeper.error_text())
 
     def stopped(self, keeper):
         """Stops the client for a moment, and kills its executor."""
@@ -141,7 +141,7 @@ class Keepers(helper.Check):
             os.remove(keeper.state)
             self.comes_up(keeper)
         self.ends(keepers)
-        self.assertIn(f"client: {what}", keepers[0].said())
+        self.assertIn(f"client: {what}", keepers[0].error_text())
 
     def test_killed(self):
         """kills of the executor, between which the service stops"""

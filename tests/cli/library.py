@@ -376,7 +376,7 @@ class Library(Case):
 
     def test_damaged(self):
         """a damaged journal, and one that another program holds, end the executor with a status and its meaning"""
-        folder = self.spelled("journal", b"\x01 no journal", b"")
+        folder = self.journal_of("journal", b"\x01 no journal", b"")
         self.executor("--journal", self.journal("another"))
         for name, status, reason, is_final in ((folder, 3, "the journal is damaged", True),
                                                (self.place("another"), 5, "the journal could not be opened", False)):

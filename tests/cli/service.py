@@ -101,7 +101,7 @@ class Ready(Service):
             self.assertRegex(ready["identity"], "^[0-9a-f]{32}$")
             found["identity"] = ready["identity"]
         self.assertEqual(ready, found)
-        self.assertEqual(run.said[-1].decode(), written({**found, "kind": "ready"}) + "\n", "as it is written")
+        self.assertEqual(run.opening_lines[-1].decode(), written({**found, "kind": "ready"}) + "\n", "as it is written")
 
     def version(self):
         return helper.run("--version").stdout.decode().split()[1]
@@ -185,12 +185,12 @@ class Ready(Service):
         run = self.serves("--journal", folder)
         self.is_ready(run, journal=folder, interrupted=1, next_call=2, resources=1)
         self.assertTrue(helper.is_alive(pid), "it lives")
-        self.assertEqual([helper.value_of(line)["lives"] for line in run.said[:-1]], [pid])
+        self.assertEqual([helper.value_of(line)["lives"] for line in run.opening_lines[:-1]], [pid])
         self.assertEqual(run.ends(), 0)
 
     def test_not_opened(self):
         """if no journal is opened it sends nothing"""
-        folder = self.spelled("journal", b"\x01 no journal", b"")
+        folder = self.journal_of("journal", b"\x01 no journal", b"")
         for words, status in ((["--journal", folder], 3), (["--journal", self.place("none")], 5), ([], 2)):
             done = helper.run("serve", *words)
             self.assertEqual((done.returncode, done.stdout), (status, b""))
@@ -430,7 +430,7 @@ class Tags(Service):
         snapshot = state({"next_call": MOST, "next_run": 1, "clock": 0, "resources": [
             {"id": "a", "provider": "test", "type": "Ends", "params": {}, "queue": [], "running": None, "recurring": [], "ended": [],
              "failed": None}]})
-        folder = self.spelled("spent", head(snapshot=snapshot) + CLOSED, b"")
+        folder = self.journal_of("spent", head(snapshot=snapshot) + CLOSED, b"")
         run = self.serves("--journal", folder, restore_signals=False)
         [refused] = self.asked(run, action("a", "start", tag="spent"))
         self.assertEqual((refused["number"], refused["tag"]), (13, "spent"))
@@ -576,8 +576,8 @@ class Tags(Service):
         run.awaits(lambda value: value == {"end": "left", "tag": "leave"})
         self.assertEqual(self.notice(run, id="a", outcome="done")["tag"], "second start")
         run = self.serves("--journal", folder)
-        self.assertEqual([(value["outcome"], value.get("tag")) for value in map(helper.value_of, run.said[:-1] if run.ready() else ())],
-                         [("dropped", None)])
+        report = map(helper.value_of, run.opening_lines[:-1] if run.ready() else ())
+        self.assertEqual([(value["outcome"], value.get("tag")) for value in report], [("dropped", None)])
 
     def test_run(self):
         """run knows no tag: its lines are the same to the byte, whatever is under that key"""

@@ -53,7 +53,7 @@ class StandardError(helper.Check):
         self.agent("Bare", "")
         with open(self.place("resource.d/test/Bare"), "w", encoding="ascii") as script:
             script.write("exit 0\n")
-        self.damaged = self.spelled("damaged", bytes(46), b"")
+        self.damaged = self.journal_of("damaged", bytes(46), b"")
         self.reader, self.writer = os.pipe()
         self.addCleanup(self.close)
 

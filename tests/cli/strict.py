@@ -121,7 +121,7 @@ class Strict(helper.Check):
         folder = self.journal()
         self.ends(self.registered, "--journal", folder, status=0)
         a, b = helper.parts(folder)
-        self.ends([{"op": "fly"}], "--journal", self.spelled("damaged", b"so" + a[2:], b), status=3)
+        self.ends([{"op": "fly"}], "--journal", self.journal_of("damaged", b"so" + a[2:], b), status=3)
 
     def test_others(self):
         """only run knows it"""

@@ -91,7 +91,7 @@ class AgentsFile(acting.Acting):
             end = self.done(run, name, what)
             self.assertEqual((end["outcome"], end["code"]), ("done", 0), self.seen())
         self.assertEqual(run.ends(), 0)
-        found = self.said().splitlines()
+        found = self.error_text().splitlines()
         self.assertEqual(len(found), lines, found)
         for line in found:
             self.assertRegex(line, r"\Aocfexec: .*\bagents\b")
@@ -255,7 +255,7 @@ class AgentsFile(acting.Acting):
         self.write(text[:LINE] + b"".join(others[:100]) + line + b"".join(others[100:]))
         run = self.serves()
         run.ready()
-        self.assertEqual(helper.value_of(run.said[0]).get("lives"), pid)
+        self.assertEqual(helper.value_of(run.opening_lines[0]).get("lives"), pid)
         self.is_held(run, pid)
         self.goes_on()
         [stop] = self.ends_of(run, "r1", "stop")

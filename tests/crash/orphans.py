@@ -99,13 +99,13 @@ class Orphans(acting.Acting):
     def reports(self, run, pid=None):
         """The executor is ready, and its report is the interruption of the start, with this number."""
         run.ready()
-        [value] = [helper.value_of(line) for line in run.said[:-1]]
+        [value] = [helper.value_of(line) for line in run.opening_lines[:-1]]
         self.assertEqual((value["id"], value["action"], value["outcome"]), ("r1", "start", "interrupted"))
         self.assertEqual(value.get("lives"), pid, self.seen())
 
     def reports_nothing(self, run):
         run.ready()
-        self.assertEqual(run.said[:-1], [])
+        self.assertEqual(run.opening_lines[:-1], [])
 
     def goes_elsewhere(self, run):
         """Another resource runs its actions."""
@@ -390,7 +390,7 @@ class Orphans(acting.Acting):
         for _ in range(2):
             run = self.serves()
             run.ready()
-            self.assertEqual([helper.value_of(line)["outcome"] for line in run.said[:-1]], ["dropped"], "the queued stop")
+            self.assertEqual([helper.value_of(line)["outcome"] for line in run.opening_lines[:-1]], ["dropped"], "the queued stop")
             self.is_held(run, [agent, orphan])
             run.killed()
         run = self.serves()
@@ -447,13 +447,13 @@ class Orphans(acting.Acting):
         self.is_held(run, [agent, orphan])
         begin = self.says(r"\br1\b")
         self.assertRegex(begin, rf"^ocfexec: .*\b{agent}\b")
-        self.assertEqual(len(self.said().splitlines()), 1, self.said())
+        self.assertEqual(len(self.error_text().splitlines()), 1, self.error_text())
         self.goes_on()
         self.is_released(run)
-        self.eventually("a second line", lambda: len(self.said().splitlines()) > 1)
+        self.eventually("a second line", lambda: len(self.error_text().splitlines()) > 1)
         self.assertEqual(run.ends(), 0)
-        self.assertEqual(len(self.said().splitlines()), 2, self.said())
-        self.assertRegex(self.said().splitlines()[1], r"^ocfexec: .*\br1\b")
+        self.assertEqual(len(self.error_text().splitlines()), 2, self.error_text())
+        self.assertRegex(self.error_text().splitlines()[1], r"^ocfexec: .*\br1\b")
 
     def test_leaves(self):
         """leave ends an executor that holds a resource, and leaves the orphan to the next one"""
@@ -512,7 +512,7 @@ class Orphans(acting.Acting):
         run.killed()
         run = self.serves()
         run.ready()
-        found = {value["id"]: value.get("lives") for value in map(helper.value_of, run.said[:-1])}
+        found = {value["id"]: value.get("lives") for value in map(helper.value_of, run.opening_lines[:-1])}
         self.assertEqual(found, pids)
         run.send(*[helper.action(name, "stop") for name in names])
         self.goes_elsewhere(run)

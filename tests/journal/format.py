@@ -122,7 +122,7 @@ class Format(helper.Check):
         """The content of the journal's current part, which is encoded again to the same bytes."""
         parts = helper.parts(journal)
         part = journal_format.found(*parts)
-        self.assertIn(part.spelled(), [text[:part.end] for text in parts], "spelled again")
+        self.assertIn(part.encoded(), [text[:part.end] for text in parts], "encoded again")
         return part
 
     def test_events(self):
@@ -150,7 +150,7 @@ class Format(helper.Check):
     def test_shown(self):
         """a state with every possible value, written by hand and shown"""
         text = journal_format.head(epoch=7, snapshot=journal_format.state(FULL))
-        journal = self.spelled("journal", journal_format.head() + CLOSED, text + CLOSED)
+        journal = self.journal_of("journal", journal_format.head() + CLOSED, text + CLOSED)
         self.assertEqual(journal_format.read_state(text[journal_format.HEAD:]), FULL)
         self.assertEqual(helper.replies(helper.shown(journal)), SHOWN)
         self.assertEqual(self.current(journal).epoch, 7)
@@ -162,7 +162,7 @@ class Format(helper.Check):
                 with gzip.open(f"{DATA}/{name}/{file}.gz") as stored:
                     text = stored.read()
                 part = journal_format.read_part(text)
-                self.assertEqual((part.version, part.spelled() == text[:part.end]), (FIRST, True), f"{name}/{file}")
+                self.assertEqual((part.version, part.encoded() == text[:part.end]), (FIRST, True), f"{name}/{file}")
 
     @by_chance(150)
     def test_chance(self, dice):
@@ -171,7 +171,7 @@ class Format(helper.Check):
         self.assertEqual(journal_format.read_part(text).state, state, "a state that is read as it was written")
         parts = [spoilt(dice, text), b""]
         shutil.rmtree(self.place("journal"), ignore_errors=True)
-        shown = helper.run("show", "--journal", self.spelled("journal", *parts))
+        shown = helper.run("show", "--journal", self.journal_of("journal", *parts))
         said, wanted = shown.stderr.decode(), journal_format.damage(*parts)
         if said.endswith(": order\n"):
             # (the second reader does not detect an event that does not apply in its place)

@@ -82,7 +82,7 @@ class Fuzz(helper.Check):
     def test_show(self):
         """the same pairs, shown by the program, which reports the damage that a second reader finds, and writes nothing"""
         for name, parts in self.pairs():
-            folder = self.spelled(name, *parts)
+            folder = self.journal_of(name, *parts)
             done = helper.explained("show", "--journal", folder, timeout=helper.PATIENCE)
             said = done.stderr.decode().partition("\n")[0]
             if b"" in parts and b": empty, while part-" in done.stderr:

@@ -102,26 +102,26 @@ class Journals(helper.Check):
         self.assertEqual(helper.parts(folder), before, "an opening that writes nothing")
 
     def damaged(self, where, part_a, part_b=b""):
-        folder = self.spelled("journal", part_a, part_b)
+        folder = self.journal_of("journal", part_a, part_b)
         self.stays(folder, 3, f"ocfexec: damaged part {where}", "Nothing was changed. Keep both parts")
         found = self.shows(folder)
         self.assertEqual((found.returncode, found.stdout), (3, b""))
 
     def test_shown(self):
         """the output of show for an encoded journal"""
-        found = self.shows(self.spelled("journal", busy(), b""))
+        found = self.shows(self.journal_of("journal", busy(), b""))
         self.assertEqual((found.returncode, found.stdout), (0, SHOWN))
 
     def test_failed(self):
         """the last failure is the probe that did not find the expected state"""
-        found = self.shows(self.spelled("journal", probed(), b""))
+        found = self.shows(self.journal_of("journal", probed(), b""))
         _, info, history = (helper.value_of(line) for line in found.stdout.splitlines())
         first, second = history["results"]
         self.assertEqual((first["code"], second["code"], info["failed"]), (7, 0, second))
 
     def test_withdrawn(self):
         """a withdrawn action has a result and is no longer queued"""
-        found = self.shows(self.spelled("journal", withdrawn(), b""))
+        found = self.shows(self.journal_of("journal", withdrawn(), b""))
         _, info, history = (helper.value_of(line) for line in found.stdout.splitlines())
         result = {"action": "stop", "at": 30, "call": 2, "code": 1, "interval": 0, "name": "OCF_ERR_GENERIC", "outcome": "cancelled",
                   "run": 0, "since": 30}
@@ -129,13 +129,13 @@ class Journals(helper.Check):
 
     def test_reported(self):
         """the report of its opening, sent once"""
-        folder = self.spelled("journal", busy(), b"")
+        folder = self.journal_of("journal", busy(), b"")
         self.assertEqual(helper.run(*self.words(folder), sent=LIST).stdout, REPORT)
         self.assertEqual(helper.run(*self.words(folder)).stdout, b"", "opened again")
 
     def test_not_reported(self):
         """a report that cannot be written"""
-        folder = self.spelled("journal", busy(), b"")
+        folder = self.journal_of("journal", busy(), b"")
         with open("/dev/full", "wb") as full:
             found = subprocess.run([PROGRAM, *self.words(folder)], input=LIST, stdout=full, stderr=subprocess.DEVNULL)
         self.assertEqual(found.returncode, 7)
@@ -193,7 +193,7 @@ class Journals(helper.Check):
 
     def test_no_room(self):
         """a part without space for a boot is shown, and not opened"""
-        folder = self.spelled("journal", crowded(), b"")
+        folder = self.journal_of("journal", crowded(), b"")
         self.stays(folder, 6, "ocfexec: full", "Nothing was changed. Print what the journal holds with show")
         found = self.shows(folder)
         self.assertEqual(found.returncode, 0)

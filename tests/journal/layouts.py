@@ -50,7 +50,7 @@ def but_for(text, ids):
 class Layouts(helper.Check):
     def unpack(self, old):
         shutil.rmtree(self.place("journal"), ignore_errors=True)
-        return self.spelled("journal", *old)
+        return self.journal_of("journal", *old)
 
     def opened(self, folder):
         done = subprocess.run([PROGRAM, "run", "--journal", folder, "--orphans", "0"], input=b"", capture_output=True)

@@ -277,7 +277,7 @@ class RealSyncs(helper.Check):
 
     def begun(self, place="journal", *texts):
         """A journal with these parts, or one whose files do not exist yet."""
-        return Journal(self.spelled(place, *texts), *texts)
+        return Journal(self.journal_of(place, *texts), *texts)
 
     def opened(self, journal, word, asked, lie="", fault=""):
         """Opens a journal, sends commands, and checks the calls against the rules; returns the calls, the status, and the standard

@@ -135,16 +135,16 @@ class Acting(helper.Check):
         """What there is to see of this check: its notes, its processes, and what was said."""
         notes = {name: self.noted(name) for name in sorted(os.listdir(self.up))}
         running = {pid: (stat_of(pid) or "?", words_of(pid)) for pid in with_word(self.here)}
-        said = self.said() if os.path.exists(self.err) else "nothing was opened"
+        said = self.error_text() if os.path.exists(self.err) else "nothing was opened"
         return f"notes: {notes}\nprocesses: {running}\nstandard error: {said[-2000:]}"
 
-    def said(self):
+    def error_text(self):
         with open(self.err, encoding="utf-8", errors="replace") as err:
             return err.read()
 
     def lines_of(self, pattern):
         """The lines of standard error that match."""
-        return [line for line in self.said().splitlines() if re.search(pattern, line)]
+        return [line for line in self.error_text().splitlines() if re.search(pattern, line)]
 
     def says(self, pattern):
         """Waits until standard error has a line that matches, and returns it."""

@@ -335,8 +335,8 @@ def keep(folder, into):
 
 
 class Running:
-    """A running program, whose lines are kept with the moments at which they came, except its ready line: `said` is its opening, which
-    is the report and that line. Its standard error goes to a file, by default one that no check reads."""
+    """A running program, whose lines are kept with the moments at which they came, except its ready line: `opening_lines` are the report and
+    that line. Its standard error goes to a file, by default one that no check reads."""
 
     # what reads a line; a client's lines are not all of the program
     value_of = staticmethod(value_of)
@@ -346,7 +346,8 @@ class Running:
             # (an open file of its own, since reading moves the position at which the program writes)
             self.err = None if err else open(f"/proc/self/fd/{file.fileno()}", "rb")
             self.run = subprocess.Popen([program or PROGRAM, *words], stdin=subprocess.PIPE, stdout=subprocess.PIPE, stderr=file, **how)
-        self.lines, self.came, self.is_over, self.said, self.serves = [], threading.Condition(), False, None, words[:1] == ("serve",)
+        self.lines, self.came, self.is_over = [], threading.Condition(), False
+        self.opening_lines, self.serves = None, words[:1] == ("serve",)
         self.reader = threading.Thread(target=self.read, daemon=True)
         self.reader.start()
 
@@ -354,8 +355,8 @@ class Running:
         for line in self.run.stdout:
             with self.came:
                 # (no other line begins so)
-                if self.serves and self.said is None and line.startswith(b'{"dropped":'):
-                    self.said = [text.encode() for _, text in self.lines] + [line]
+                if self.serves and self.opening_lines is None and line.startswith(b'{"dropped":'):
+                    self.opening_lines = [text.encode() for _, text in self.lines] + [line]
                 else:
                     self.lines.append((time.monotonic(), line.decode()))
                 self.came.notify_all()
@@ -422,11 +423,11 @@ class Running:
         """Its ready line."""
         until = time.monotonic() + seconds + more_patience(seconds)
         with self.came:
-            while self.said is None and not self.is_over and time.monotonic() < until:
+            while self.opening_lines is None and not self.is_over and time.monotonic() < until:
                 self.came.wait(until - time.monotonic())
-        if self.said is None:
+        if self.opening_lines is None:
             raise AssertionError(f"it does not say that it is ready; {self.state()}")
-        return opening(self.said)[-1]
+        return opening(self.opening_lines)[-1]
 
     def ends(self, seconds=PATIENCE):
         """The exit status, after the end of its input; one of serve that ends well has sent its ready line."""
@@ -574,7 +575,7 @@ class Check(unittest.TestCase):
         self.addCleanup(run.killed)
         return run
 
-    def spelled(self, name, *found):
+    def journal_of(self, name, *found):
         """The directory of a journal whose parts are these bytes."""
         folder = self.journal(name)
         for file, text in zip(PARTS, found):

@@ -51,7 +51,7 @@ class Keeping(helper.Check):
         run.value_of = printed
         return run
 
-    def said(self):
+    def error_text(self):
         with open(self.place("err"), encoding="utf-8") as file:
             return file.read()
 
@@ -59,7 +59,7 @@ class Keeping(helper.Check):
         until = time.monotonic() + seconds
         while not holds():
             if time.monotonic() > until + helper.more_patience(seconds):
-                self.fail(f"no {what} within {seconds} s:\n{self.said()}")
+                self.fail(f"no {what} within {seconds} s:\n{self.error_text()}")
             time.sleep(0.02)
 
     def is_up(self, name):

@@ -108,7 +108,7 @@ class RealSoak(helper.Check):
         run = helper.Running("serve", "--journal", f"{self.disk}/journal", "--root", self.here, "--tidy-at", "300000", "--orphans", "3000",
                              env={**os.environ, **shim})
         run.ready()
-        for result in map(helper.value_of, run.said[:-1]):
+        for result in map(helper.value_of, run.opening_lines[:-1]):
             self.book[result["id"]].take(result)
         if not self.counts["incarnations"]:
             run.send(*[helper.register(name, "Logged", folder=self.place(name)) for name in IDS],

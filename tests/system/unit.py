@@ -162,7 +162,7 @@ class Keeper(helper.Check):
 
     def test_person(self):
         """a wrong file, and a damaged journal, are not tried again"""
-        self.spelled("damaged", b"\x01 no journal", b"")
+        self.journal_of("damaged", b"\x01 no journal", b"")
         shutil.copytree(self.place("damaged"), self.place("journal"), dirs_exist_ok=True)
         for text, status in ((None, "3"), ("{}", "2")):
             if text:
