@@ -39,6 +39,8 @@ CONSTANT = re.compile(r"^ *(?:pub(?:\([a-z]+\))? )?const \w+: [^=;\n]*=([^;\n]*)
 # a private constant of a number: its name, type and value
 PRIVATE = re.compile(r"const (\w+): (\w+) = ([\d_]+);")
 PAIRS = {"(": ")", "[": "]", "{": "}"}
+# the crate of our own agents, whose program the checks run, too
+AGENTS = "ocf_agents"
 SWAPS = {one: other for pair in ("< <=", "> >=", "== !=", "&& ||", "+ -", "+= -=") for one, other in zip(pair.split(), pair.split()[::-1])}
 PLAIN = {"bool": ["true", "false"], "Option": ["None"], "Result<()": ["Ok(())"], **{f"{sign}{size}": ["0"] for sign in "iu"
          for size in (8, 16, 32, 64, "size")}}
@@ -419,20 +421,22 @@ def bodies_with(text: str, edit: Edit) -> dict[tuple[int, int], str]:
 
 @functools.cache
 def failing(*edits: Edit) -> frozenset[str] | None:
-    """The checks of `make check FAST=1` that fail twice with a program that was compiled with these edits; none where it was not."""
+    """The checks of `make check FAST=1` that fail twice with programs that were compiled with these edits; none where they were not."""
     with edited(*edits) as copy:
-        # (tests/check.sh builds it anew)
-        (copy / "crates/ocf_agents/out/ocf_agents").unlink(missing_ok=True)
-        if called(copy, "package/program.sh", str(copy / "crates" / bodies.PROGRAM / "out"))[0]:
+        if any(called(copy, "package/program.sh", str(copy / "crates" / crate / "out"), crate)[0] for crate in (bodies.PROGRAM, AGENTS)):
             return None
         found = failed(copy, one_program.CHECKS)
-        return found & failed(copy, sorted({name.partition(":")[0] for name in found})) if found else found
+        again = failed(copy, sorted({name.partition(":")[0] for name in found})) if found else found
+        return None if found is None or again is None else found & again
 
 
-def failed(top: Path, names: list[str]) -> frozenset[str]:
-    """The checks of these scripts and directories that fail, each after its script."""
-    listed = re.search(r"^failed \d+:\n((?:    .*\n)*)", called(top, "env", "FAST=1", "tests/check.sh", *names)[1], re.MULTILINE)
-    return frozenset(line.strip() for line in listed[1].splitlines()) if listed else frozenset()
+def failed(top: Path, names: list[str]) -> frozenset[str] | None:
+    """The checks of these scripts and directories that fail, each after its script; none where they could not run."""
+    printed = called(top, "env", "FAST=1", "tests/check.sh", *names)[1]
+    if not re.search(r"^\d+ passed, \d+ failed$", printed, re.MULTILINE):
+        return None
+    listed = re.findall(r"^failed \d+:\n((?:    .*\n)*)", printed, re.MULTILINE)
+    return frozenset(line.strip() for lines in listed for line in lines.splitlines())
 
 
 def fates_of_tests(edits: list[Edit]) -> dict[Edit, str]:

@@ -239,9 +239,18 @@ def copied() -> Iterator[Path]:
         yield copy
 
 
+def only(folder: Path, edit: Edit) -> set[str]:
+    """What a check is told for the functions that an edit touches or names. A name means the module that has it, if there is one; then the
+    modules of the edit's files are told."""
+    names = {name for name in edit.wanted | edit.touched if name}
+    modules = {name for name in names if any(folder.glob(f"src/**/{name}.rt"))}
+    own = {Path(file).stem for file, _, _ in edit.pairs if file.startswith("src/")} - {"lib", "main"}
+    return names - modules | own if modules and own else names
+
+
 def checked(folder: Path, edits: list[Edit]) -> str:
     """What a check says of the functions that these edits touch or name, and of those that they call."""
-    names = {name for edit in edits for name in edit.wanted | edit.touched if name}
+    names = {name for edit in edits for name in only(folder, edit)}
     words = ("rt", "check", "--jobs", "1")
     while several := SEVERAL.search(printed := called(folder, *words, *(word for name in sorted(names) for word in ("--only", name)))[1]):
         names = names - {several[1]} | set(re.findall(r"`(\S+)`", several[2]))

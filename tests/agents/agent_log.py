@@ -64,6 +64,14 @@ class AgentLog(helper.Check):
         """by --log - agents write to standard error"""
         self.assertEqual(BEGIN_OR_END.sub("", self.starts("--log", "-")), WRITES)
 
+    def test_mebibyte(self):
+        """by --log - a mebibyte of an agent's output is copied, and a line says that the rest is left out"""
+        self.agent("Talker", "head -c 2000000 /dev/zero | tr '\\0' '~'\n")
+        # (standard error is a file, so no reader can be late)
+        done = self.does("start", "--log", "-", call=helper.explained)
+        self.assertEqual((done.returncode, done.stderr.count(b"~")), (0, 1 << 20))
+        self.assertIn(b"an agent wrote a mebibyte or more, and the rest was left out", done.stderr)
+
     def test_refused(self):
         """a log that cannot be opened, and a named pipe, are refused, and no journal is made"""
         os.mkdir(self.place("root"))

@@ -1,8 +1,7 @@
 """What ends an action where that is hard. Wanted: a start past its timeout stays down after its stop where no process can be made, in a
 cgroup at its limit and for a user at its limit; where /proc shows nothing; and after the process that sends the signals was killed, or
 stopped. That process is in a session of its own, if setsid can be run, and ends with its executor. What it could not end is killed again
-each second. Two hundred and fifty agents with large environments that pass
-their timeouts at once delay no monitor of another resource.
+each second. Two hundred and fifty agents with large environments that pass their timeouts at once delay no monitor of another resource.
 The environment may set LATE_MILLIS."""
 import contextlib
 import os
@@ -116,6 +115,18 @@ class Killer(acting.Acting):
         # (what was killed counts until the first process of the system has waited for it)
         self.eventually("an agent can be started again", lambda: self.done(run, "r1", "stop")["outcome"] == "done")
         self.is_down(run)
+
+    @unittest.skipUnless(os.getuid() == 0 and acting.can("setpriv", f"--reuid={USER}", "--clear-groups", "true") and acting.can("prlimit"),
+                         "run as root, with setpriv and prlimit")
+    def test_once_without_process(self):
+        """once ends what its action started, where its user is at its limit of processes when the timeout has passed"""
+        self.agent("Late", f"exec prlimit --nproc=100 sh -c '{self.here}/waits child & wait'\n")
+        user = ["prlimit", "--nproc=3:", "setpriv", f"--reuid={USER}", "--regid=65534", "--clear-groups"]
+        done = subprocess.run([*user, helper.PROGRAM, "once", "--root", self.here, "--timeout", str(TIMEOUT), "test:Late", "start"],
+                              check=False, timeout=helper.WHOLE)
+        self.assertEqual(done.returncode, 124)
+        child = self.pid("child")
+        self.eventually("its child ends", lambda: not helper.is_alive(child))
 
     @unittest.skipUnless(os.getuid() == 0 and acting.can("unshare", "-m", "true"), "run as root, with unshare")
     def test_no_proc(self):

@@ -134,6 +134,22 @@ class AgentsFile(acting.Acting):
         self.assertEqual(self.entries(), [])
         self.assertEqual(run.ends(), 0)
 
+    @unittest.skipUnless(os.getuid() == 0 and acting.can("unshare", "-m", "true"), "run as root, with unshare")
+    def test_no_start_time(self):
+        """an agent that /proc does not show has a line, too, with 0 for the start time of its process"""
+        kept = self.place("sys")
+        os.mkdir(kept)
+        run = self.started("-m", "sh", "-c", f"mount --bind /proc/sys {kept} && mount -t tmpfs none /proc && mkdir /proc/sys && "
+                           f"mount --bind {kept} /proc/sys && exec {helper.PROGRAM} serve --journal {self.folder} --root {self.here}",
+                           err=self.err, program="unshare", start_new_session=True)
+        run.send(self.register("r1", start="exec HERE/waits agent"), helper.action("r1", "start", timeout=600_000))
+        pid = self.pid("agent")
+        [fields] = self.entries()
+        self.assertEqual((fields[1], fields[3], fields[4]), ("r1", str(pid), "0"))
+        self.goes_on()
+        self.ends_of(run, "r1", "start")
+        self.assertEqual(run.ends(), 0)
+
     @unittest.skipUnless(shutil.which("cc"), "install a C compiler")
     def test_writes(self):
         """it is written once after each spawn and once at each end, at no other time, and is never synced"""

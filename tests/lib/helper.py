@@ -335,8 +335,8 @@ def keep(folder, into):
 
 
 class Running:
-    """A running program, whose lines are kept with the moments at which they came, except its ready line: `opening_lines` are the report and
-    that line. Its standard error goes to a file, by default one that no check reads."""
+    """A running program, whose lines are kept with the moments at which they came, except its ready line: `opening_lines` are the report
+    and that line. Its standard error goes to a file, by default one that no check reads."""
 
     # what reads a line; a client's lines are not all of the program
     value_of = staticmethod(value_of)

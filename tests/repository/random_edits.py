@@ -262,12 +262,22 @@ class RandomEdits(helper.Check):
             self.assertEqual(self.judged(3, {3: fates[0]}), ({0: "proof", 2: "alive", 3: "proof"}, [], [3]))
             self.assertEqual(self.judged(2, {}), ({0: "proof", 2: "alive"}, [], []))
 
+    def test_only(self):
+        """where a module has the name of an edit's function, the check is told the module of the edit, which has that function, too"""
+        os.mkdir(self.place("src"))
+        for name in ("put", "patient"):
+            Path(self.place("src"), f"{name}.rt").touch()
+        edit = SimpleNamespace(wanted={"put"}, touched={"read"}, pairs=[("src/patient.rt", "a", "b")])
+        self.assertEqual(bodies.only(Path(self.here), edit), {"read", "patient"})
+        edit.wanted = {"get"}
+        self.assertEqual(bodies.only(Path(self.here), edit), {"read", "get"})
+
     def test_failed(self):
-        """of what tests/check.sh prints, the tests that failed are those of its list, and no test that was skipped"""
+        """of what check.sh prints, the tests that failed are those of its lists, and no skipped one; if none ran, none is known"""
         one = "tests/cli/one.py: it is so"
         said = (f"ok   0.1 s  tests/cli/one.py: it is\nfailed   0.25 s  {one}\nskipped 1:\n    tests/cli/two.py: it is there: install it\n"
-                f"failed 1:\n    {one}\nonce more: tests/check.sh tests/cli/one.py\n")
-        for printed, wanted in ((said, {one}), (f"ok   0.25 s  {one}\n1 passed, 0 failed\n", set())):
+                f"failed 1:\n    {one}\nonce more: tests/check.sh tests/cli/one.py\n1 passed, 1 failed\n")
+        for printed, wanted in ((said, {one}), (f"ok   0.25 s  {one}\n1 passed, 0 failed\n", set()), ("error: nothing was built\n", None)):
             with mock.patch.object(edits, "called", lambda *_, printed=printed: (0, printed)):
                 self.assertEqual(edits.failed(Path(self.here), ["cli"]), wanted)
 
