@@ -23,7 +23,7 @@ LEADER = "read -r stat < /proc/$$/stat; echo \"$$ ${stat##*) }\" > UP/leader"
 # Everything that an agent finds.
 FINDS = """cat /proc/$$/environ /proc/$$/cmdline > UP/found
 { echo; grep -E '^(Sig(Blk|Ign|Cgt)|Umask|Uid|Gid|Groups):' /proc/$$/status; pwd; ulimit -a; readlink /proc/$$/fd/0; echo /proc/$$/fd/*; } |
-    sed "s/$$/NUMBER/g" >> UP/found
+    sed "s,/proc/$$/,/proc/NUMBER/,g" >> UP/found
 """
 # A process that has a successor before it ends, again and again, so that each of its numbers is gone as soon as it is read.
 COMET = """#!/bin/sh
