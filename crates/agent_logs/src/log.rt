@@ -43,7 +43,7 @@ struct Kept {
     alloc: Global,
     destination: Destination,
     // When a failure of the log was last reported, by the monotonic clock.
-    told: Cell<Option<Duration>>,
+    reported: Cell<Option<Duration>>,
 }
 
 /// Where the standard output and error of agents go. The output of each is appended, between a line of its begin and one of its end,
@@ -83,7 +83,7 @@ impl Kept {
         Kept {
             alloc,
             destination,
-            told: Cell::new(None),
+            reported: Cell::new(None),
         }
     }
 
@@ -92,12 +92,12 @@ impl Kept {
         let Ok(now) = rt.monotonic() else {
             return false;
         };
-        let is_recent = match self.told.get() {
-            Some(told) => now.saturating_sub(told).as_secs() < SILENCE,
+        let is_recent = match self.reported.get() {
+            Some(reported) => now.saturating_sub(reported).as_secs() < SILENCE,
             None => false,
         };
         if !is_recent {
-            self.told.set(Some(now));
+            self.reported.set(Some(now));
         }
         !is_recent
     }

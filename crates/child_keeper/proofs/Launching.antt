@@ -98,8 +98,8 @@ All-of_map P f (y ∷ ys) all =
 -- waits of which the same is kept are fresh together
 fresh_same : {C M : Type 0} (xs ys : List (GivenUpAction WaitOf C M)) → whats ys ≡ whats xs → All IsFresh xs → All IsFresh ys
 fresh_same xs ys same fresh =
-    All-of_map (λ x. (x.until ≡ 0) × (x.is_told ≡ false)) (λ a. a.what) ys
-    (subst (All (λ x. (x.until ≡ 0) × (x.is_told ≡ false))) (sym same) (All-map (λ x. (x.until ≡ 0) × (x.is_told ≡ false)) (λ a. a.what) xs fresh))
+    All-of_map (λ x. (x.until ≡ 0) × (x.is_reported ≡ false)) (λ a. a.what) ys
+    (subst (All (λ x. (x.until ≡ 0) × (x.is_reported ≡ false))) (sym same) (All-map (λ x. (x.until ≡ 0) × (x.is_reported ≡ false)) (λ a. a.what) xs fresh))
 
 -- after one more, which is fresh, the waits that are not shown are fresh
 pub fresh_one : {C M : Type 0} (shown : ℕ) (old new : List (GivenUpAction WaitOf C M)) (w : GivenUpAction WaitOf C M) → whats new ≡ whats (old ++ w ∷ [])

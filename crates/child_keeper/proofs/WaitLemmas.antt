@@ -16,7 +16,7 @@ use Rattle.agent_system.specs.declared.signal.Signal.TheVariants.{Kill}
 use Rattle.agent_system.specs.declared.signal.Target.{Target}
 use Rattle.agent_system.specs.declared.signal.Target.TheVariants as target
 use Rattle.child_keeper.specs.Waits.{IsPart}
-use Rattle.child_keeper.specs.Waits.{marked, settled, told}
+use Rattle.child_keeper.specs.Waits.{marked, settled, reported}
 use Rattle.child_keeper.specs.declared.wait.WaitOf.{WaitOf}
 use Rattle.process_ends.specs.Endings.{AllDue, AreGivenUp, AreSameActions, Begins, HasKill, HasKilled, HasLook, IsChangedAt, IsGivenUpAt, IsKilled, IsMatched, IsNoGroup, IsOneKilled, OnlyEnds, dues, given_up_of, processes}
 use Rattle.process_ends.specs.declared.given_up.GivenUpAction.{GivenUpAction}
@@ -151,9 +151,9 @@ pub settled_all : {C M : Type 0} (process_of : C → AgentProcess) (s : Sights) 
     → AreGivenUp process_of s xs → AreGivenUp process_of s (map (settled until) xs)
 settled_all process_of s until xs = mapped process_of s xs (settled until) (settled_same until) (settled_matches process_of until)
 
-pub told_all : {C M : Type 0} (process_of : C → AgentProcess) (s : Sights) (xs : List (GivenUpAction WaitOf C M))
-    → AreGivenUp process_of s xs → AreGivenUp process_of s (map told xs)
-told_all process_of s xs = mapped process_of s xs told (λ x. refl) (λ x m. m)
+pub reported_all : {C M : Type 0} (process_of : C → AgentProcess) (s : Sights) (xs : List (GivenUpAction WaitOf C M))
+    → AreGivenUp process_of s xs → AreGivenUp process_of s (map reported xs)
+reported_all process_of s xs = mapped process_of s xs reported (λ x. refl) (λ x m. m)
 
 -- nor does it change their processes
 pub processes-map : {T C A : Type 0} (f : GivenUpAction T C A → GivenUpAction T C A) → ((x : GivenUpAction T C A) → given_up_of (f x) ≡ given_up_of x)
@@ -167,8 +167,8 @@ marked_processes now xs = processes-map (marked now) (λ x. refl) xs
 pub settled_processes : {C M : Type 0} (until : ℕ) (xs : List (GivenUpAction WaitOf C M)) → processes (map (settled until) xs) ≡ processes xs
 settled_processes until xs = processes-map (settled until) (settled_same until) xs
 
-pub told_processes : {C M : Type 0} (xs : List (GivenUpAction WaitOf C M)) → processes (map told xs) ≡ processes xs
-told_processes xs = processes-map told (λ x. refl) xs
+pub reported_processes : {C M : Type 0} (xs : List (GivenUpAction WaitOf C M)) → processes (map reported xs) ≡ processes xs
+reported_processes xs = processes-map reported (λ x. refl) xs
 
 -- the system's views go on
 pub begins_more : {X : Type 0} (a b c : List X) → Begins b a → Begins c b → Begins c a

@@ -145,7 +145,7 @@ pub record IsPolled (run : ℕ) (result : Poll) (v w : SystemView) : Type 0 wher
   pub lives : Contains v.sights.live process
   pub its : process.run ≡ run
   pub answer : Result (Option ExitStatus) Error
-  pub told : IsPollOf result answer
+  pub poll : IsPollOf result answer
   pub after : w ≡ after_answer answer process (after_poll v process answer)
 
 -- the agent of a run was given up

@@ -12,7 +12,7 @@ ids_of = map (λ w. w.process.id)
 
 -- a wait begins: it was not reported, and its processes are killed at the next look
 abbrev pub IsFresh : {C M : Type 0} → GivenUpAction WaitOf C M → Type 0
-IsFresh w = (w.what.until ≡ 0) × (w.what.is_told ≡ false)
+IsFresh w = (w.what.until ≡ 0) × (w.what.is_reported ≡ false)
 
 -- this is the wait for an agent that was given up
 pub record IsWaitFor {C M : Type 0} (agent : Agent C) (w : GivenUpAction WaitOf C M) : Type 0 where
@@ -37,8 +37,8 @@ settled until w =
     if w.is_due then record w { is_due = false; what = record w.what { until = until; is_killed = true } } else w
 
 -- a wait that was reported
-abbrev pub told : {C M : Type 0} → GivenUpAction WaitOf C M → GivenUpAction WaitOf C M
-told w = record w { what = record w.what { is_told = true } }
+abbrev pub reported : {C M : Type 0} → GivenUpAction WaitOf C M → GivenUpAction WaitOf C M
+reported w = record w { what = record w.what { is_reported = true } }
 
 -- the first list has elements of the second, each once, in its order
 abbrev pub IsPart : {X : Type 0} → List X → List X → Type 0

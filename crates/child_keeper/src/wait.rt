@@ -21,7 +21,7 @@ pub struct WaitOf {
     /// Whether they were killed once.
     pub is_killed: bool,
     /// Whether the wait was reported.
-    pub is_told: bool,
+    pub is_reported: bool,
 }
 
 /// A wait for the end of the processes of an action, during which the resource begins no other.
@@ -45,7 +45,7 @@ pub fn wait_for<C: Drop, A: Allocator>(alloc: A, agent: Agent<C>) -> Wait<C, A>
             slot,
             until: 0,
             is_killed: false,
-            is_told: false,
+            is_reported: false,
         },
         process,
         child: Some(child),
@@ -65,7 +65,7 @@ pub fn wait_in<C: Drop, A: Allocator>(alloc: A, kept: &Kept, until: u64) -> Wait
             slot: Some(kept.slot),
             until,
             is_killed: false,
-            is_told: true,
+            is_reported: true,
         },
         process: AgentProcess {
             run: entry.run,

@@ -74,7 +74,7 @@ pub fn report_overdue<R: Eprint, C: Drop, A: Allocator>(rt: &R, wait: &Wait<C, A
 
 /// Reports that a wait is over, if its begin was reported.
 pub fn report_over<R: Eprint, C: Drop, A: Allocator>(rt: &R, wait: &Wait<C, A>) {
-    if !wait.what.is_told {
+    if !wait.what.is_reported {
         return;
     }
     let (id, pid, action) = (

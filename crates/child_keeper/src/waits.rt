@@ -4,7 +4,7 @@ ghost use Rattle.std.specs.List.{list_any, remove};
 ghost use Rattle.std.specs.Str.{bytes_eq};
 ghost use Rattle.std.specs.Vec.{vec_capacity};
 ghost use Rattle.agent_system.specs.May.{IsOverAt};
-ghost use Rattle.child_keeper.specs.Waits.{IsFresh, IsPart, IsWaitFor, ids_of, marked, settled, told};
+ghost use Rattle.child_keeper.specs.Waits.{IsFresh, IsPart, IsWaitFor, ids_of, marked, settled, reported};
 ghost use Rattle.child_model.specs.Children.{is_held, live_limit};
 ghost use Rattle.child_keeper.specs.declared.wait.WaitOf.{WaitOf};
 ghost use Rattle.process_ends.specs.Endings.{AreGivenUp, HasKilled, OnlyEnds, processes};
@@ -50,10 +50,10 @@ pub fn any_of<C: Drop, A: Allocator>(waits: &[Wait<C, A>], id: &RscId) -> bool
 }
 
 // Whether one of these waits was not reported.
-fn any_untold<C: Drop, A: Allocator>(waits: &[Wait<C, A>]) -> bool
-    ensures { result ≡ list_any (λ w. not w.what.is_told) waits.now }
+fn any_unreported<C: Drop, A: Allocator>(waits: &[Wait<C, A>]) -> bool
+    ensures { result ≡ list_any (λ w. not w.what.is_reported) waits.now }
 {
-    waits.iter().any(|wait| !wait.what.is_told)
+    waits.iter().any(|wait| !wait.what.is_reported)
 }
 
 // Whether the processes of one of these waits are to be killed.
@@ -95,7 +95,7 @@ fn settle_all<C: Drop, A: Allocator>(waits: &mut [Wait<C, A>], until: u64)
 // Reports the waits for processes whose time is over and that are killed for the first time now.
 fn report_due<R: Eprint, C: Drop, A: Allocator>(rt: &R, waits: &[Wait<C, A>]) {
     for wait in waits {
-        if wait.is_due && wait.what.is_told && !wait.what.is_killed {
+        if wait.is_due && wait.what.is_reported && !wait.what.is_killed {
             report_overdue(rt, wait);
         }
     }
@@ -225,18 +225,18 @@ fn await_ended<R: AgentSystem + Clock + Eprint, A: Allocator + Copy>(
 {
     let mut pauses = Pauses::after_kill();
     remove_ended(rt, alloc, waits, record);
-    while any_untold(waits.as_slice()) && pauses.pause(rt) {
+    while any_unreported(waits.as_slice()) && pauses.pause(rt) {
         remove_ended(rt, alloc, waits, record);
     }
 }
 
 // Reports a wait, if it was not reported yet.
 fn report<R: AgentSystem + Eprint, C: Drop, A: Allocator>(rt: &R, wait: &mut Wait<C, A>)
-    ensures { wait.new ≡ told wait.old }
+    ensures { wait.new ≡ reported wait.old }
 {
-    if !wait.what.is_told {
+    if !wait.what.is_reported {
         report_begun(rt, wait);
-        wait.what.is_told = true;
+        wait.what.is_reported = true;
     }
 }
 
@@ -245,7 +245,7 @@ fn report_fresh<R: AgentSystem + Eprint, C: Drop, A: Allocator>(
     rt: &R,
     waits: &mut Vec<Wait<C, A>, A>,
 )
-    ensures told { waits.new.items ≡ map told waits.old.items }
+    ensures reported { waits.new.items ≡ map reported waits.old.items }
     ensures capacity { vec_capacity waits.new ≡ vec_capacity waits.old }
 {
     for wait in waits.as_mut_slice() {
@@ -299,7 +299,7 @@ impl<C: Drop, A: Allocator + Copy> Waits<C, A> {
         ensures rest { IsPart (processes self.new.waits.items) (processes self.old.waits.items) }
     {
         let now = millis_now(rt);
-        if now < self.next_look && !any_untold(self.waits.as_slice()) {
+        if now < self.next_look && !any_unreported(self.waits.as_slice()) {
             return;
         }
         self.next_look = now.saturating_add(BETWEEN_LOOKS);

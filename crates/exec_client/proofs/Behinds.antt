@@ -25,19 +25,19 @@ use Rattle.exec_ledger.specs.BatchStarts.{BatchStart}
 use Rattle.exec_ledger.specs.Replies.{IsReplyTo, KeepsRunning, recorded}
 use Rattle.exec_ledger.specs.Together.{Adds, Answered as BatchAnswered, disk_each, failed}
 use Rattle.exec_ledger.proofs.Keeping.{command_keeps}
-use Rattle.exec_client.specs.BackedBy.{BackedBy, IsMessageOf, claims, nothing, states_else, sends, untold}
+use Rattle.exec_client.specs.BackedBy.{BackedBy, IsMessageOf, claims, nothing, states_else, sends, unsent}
 use Rattle.exec_client.specs.SentItem.{SentItem, answered, noticed_by}
 
 -- no message is backed by any events
 pub none_sent : (es : List Event) → BackedBy [] es
 none_sent [] = nothing
-none_sent (e ∷ es) = untold e [] es (none_sent es)
+none_sent (e ∷ es) = unsent e [] es (none_sent es)
 
 -- one after the other
 pub both_after : (ss : List SentItem) (es : List Event) (ts : List SentItem) (fs : List Event) → BackedBy ss es → BackedBy ts fs
     → BackedBy (ss ++ ts) (es ++ fs)
 both_after _ _ ts fs nothing later = later
-both_after _ _ ts fs (untold e ss es b) later = untold e (ss ++ ts) (es ++ fs) (both_after ss es ts fs b later)
+both_after _ _ ts fs (unsent e ss es b) later = unsent e (ss ++ ts) (es ++ fs) (both_after ss es ts fs b later)
 both_after _ _ ts fs (sends s e ss es t b) later = sends s e (ss ++ ts) (es ++ fs) t (both_after ss es ts fs b later)
 both_after _ _ ts fs (states_else s ss es none b) later = states_else s (ss ++ ts) (es ++ fs) none (both_after ss es ts fs b later)
 
@@ -67,10 +67,10 @@ reply_after e (reply.Accepted call key) keeps (inl is) = one_sent (answered (rep
 reply_after e (reply.Accepted call key) keeps (inr (inl is)) = absurd cc
 reply_after e (reply.Accepted call key) keeps (inr (inr (inl is))) = absurd cc
 reply_after e (reply.Accepted call key) keeps (inr (inr (inr is))) = absurd cc
-reply_after e (reply.List ids) keeps is = untold e (answered (reply.List ids) ∷ []) [] (states_nothing (answered (reply.List ids)) refl)
-reply_after e (reply.Info info) keeps is = untold e (answered (reply.Info info) ∷ []) [] (states_nothing (answered (reply.Info info)) refl)
-reply_after e (reply.History rs) keeps is = untold e (answered (reply.History rs) ∷ []) [] (states_nothing (answered (reply.History rs)) refl)
-reply_after e (reply.Turn end) keeps is = untold e (answered (reply.Turn end) ∷ []) [] (states_nothing (answered (reply.Turn end)) refl)
+reply_after e (reply.List ids) keeps is = unsent e (answered (reply.List ids) ∷ []) [] (states_nothing (answered (reply.List ids)) refl)
+reply_after e (reply.Info info) keeps is = unsent e (answered (reply.Info info) ∷ []) [] (states_nothing (answered (reply.Info info)) refl)
+reply_after e (reply.History rs) keeps is = unsent e (answered (reply.History rs) ∷ []) [] (states_nothing (answered (reply.History rs)) refl)
+reply_after e (reply.Turn end) keeps is = unsent e (answered (reply.Turn end) ∷ []) [] (states_nothing (answered (reply.Turn end)) refl)
 
 -- a command of a batch
 add_after : (s : State) (now : ℕ) (c : Command) (x : Result Event Refusal) (r : Reply) (es : List Event) → event_of s now c ≡ x

@@ -11,14 +11,14 @@ use Rattle.executor_laws.specs.CommandBatches.{IsAt, replies_of}
 use Rattle.executor.specs.Sessions.{Effects, followed_by, no_effects}
 use Rattle.executor.specs.ExecutorView.{ExecutorView}
 use Rattle.executor.specs.declared.session.InputOf.TheVariants as input
-use Rattle.exec_client.specs.BackedBy.{BackedBy, nothing, states_else, sends, untold}
+use Rattle.exec_client.specs.BackedBy.{BackedBy, nothing, states_else, sends, unsent}
 use Rattle.exec_client.specs.SentItem.{SentItem, answered}
 use Rattle.exec_client.specs.Sends.{ClaimsNothing, States, SendsCalls}
 
 -- messages that are backed by no event claim nothing
 claims_none : (ss : List SentItem) (es : List Event) → es ≡ [] → BackedBy ss es → ClaimsNothing ss
 claims_none _ _ same nothing = tt
-claims_none _ _ same (untold e ss es b) = absurd cc
+claims_none _ _ same (unsent e ss es b) = absurd cc
 claims_none _ _ same (sends s e ss es t b) = absurd cc
 claims_none _ _ same (states_else s ss es none b) = (none, claims_none ss es same b)
 

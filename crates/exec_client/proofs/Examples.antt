@@ -7,7 +7,7 @@ use Rattle.executor_laws.specs.Incarnations.{Took}
 use Rattle.executor.specs.Sessions.{Effects}
 use Rattle.executor.specs.ExecutorView.{ExecutorView}
 use Rattle.executor.specs.declared.session.InputOf.TheVariants as input
-use Rattle.exec_client.specs.BackedBy.{BackedBy, states_else, sends, untold}
+use Rattle.exec_client.specs.BackedBy.{BackedBy, states_else, sends, unsent}
 use Rattle.exec_client.specs.SentItem.{SentItem, answered}
 use Rattle.exec_client.specs.Sends.{SendsCalls}
 
@@ -21,7 +21,7 @@ too_early ss (states_else _ _ _ none backed) = true≢false none
 
 -- one event backs two of them
 twice : (e : Event) → BackedBy (ok ∷ ok ∷ []) (e ∷ []) → ⊥
-twice e (untold _ _ _ backed) = too_early (ok ∷ []) backed
+twice e (unsent _ _ _ backed) = too_early (ok ∷ []) backed
 twice e (sends _ _ _ _ is backed) = too_early [] backed
 twice e (states_else _ _ _ none backed) = true≢false none
 

@@ -23,6 +23,6 @@ IsMessageOf _ e = ⊥
 -- These messages are backed by these events: each message that claims something has an event of its own, in the same order.
 pub data BackedBy : List SentItem → List Event → Type 0 where
   nothing : BackedBy [] []
-  untold : (e : Event) (ss : List SentItem) (es : List Event) → BackedBy ss es → BackedBy ss (e ∷ es)
+  unsent : (e : Event) (ss : List SentItem) (es : List Event) → BackedBy ss es → BackedBy ss (e ∷ es)
   sends : (s : SentItem) (e : Event) (ss : List SentItem) (es : List Event) → IsMessageOf s e → BackedBy ss es → BackedBy (s ∷ ss) (e ∷ es)
   states_else : (s : SentItem) (ss : List SentItem) (es : List Event) → claims s ≡ false → BackedBy ss es → BackedBy (s ∷ ss) es

@@ -59,7 +59,7 @@ type OptionsClient<H: Host, S> = Strict<
     Eventful<JsonClient<On<S, H::Agents>, H::Writer, H::Reasons>, H::Errors>,
 >;
 
-// The client of a session: standard output, with the lines about results on standard error, and whether any of them told of a failure.
+// The client of a session: standard output, with the lines about results on standard error, and whether any of them was of a failure.
 fn client_of<H: Host, S: Store + Drop>(
     host: &mut H,
     options: Options,

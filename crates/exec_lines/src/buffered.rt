@@ -2,7 +2,7 @@
 ghost use Rattle.std.specs.Prelude.{◌≡◌, ◌≢◌, ◌+◌, ◌<◌, ◌≤◌, ℕ, false, List, [], IsTrue, IfErr, OnOk, OnErr, Option, Some, drop, length, take};
 ghost use Rattle.std.specs.IoError.{error_kind};
 ghost use Rattle.std.specs.Io.KnownBytes.{Consumes, IsAtEnd, Keeps};
-ghost use Rattle.exec_lines.specs.Descriptors.{Told, has_failed};
+ghost use Rattle.exec_lines.specs.Descriptors.{SystemAnswers, has_failed};
 
 use std::io::{self, ErrorKind};
 
@@ -15,7 +15,7 @@ pub trait Buffered {
     ghost remaining: { Self → Option (List ℕ) };
 
     // What the system said of it.
-    ghost told: { Self → Told };
+    ghost answers: { Self → SystemAnswers };
 
     /// The bytes that were read and not yet taken.
     fn ahead(&self) -> &[u8]
@@ -25,16 +25,16 @@ pub trait Buffered {
     fn fill(&mut self) -> io::Result<()>
         ensures kept { Keeps (remaining self.old) (remaining self.new) }
         ensures end { OnOk result (ahead self.new ≡ [] → IsAtEnd (remaining self.new)) }
-        ensures ends { OnOk result (ahead self.new ≡ [] → IsTrue (told self.new).ended) }
+        ensures ends { OnOk result (ahead self.new ≡ [] → IsTrue (answers self.new).ended) }
         ensures breaks { IfErr result
-            (λ e. error_kind e ≢ ErrorKind.Interrupted → IsTrue (has_failed (told self.new))) };
+            (λ e. error_kind e ≢ ErrorKind.Interrupted → IsTrue (has_failed (answers self.new))) };
 
     /// Takes so many of the bytes that were read.
     fn take(&mut self, count: usize)
         requires { count ≤ length (ahead self.old) }
         ensures ahead { ahead self.new ≡ drop count (ahead self.old) }
         ensures taken { Consumes (remaining self.old) (remaining self.new) (take count (ahead self.old)) }
-        ensures ends { IsTrue (told self.old).ended → IsTrue (told self.new).ended };
+        ensures ends { IsTrue (answers self.old).ended → IsTrue (answers self.new).ended };
 
     /// Waits for at most this many milliseconds until a read would not block, and returns whether it would not. Bytes that were not yet
     /// taken are read without a wait. Nothing is read.
@@ -42,8 +42,8 @@ pub trait Buffered {
         ensures ahead { ahead self.new ≡ ahead self.old }
         ensures remaining { remaining self.new ≡ remaining self.old }
         ensures some { ahead self.old ≢ [] → IsTrue result }
-        ensures waits { (told self.new).waited ≤ (told self.old).waited + millis }
-        ensures again { result ≡ false → (told self.old).again < (told self.new).again };
+        ensures waits { (answers self.new).waited ≤ (answers self.old).waited + millis }
+        ensures again { result ≡ false → (answers self.old).again < (answers self.new).again };
 }
 
 /// All bytes are ready at once.
@@ -54,7 +54,7 @@ impl Buffered for &[u8] {
 
     ghost remaining = { λ s. Some s.now };
 
-    ghost told = { λ s. whole s.now };
+    ghost answers = { λ s. whole s.now };
 
     fn ahead(&self) -> &[u8] {
         self

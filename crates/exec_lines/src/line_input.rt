@@ -36,12 +36,12 @@ impl<R: Buffered> LineInput<R> {
     // Takes the bytes that the reader has, up to a newline, and appends what of them fits to the line in the buffer.
     fn take_shown(&mut self, buffer: &mut LineBuffer) -> Piece
         requires end { R.ahead self.old.reader ≡ [] → IsAtEnd (R.remaining self.old.reader) }
-        requires ended { R.ahead self.old.reader ≡ [] → IsTrue (R.told self.old.reader).ended }
+        requires ended { R.ahead self.old.reader ≡ [] → IsTrue (R.answers self.old.reader).ended }
         ensures takes { TakesPiece {E = Error}
             (record { left = R.remaining self.old.reader; asked = self.old.note.asked })
             (record { left = R.remaining self.new.reader; asked = self.new.note.asked })
             (line_bytes buffer.old) (line_bytes buffer.new) (Ok result) }
-        ensures ends { result ≡ Piece.Nothing → IsTrue (R.told self.new.reader).ended }
+        ensures ends { result ≡ Piece.Nothing → IsTrue (R.answers self.new.reader).ended }
     {
         let bytes = self.reader.ahead();
         let len = line_len(bytes);
@@ -77,16 +77,16 @@ impl<R: Buffered> Input for LineInput<R> {
 
     ghost view = { λ i. record { left = R.remaining i.reader; asked = i.note.asked } };
 
-    ghost ended = { λ i. (R.told i.reader).ended };
+    ghost ended = { λ i. (R.answers i.reader).ended };
 
-    ghost broke = { λ i. has_failed (R.told i.reader) };
+    ghost broke = { λ i. has_failed (R.answers i.reader) };
 
     fn is_ready(&mut self, millis: u32) -> bool
         ensures left { R.remaining self.new.reader ≡ R.remaining self.old.reader }
         ensures asked { self.new.note.asked ≡ self.old.note.asked ++ Polled millis result ∷ [] }
         ensures some { R.ahead self.old.reader ≢ [] → IsTrue result }
-        ensures waits { (R.told self.new.reader).waited ≤ (R.told self.old.reader).waited + millis }
-        ensures again { result ≡ false → (R.told self.old.reader).again < (R.told self.new.reader).again }
+        ensures waits { (R.answers self.new.reader).waited ≤ (R.answers self.old.reader).waited + millis }
+        ensures again { result ≡ false → (R.answers self.old.reader).again < (R.answers self.new.reader).again }
     {
         let is_ready = self.reader.is_ready(millis);
         // TRUSTED: the reader was polled once, for at most this time, and this is its answer.

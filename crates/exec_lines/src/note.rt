@@ -3,7 +3,7 @@ ghost use Rattle.std.specs.Prelude.{◌≡◌, List, []};
 ghost use Rattle.std.specs.Borrow.{ftrue};
 ghost use Rattle.exec_lines.specs.Inputs.{InputEvent};
 ghost use Rattle.exec_lines.specs.Tickers.{TickerEvent};
-ghost use Rattle.exec_lines.specs.Descriptors.{Told, untold};
+ghost use Rattle.exec_lines.specs.Descriptors.{SystemAnswers, no_answers};
 
 use std::marker::{Model, PhantomData};
 
@@ -79,11 +79,11 @@ impl TickerNote {
     }
 }
 
-/// What the system said of a descriptor. Contracts read it as `told`.
+/// What the system said of a descriptor. Contracts read it as `answers`.
 #[derive(Drop)]
 pub struct DescriptorNote {
     of: PhantomData<()>,
-    pub ghost told: { Told },
+    pub ghost answers: { SystemAnswers },
 }
 
 impl Model for DescriptorNote {
@@ -92,23 +92,23 @@ impl Model for DescriptorNote {
 
 impl DescriptorNote {
     fn of() -> DescriptorNote
-        ghost told: { Told }
-        ensures { result.told ≡ told }
+        ghost answers: { SystemAnswers }
+        ensures { result.answers ≡ answers }
     {
         DescriptorNote { of: PhantomData }
     }
 
     /// Nothing was said.
-    pub fn untold() -> DescriptorNote
-        ensures { result.told ≡ untold }
+    pub fn no_answers() -> DescriptorNote
+        ensures { result.answers ≡ no_answers }
     {
         DescriptorNote::of()
     }
 
     /// After a call and its answer this is what the system said. The caller picks it.
     pub fn follow<X>(&mut self, call: &X)
-        ghost next: { Told }
-        ensures { self.new.told ≡ next }
+        ghost next: { SystemAnswers }
+        ensures { self.new.answers ≡ next }
     {
         *self = DescriptorNote::of();
     }

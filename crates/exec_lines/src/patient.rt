@@ -61,8 +61,8 @@ impl<T> Patient<T> {
     // Waits for input as long as the replies have a reader.
     fn await_input(&mut self) -> io::Result<()>
         ensures inner { self.new.polled.inner ≡ self.old.polled.inner }
-        ensures waits { OnOk result (self.old.polled.note.told.again ≤ self.new.polled.note.told.again) }
-        ensures breaks { OnErr result (IsTrue (has_failed self.new.polled.note.told)) }
+        ensures waits { OnOk result (self.old.polled.note.answers.again ≤ self.new.polled.note.answers.again) }
+        ensures breaks { OnErr result (IsTrue (has_failed self.new.polled.note.answers)) }
     {
         let Some(replies) = self.replies else {
             return Ok(());
@@ -84,9 +84,9 @@ impl<R: Read> Patient<R> {
     pub(crate) fn read(&mut self, buf: &mut [u8]) -> io::Result<usize>
         ensures bound { ReadsAtMost result buf.new }
         ensures bytes { ReadConsumes (R.remaining self.old.polled.inner) (R.remaining self.new.polled.inner) result buf.new }
-        ensures ends { result ≡ Ok 0 → 0 < length buf.new → IsTrue self.new.polled.note.told.ended }
+        ensures ends { result ≡ Ok 0 → 0 < length buf.new → IsTrue self.new.polled.note.answers.ended }
         ensures breaks { IfErr result
-            (λ e. error_kind e ≢ ErrorKind.Interrupted → IsTrue (has_failed self.new.polled.note.told)) }
+            (λ e. error_kind e ≢ ErrorKind.Interrupted → IsTrue (has_failed self.new.polled.note.answers)) }
     {
         for _ in 0..NUM_MAX {
             self.await_input()?;
@@ -106,9 +106,9 @@ impl<W: Write> Output for Patient<W> {
 
     ghost contents = { λ w. W.contents w.polled.inner };
 
-    ghost flushed = { λ w. w.polled.note.told.flushed };
+    ghost flushed = { λ w. w.polled.note.answers.flushed };
 
-    ghost broke = { λ w. has_failed w.polled.note.told };
+    ghost broke = { λ w. has_failed w.polled.note.answers };
 
     fn put(&mut self, bytes: &[u8]) -> io::Result<usize> {
         for _ in 0..NUM_MAX {

@@ -2,7 +2,7 @@
 ghost use Rattle.std.specs.Prelude.{◌≡◌, length};
 ghost use Rattle.std.specs.Io.{ReadsAtMost, WritesAtMost};
 ghost use Rattle.std.specs.Io.KnownBytes.{ReadConsumes, WriteAppends, Keeps};
-ghost use Rattle.exec_lines.specs.Descriptors.{after_flush, after_look, after_poll, after_read, after_write, untold};
+ghost use Rattle.exec_lines.specs.Descriptors.{after_flush, after_look, after_poll, after_read, after_write, no_answers};
 
 use crate::note::DescriptorNote;
 use crate::poll::{is_hung_up, is_readable, is_writable};
@@ -21,19 +21,19 @@ impl<T> Polled<T> {
     pub fn new(inner: T, descriptor: Option<i32>) -> Polled<T>
         ensures inner { result.inner ≡ inner }
         ensures descriptor { result.descriptor ≡ descriptor }
-        ensures untold { result.note.told ≡ untold }
+        ensures no_answers { result.note.answers ≡ no_answers }
     {
         Polled {
             inner,
             descriptor,
-            note: DescriptorNote::untold(),
+            note: DescriptorNote::no_answers(),
         }
     }
 
     /// Waits for at most this many milliseconds until a read would not block. Whether it would not.
     pub fn is_readable(&mut self, millis: u32) -> bool
         ensures inner { self.new.inner ≡ self.old.inner }
-        ensures told { self.new.note.told ≡ after_poll self.old.note.told millis result }
+        ensures answers { self.new.note.answers ≡ after_poll self.old.note.answers millis result }
     {
         let is_ready = match self.descriptor {
             Some(descriptor) => is_readable(descriptor, millis),
@@ -47,7 +47,7 @@ impl<T> Polled<T> {
     /// The same of a write.
     pub fn is_writable(&mut self, millis: u32) -> bool
         ensures inner { self.new.inner ≡ self.old.inner }
-        ensures told { self.new.note.told ≡ after_poll self.old.note.told millis result }
+        ensures answers { self.new.note.answers ≡ after_poll self.old.note.answers millis result }
     {
         let is_ready = match self.descriptor {
             Some(descriptor) => is_writable(descriptor, millis),
@@ -61,7 +61,7 @@ impl<T> Polled<T> {
     /// Whether the other end of another descriptor, that of the replies, is closed.
     pub fn is_unread(&mut self, replies: i32) -> bool
         ensures inner { self.new.inner ≡ self.old.inner }
-        ensures told { self.new.note.told ≡ after_look self.old.note.told result }
+        ensures answers { self.new.note.answers ≡ after_look self.old.note.answers result }
     {
         let is_unread = is_hung_up(replies);
         // TRUSTED: poll(2) says whether the other end of the replies' descriptor is closed.
@@ -83,7 +83,7 @@ impl<R: Read> Polled<R> {
     pub fn read(&mut self, buf: &mut [u8]) -> io::Result<usize>
         ensures bound { ReadsAtMost result buf.new }
         ensures bytes { ReadConsumes (R.remaining self.old.inner) (R.remaining self.new.inner) result buf.new }
-        ensures told { self.new.note.told ≡ after_read self.old.note.told (length buf.new) result }
+        ensures answers { self.new.note.answers ≡ after_read self.old.note.answers (length buf.new) result }
     {
         let room = buf.len();
         let read = self.inner.read(buf);
@@ -98,7 +98,7 @@ impl<W: Write> Polled<W> {
     pub fn write(&mut self, bytes: &[u8]) -> io::Result<usize>
         ensures bound { WritesAtMost result bytes.now }
         ensures bytes { WriteAppends (W.contents self.old.inner) (W.contents self.new.inner) result bytes.now }
-        ensures told { self.new.note.told ≡ after_write self.old.note.told (length bytes.now) result }
+        ensures answers { self.new.note.answers ≡ after_write self.old.note.answers (length bytes.now) result }
     {
         let written = self.inner.write(bytes);
         // TRUSTED: this is the answer of the one write that was made.
@@ -109,7 +109,7 @@ impl<W: Write> Polled<W> {
     /// Flushes the writer.
     pub fn flush(&mut self) -> io::Result<()>
         ensures bytes { Keeps (W.contents self.old.inner) (W.contents self.new.inner) }
-        ensures told { self.new.note.told ≡ after_flush self.old.note.told result }
+        ensures answers { self.new.note.answers ≡ after_flush self.old.note.answers result }
     {
         let flushed = self.inner.flush();
         // TRUSTED: this is the answer of the one flush that was made.

@@ -47,7 +47,7 @@ impl<R: Read, A: Allocator> Buffered for ReadAhead<R, A> {
 
     ghost remaining = { λ r. prepend_known (slice_range r.bytes.items r.start r.end) (R.remaining r.patient.polled.inner) };
 
-    ghost told = { λ r. r.patient.polled.note.told };
+    ghost answers = { λ r. r.patient.polled.note.answers };
 
     fn ahead(&self) -> &[u8] {
         let (start, end) = (self.start, self.end);

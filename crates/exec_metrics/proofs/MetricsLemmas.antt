@@ -37,7 +37,7 @@ module _ {T : Type 0} (reads : Image) (now : ℕ) (old new : Option (List ℕ)) 
     runs = has.0;
     ran = has.1;
     facts = tells.0;
-    told = tells.1;
+    are_facts = tells.1;
     written =
         let same : counted now size counts recorded ≡ measured now size has.0 tells.0 = λ i. record {
           now = now;

@@ -108,7 +108,7 @@ pub record WritesFound (T : Type 0) (reads : Image) (now : ℕ) (old new : Optio
   pub runs : List Ran
   pub ran : RanOn reads runs
   pub facts : List FactOf
-  pub told : FactsBy (choice reads) reads facts
+  pub are_facts : FactsBy (choice reads) reads facts
   pub written : IsWritten (GoesOn (journal_families (measured now size runs facts) state) []) old new ended
 
 -- the same, or nothing if the parts are not read; the damage that is reported is that which is found

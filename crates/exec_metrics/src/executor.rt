@@ -18,7 +18,7 @@ use std::io::Write;
 /// What is known of the executor that has a journal.
 #[derive(Clone, Copy)]
 pub struct Seen<'a> {
-    /// Whether an executor has it; `None` where that cannot be told.
+    /// Whether an executor has it; `None` where that cannot be known.
     pub up: Option<bool>,
     /// When that executor opened it, in seconds since 1970.
     pub opened: Option<u64>,

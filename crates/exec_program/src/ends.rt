@@ -33,7 +33,7 @@ pub fn opening_fault(why: OpenError) -> Fault
 }
 
 /// Reports a fault of the device, of which the disk knows more than the fault holds, and returns the end unchanged.
-pub fn reported<H: Host, D: ReportsError>(
+pub fn report_failed_device<H: Host, D: ReportsError>(
     host: &H,
     options: Options,
     disk: &D,

@@ -11,7 +11,7 @@ ghost use Rattle.exec_host.specs.Services.{served_directory};
 ghost use Rattle.exec_host.specs.Sites.{site_of};
 ghost use Rattle.exec_host.specs.Upkeeps.{upkeep_of};
 
-use crate::ends::{ended_over, judged, opening_fault, reported};
+use crate::ends::{ended_over, judged, opening_fault, report_failed_device};
 use disk_model::Disk;
 use exec_faults::Fault;
 use exec_host::{BOOK_ROOM, Host, LineParts, answer_lines, served_directory, site_of, upkeep_of};
@@ -85,7 +85,7 @@ fn served<H: Host, D: Disk + ReportsError + Drop>(
 {
     let lines = answer_lines(host, options, parts, opened);
     let disk = lines.store.into_disk();
-    let ended = reported(host, options, &disk, lines.ended);
+    let ended = report_failed_device(host, options, &disk, lines.ended);
     let ended = judged(options, lines.has_failed, ended);
     let ended = ended_over(host, options, watch, ended);
     host.report_run(ended);
@@ -120,7 +120,7 @@ pub fn serve_agents<H: Host, D: Disk + ReportsError + Drop>(
     match Executor::open(host.alloc(), disk, agents, own, now) {
         Ok(opened) => served(host, options, parts, &watch, opened),
         Err(fault) => {
-            let ended = reported(host, options, &fault.disk, Err(opening_fault(fault.why)));
+            let ended = report_failed_device(host, options, &fault.disk, Err(opening_fault(fault.why)));
             (fault.disk, ended)
         }
     }

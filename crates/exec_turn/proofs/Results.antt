@@ -322,8 +322,8 @@ module _ {X : Type 0} (who : X → Active) (ends : X → List RunEnd) (one : (x 
   abbrev ended : ℕ → List X → List Event
   ended at xs = flat_map (λ x. map (result_of at (who x)) (ends x)) xs
 
-  abbrev CanEnd : X → Type 0
-  CanEnd x = IsNamed (who x) × AllByRecursion IsRunEnd (ends x)
+  abbrev EndsRun : X → Type 0
+  EndsRun x = IsNamed (who x) × AllByRecursion IsRunEnd (ends x)
 
   -- a fact of each result
   pub each_ended : (P : Event → Type 0) (at : ℕ) → ((x : X) (e : RunEnd) → P (result_of at (who x) e)) → (xs : List X)
@@ -334,7 +334,7 @@ module _ {X : Type 0} (who : X → Active) (ends : X → List RunEnd) (one : (x 
       by_end (λ es. AllByRecursion P (map (result_of at (who x)) es ++ ended at xs)) (ends x) (one x) rest (λ e. (h x e, rest))
 
   -- they apply one after the other, they are short, and they are results
-  ended_apply : ResultsFit → (s : State) (at : ℕ) (xs : List X) → IsMoment at → s.clock ≤ at → AllByRecursion CanEnd xs
+  ended_apply : ResultsFit → (s : State) (at : ℕ) (xs : List X) → IsMoment at → s.clock ≤ at → AllByRecursion EndsRun xs
       → AllRun s (map who xs) → IsDistinct nat_eq (runs_of (map who xs)) → AllApply s (ended at xs)
   ended_apply fit s at [] moment later can run apart = tt
   ended_apply fit s at (x ∷ xs) moment later can run apart =
@@ -350,7 +350,7 @@ module _ {X : Type 0} (who : X → Active) (ends : X → List RunEnd) (one : (x 
       ))
       can.0.1
 
-  ended_fit : ResultsFit → (at : ℕ) (xs : List X) → AllByRecursion CanEnd xs
+  ended_fit : ResultsFit → (at : ℕ) (xs : List X) → AllByRecursion EndsRun xs
       → length (encoded_batch (ended at xs)) ≤ longest_result * length xs
   ended_fit fit at [] can = omega arith
   ended_fit fit at (x ∷ xs) can =
@@ -371,7 +371,7 @@ module _ {X : Type 0} (who : X → Active) (ends : X → List RunEnd) (one : (x 
       by_end (λ es. IsTrue (are_results (map (result_of at (who x)) es ++ ended at xs))) (ends x) (one x) rest (λ e. rest)
 
   can_end : (s : State) (xs : List X) → IsLawfulState s → AllRun s (map who xs) → AllByRecursion (λ x. AllByRecursion IsRunEnd (ends x)) xs
-      → AllByRecursion CanEnd xs
+      → AllByRecursion EndsRun xs
   can_end s [] lawful run are = tt
   can_end s (x ∷ xs) lawful run are = (((lemma_known s (who x) lawful run.0).0, are.0), can_end s xs lawful run.1 are.1)
 

@@ -173,7 +173,7 @@ impl<R: Files<File = File> + Copy, A: Allocator + Copy> FileDisk<R, A> {
     fn fail(&mut self, call: &Call, bytes: &[u8], error: FileError) -> DiskFault
         requires { IsFault call.now }
         ensures noted { Notes call.now bytes.now self.old self.new }
-        ensures told { first_part self.new ≡ Some error.part }
+        ensures first { first_part self.new ≡ Some error.part }
     {
         self.first_error = Some(error);
         self.log.fail(call, bytes)

@@ -189,7 +189,7 @@ pub(crate) fn make_identity<R: Files<File = File>, A: Allocator + Copy>(
 }
 
 /// Removes the file from a directory without parts, before a new journal is made there: so that one gets an identity of its own.
-/// Tells whether there was one.
+/// Returns whether there was one.
 pub(crate) fn forget_identity<R: Files, A: Allocator>(
     rt: &R,
     alloc: A,

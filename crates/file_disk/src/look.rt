@@ -26,7 +26,7 @@ const HEAD: usize = HEAD_LEN as usize;
 
 // A part's file, and the bytes that were read of it, from the first to the last.
 #[derive(Drop)]
-struct ExecutorView<A: Allocator = Global> {
+struct PartCopy<A: Allocator = Global> {
     file: Option<File>,
     bytes: Vec<u8, A>,
 }
@@ -65,24 +65,24 @@ fn read_whole<A: Allocator>(alloc: A, file: &File) -> io::Result<Vec<u8, A>> {
     Ok(bytes)
 }
 
-impl<A: Allocator + Copy> ExecutorView<A> {
+impl<A: Allocator + Copy> PartCopy<A> {
     // Reads a part's file, if there is one.
     fn of<R: Files<File = File>>(
         rt: &R,
         alloc: A,
         dir: &str,
         part: Part,
-    ) -> Result<ExecutorView<A>, OpenFault>
+    ) -> Result<PartCopy<A>, OpenFault>
         ensures { IfErr result (IsOfPart part) }
     {
         if entry_of(rt, alloc, dir, part)? == Entry::Missing {
             let bytes = Vec::new(alloc);
-            return Ok(ExecutorView { file: None, bytes });
+            return Ok(PartCopy { file: None, bytes });
         }
         let path = format!(in alloc; "{dir}/{}", file_name(part))?;
         let file = of_part(part, File::open(rt, path.as_str()))?;
         let bytes = of_part(part, read_whole(alloc, &file))?;
-        Ok(ExecutorView {
+        Ok(PartCopy {
             file: Some(file),
             bytes,
         })
@@ -116,16 +116,16 @@ pub(crate) fn examined<R: Files<File = File>, A: Allocator + Copy>(
     let OpenFault::Gone(part) = loss else {
         return loss;
     };
-    match ExecutorView::of(rt, alloc, dir, other_part(part)) {
-        Ok(executor_view) => reported_loss(loss, executor_view.bytes.as_slice()),
+    match PartCopy::of(rt, alloc, dir, other_part(part)) {
+        Ok(copy) => reported_loss(loss, copy.bytes.as_slice()),
         Err(fault) => fault,
     }
 }
 
 // Refuses a pair of which one file is gone, by the bytes that were read of both.
 fn refuse_lost<A: Allocator + Copy>(
-    a: &ExecutorView<A>,
-    b: &ExecutorView<A>,
+    a: &PartCopy<A>,
+    b: &PartCopy<A>,
 ) -> Result<(), OpenFault> {
     let there = if a.bytes.is_empty() { b } else { a };
     match refuse_loss(a.entry(), b.entry()) {
@@ -143,8 +143,8 @@ fn look<R: Files<File = File>, A: Allocator + Copy>(
     ensures { IfOk result
         (λ found. IfSome found (λ d. IsFresh (view_of d).reads d × (view_of d).honest)) }
 {
-    let a = ExecutorView::of(rt, alloc, dir, Part::A)?;
-    let b = ExecutorView::of(rt, alloc, dir, Part::B)?;
+    let a = PartCopy::of(rt, alloc, dir, Part::A)?;
+    let b = PartCopy::of(rt, alloc, dir, Part::B)?;
     let a_holds = of_part(Part::A, a.holds())?;
     let b_holds = of_part(Part::B, b.holds())?;
     if !(a_holds && b_holds) {

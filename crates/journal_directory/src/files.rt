@@ -79,7 +79,7 @@ pub fn open_files(
     FileDisk::open(rt, rt.alloc(), directory, owners)
 }
 
-/// Whether an executor has the journal of this directory; `None` where that cannot be told.
+/// Whether an executor has the journal of this directory; `None` where that cannot be known.
 pub fn has_executor(rt: &HostRuntime, directory: &str) -> Option<bool> {
     is_held(rt, rt.alloc(), directory).ok()
 }
@@ -114,7 +114,7 @@ impl FaultForm {
 }
 
 /// The disk of a journal in this directory. If it was not opened, the cause is reported here.
-pub fn found<D: Drop>(
+pub fn disk_or_fault<D: Drop>(
     system: &System<'_>,
     form: FaultForm,
     directory: &str,
@@ -147,7 +147,7 @@ pub fn report_device(system: &System<'_>, options: Options, error: Option<FileEr
 }
 
 /// Returns `ended` unchanged. A fault of the device is reported here, since the disk knows the error behind it.
-pub fn told<D: ReportsError>(
+pub fn report_failed_device<D: ReportsError>(
     system: &System<'_>,
     options: Options,
     disk: &D,

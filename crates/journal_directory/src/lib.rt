@@ -23,8 +23,8 @@ mod waits;
 mod watch;
 
 pub use emptied::not_emptied;
-pub use files::{FaultForm, found, open_files, report_device, told};
+pub use files::{FaultForm, disk_or_fault, open_files, report_device, report_failed_device};
 pub use identity::settled_identity;
 pub use registration::{RegisteredResource, registered};
 pub use run_reasons::{reason_in_directory, reason_in_file};
-pub use show::{show_files, show_on};
+pub use show::{show_files, show_disk};

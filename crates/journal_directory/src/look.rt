@@ -35,7 +35,7 @@ fn executor_of(rt: &HostRuntime, journal: JournalLocation) -> Option<bool> {
 }
 
 /// The options of a status of this moment, for all resources.
-pub fn look_of<'a>(rt: &HostRuntime, options: &Options) -> StatusOptions<'a> {
+pub fn status_options<'a>(rt: &HostRuntime, options: &Options) -> StatusOptions<'a> {
     StatusOptions {
         moment: moment_of(rt, options.journal),
         ids: &[],

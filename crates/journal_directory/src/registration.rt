@@ -1,7 +1,7 @@
 //! A resource of a journal, whose agent and parameters an action that is run once takes.
 ghost use Rattle.std.specs.Prelude.{◌<◌, IfSome, length};
 
-use crate::files::{FaultForm, found, has_executor};
+use crate::files::{FaultForm, disk_or_fault, has_executor};
 use crate::show::read_whole;
 use crate::waits::goes_on_of;
 use disk_model::Disk;
@@ -62,7 +62,7 @@ fn resource_at(
 // The journal's parts as they are now.
 fn parts_in(system: &System<'_>, directory: &str) -> Result<RamDisk, Fault> {
     let read = read_whole(system.host(), directory);
-    let mut disk = found(system, FaultForm::WithCause, directory, read)?;
+    let mut disk = disk_or_fault(system, FaultForm::WithCause, directory, read)?;
     match (disk.len(Part::A), disk.len(Part::B)) {
         (Ok(0), Ok(0)) => Err(Fault::NoJournal),
         _ => Ok(disk),

@@ -3,11 +3,11 @@ ghost use Rattle.exec_faults.specs.Faults.{IsRunEnd};
 ghost use Rattle.journal_directory.specs.Ends.{IsDirectoryEnd, IsNotFound};
 
 use crate::emptied::not_emptied;
-use crate::files::{FaultForm, found, told};
+use crate::files::{FaultForm, disk_or_fault, report_failed_device};
 use crate::follow::follow_files;
-use crate::log::log_to;
+use crate::log::show_log;
 use crate::metrics::metrics_to;
-use crate::status::status_to;
+use crate::status::show_status;
 use crate::watch::watch_files;
 use diagnostics::{FirstError, report_shown};
 use disk_model::Disk;
@@ -23,7 +23,7 @@ use std::io::{self, Write};
 const LOOKS: usize = 4;
 
 // Writes what the journal on this disk holds, as the subcommand asks: lines of JSON, a table, records or metrics.
-fn show_to<D: Disk + Drop, W: Write>(
+fn write_shown<D: Disk + Drop, W: Write>(
     system: &System<'_>,
     options: Options,
     disk: D,
@@ -33,10 +33,10 @@ fn show_to<D: Disk + Drop, W: Write>(
 {
     let rt = system.host();
     match options.subcommand {
-        Subcommand::Status => status_to(system, options, disk, output),
+        Subcommand::Status => show_status(system, options, disk, output),
         Subcommand::Log => {
             let mut disk = disk;
-            let ended = log_to(system, options, &mut disk, output);
+            let ended = show_log(system, options, &mut disk, output);
             (disk, ended)
         }
         Subcommand::Metrics => metrics_to(system, options, disk, output),
@@ -61,7 +61,7 @@ pub fn enough(
 }
 
 /// Prints the journal on this disk.
-pub fn show_on<D: Disk + ReportsError + Drop>(
+pub fn show_disk<D: Disk + ReportsError + Drop>(
     system: &System<'_>,
     options: Options,
     disk: D,
@@ -71,10 +71,10 @@ pub fn show_on<D: Disk + ReportsError + Drop>(
     let rt = system.host();
     let unwritten = FirstError::none();
     let mut output = unwritten.shown(io::writer(rt));
-    let (disk, ended) = show_to(system, options, disk, &mut output);
+    let (disk, ended) = write_shown(system, options, disk, &mut output);
     let ended = enough(options, &unwritten, ended);
     report_shown(system, &unwritten, ended);
-    told(system, options, &disk, ended)
+    report_failed_device(system, options, &disk, ended)
 }
 
 // Whether both parts are empty. A fault of the device is not reported here: the opening meets it again.
@@ -100,7 +100,7 @@ pub fn parts_in(system: &System<'_>, options: Options, directory: &str) -> Resul
     } else {
         read_whole(rt, directory)
     };
-    let mut disk = found(system, FaultForm::of(options), directory, read)?;
+    let mut disk = disk_or_fault(system, FaultForm::of(options), directory, read)?;
     let wants_one = !matches!(options.subcommand, Subcommand::Show);
     if wants_one && is_none(&mut disk) {
         return Err(Fault::NoJournal);
@@ -114,7 +114,7 @@ fn show_once(system: &System<'_>, options: Options, directory: &str) -> Result<(
     ensures { IsDirectoryEnd result }
 {
     let disk = parts_in(system, options, directory)?;
-    show_on(system, options, disk)
+    show_disk(system, options, disk)
 }
 
 /// Prints the journal in this directory, which another program may be writing. Damage is reported only if each of four reads of

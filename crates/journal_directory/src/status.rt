@@ -2,7 +2,7 @@
 ghost use Rattle.exec_faults.specs.Faults.{IsRunEnd};
 
 use crate::identity::identity_of;
-use crate::look::look_of;
+use crate::look::status_options;
 use crate::reasons::{FoundReason, as_reasons, reasons_in};
 use crate::waits::{as_remarks, waits_in};
 use disk_model::Disk;
@@ -27,7 +27,7 @@ fn reasons_for<D: Disk + Drop>(
     };
     let look = StatusOptions {
         ids: options.resources.ids(),
-        ..look_of(rt, &options)
+        ..status_options(rt, &options)
     };
     let (disk, ids) = failed(alloc, disk, &look);
     let Ok(ids) = ids else {
@@ -49,7 +49,7 @@ fn identity_at(rt: &HostRuntime, journal: JournalLocation) -> Option<JournalId> 
 
 /// Writes the status of the resources of the journal on this disk, as a table or as lines of JSON. If the options name a directory
 /// of logs, the last failure of a resource has the last reason in its log.
-pub fn status_to<D: Disk + Drop, W: Write>(
+pub fn show_status<D: Disk + Drop, W: Write>(
     system: &System<'_>,
     options: Options,
     disk: D,
@@ -73,7 +73,7 @@ pub fn status_to<D: Disk + Drop, W: Write>(
         identity: digits,
         reasons: reasons.as_slice(),
         waits: waits.as_slice(),
-        ..look_of(rt, &options)
+        ..status_options(rt, &options)
     };
     status(rt.alloc(), disk, output, &look)
 }

@@ -1,4 +1,4 @@
-//! Tells whether an object of a JSON text has a key twice, by two counts.
+//! Says whether an object of a JSON text has a key twice, by two counts.
 #![tactic(auto)]
 
 mod counts;

@@ -20,7 +20,7 @@ use Rattle.ocf_types.specs.Lawful.{IsLawfulOpIn, IsLawfulRecurIn, IsLawfulRegist
 use Rattle.ocf_types.specs.Kinds.{Registration}
 use Rattle.ocf_types.specs.Encoding.{encoded_params}
 use Rattle.ocf_types.specs.State.{Registry, registered}
-use Rattle.ocf_types.specs.Layouts.{kept_in, failed_in, CanEnd, KnowsWithdrawal, current}
+use Rattle.ocf_types.specs.Layouts.{kept_in, failed_in, EncodesOutcome, KnowsWithdrawal, current}
 use Rattle.ocf_types.specs.Expected.{has_failed}
 use Rattle.ocf_types.specs.declared.layout.Layout.TheVariants.{First, Second}
 use Rattle.ocf_types.specs.Resource.{History, Resource, last_in, ended_of, dropped_of, failed_of, failed_after, run_of_op, run_of_monitor, of_interval}
@@ -140,7 +140,7 @@ ended_push layout n k clock xs ys h g =
 
 -- the result of the action that ran is lawful, for an outcome of an action that began
 pub ended_running : (layout : Layout) (n k at : ℕ) (outcome : Outcome) (o : Option Running) → IsOutcome outcome → (NeverBegan outcome → ⊥)
-    → CanEnd layout outcome → IsLawfulRunningIn layout n k at o
+    → EncodesOutcome layout outcome → IsLawfulRunningIn layout n k at o
     → AllByRecursion (IsLawfulEndedIn layout n k at) (map (ended_of outcome at) (option_to_list o))
 ended_running layout n k at outcome None is other known h = tt
 ended_running layout n k at outcome (Some x) is other known h = (

@@ -7,7 +7,7 @@ use Rattle.ocf_types.specs.Numbers.{IsMoment, IsDrawn, IsMillis}
 use Rattle.ocf_types.specs.Params.{AreParams}
 use Rattle.ocf_types.specs.Kinds.{Registration, Step, Change, Event, Command}
 use Rattle.ocf_types.specs.Actions.{IsTask}
-use Rattle.ocf_types.specs.Layouts.{CanExpect, KnowsWithdrawal, current}
+use Rattle.ocf_types.specs.Layouts.{EncodesExpect, KnowsWithdrawal, current}
 use Rattle.ocf_types.specs.Encoding.{encoded_event_in}
 use Rattle.ocf_types.specs.declared.layout.Layout.{Layout}
 use Rattle.ocf_types.specs.declared.operation.Op.{Op}
@@ -31,14 +31,14 @@ pub record IsLawfulRegistration (r : Registration) : Type 0 where
 
 -- an accepted action has a call id, a timeout, and a task whose expectation the layout can encode
 abbrev pub IsLawfulOpIn : Layout → Op → Type 0
-IsLawfulOpIn layout o = IsDrawn o.call × IsMillis o.timeout × CanExpect layout o.task.check.expect × IsTask o.task
+IsLawfulOpIn layout o = IsDrawn o.call × IsMillis o.timeout × EncodesExpect layout o.task.check.expect × IsTask o.task
 
 abbrev pub IsLawfulOp : Op → Type 0
 IsLawfulOp o = IsLawfulOpIn current o
 
 -- a recurring monitor has a call id, an interval, a timeout, and an expectation that the layout can encode
 abbrev pub IsLawfulRecurIn : Layout → Recur → Type 0
-IsLawfulRecurIn layout m = IsDrawn m.call × IsMillis m.interval × IsMillis m.timeout × CanExpect layout m.check.expect
+IsLawfulRecurIn layout m = IsDrawn m.call × IsMillis m.interval × IsMillis m.timeout × EncodesExpect layout m.check.expect
 
 abbrev pub IsLawfulRecur : Recur → Type 0
 IsLawfulRecur m = IsLawfulRecurIn current m

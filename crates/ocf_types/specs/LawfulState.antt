@@ -11,7 +11,7 @@ use Rattle.ocf_types.specs.Actions.{IsTask}
 use Rattle.ocf_types.specs.Encoding.{encoded_params}
 use Rattle.ocf_types.specs.StateEncoding.{encoded_state_in}
 use Rattle.ocf_types.specs.Lawful.{IsLawfulOpIn, IsLawfulRecurIn, IsRunEnd}
-use Rattle.ocf_types.specs.Layouts.{kept_in, CanExpect, CanEnd, failed_in, current}
+use Rattle.ocf_types.specs.Layouts.{kept_in, EncodesExpect, EncodesOutcome, failed_in, current}
 use Rattle.ocf_types.specs.Resource.{Resource}
 use Rattle.ocf_types.specs.State.{State}
 use Rattle.ocf_types.specs.declared.layout.Layout.{Layout}
@@ -36,7 +36,7 @@ abbrev pub IsLawfulRunningIn : Layout → ℕ → ℕ → ℕ → Option Running
 IsLawfulRunningIn layout next_call next_run clock None = ⊤
 IsLawfulRunningIn layout next_call next_run clock (Some x) =
     IsDrawn x.call × (x.call < next_call) × IsDrawn x.run × (x.run < next_run) × IsMillis x.timeout
-    × IsIntervalOf x.interval x.task.action × (x.since ≤ clock) × CanExpect layout x.task.check.expect × IsTask x.task
+    × IsIntervalOf x.interval x.task.action × (x.since ≤ clock) × EncodesExpect layout x.task.check.expect × IsTask x.task
 
 abbrev pub IsLawfulRunning : ℕ → ℕ → ℕ → Option Running → Type 0
 IsLawfulRunning next_call next_run clock x = IsLawfulRunningIn current next_call next_run clock x
@@ -63,7 +63,7 @@ pub record IsLawfulEndedIn (layout : Layout) (next_call next_run clock : ℕ) (e
   pub since : e.since ≤ clock
   pub at : e.at ≤ clock
   pub outcome : IsOutcome e.outcome
-  pub known : CanEnd layout e.outcome
+  pub known : EncodesOutcome layout e.outcome
 
 abbrev pub IsLawfulEnded : ℕ → ℕ → ℕ → Ended → Type 0
 IsLawfulEnded next_call next_run clock e = IsLawfulEndedIn current next_call next_run clock e

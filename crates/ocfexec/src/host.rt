@@ -24,7 +24,7 @@ use exec_replies::JournalId;
 use file_disk::{FileDisk, FileError, JournalPaths, RamDisk};
 use growth::Refused;
 use journal_directory::{
-    FaultForm, found, not_emptied, open_files, report_device, settled_identity, show_files, show_on,
+    FaultForm, disk_or_fault, not_emptied, open_files, report_device, settled_identity, show_files, show_disk,
 };
 use ocf_env::Site;
 use ocf_types::{Moment, Orphan};
@@ -131,7 +131,7 @@ impl<'a> Host for SystemHost<'a> {
         self.stage = 2;
         let opened = open_files(self.system.host(), options, directory);
         let disk = not_emptied(opened);
-        found(self.system, FaultForm::of(options), directory, disk)
+        disk_or_fault(self.system, FaultForm::of(options), directory, disk)
     }
 
     // TRUSTED: the files are closed, and nothing is written before that.
@@ -291,7 +291,7 @@ impl<'a> Host for SystemHost<'a> {
     // TRUSTED: what is printed is about an empty journal.
     fn show_memory(&mut self, options: Options) -> Result<(), Fault> {
         self.stage = 15;
-        show_on(self.system, options, RamDisk::new(self.alloc()))
+        show_disk(self.system, options, RamDisk::new(self.alloc()))
     }
 
     // TRUSTED: the action that the options name is run once, and ended with this status.

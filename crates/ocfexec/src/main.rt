@@ -17,7 +17,7 @@ mod log;
 mod metadata;
 mod moment;
 mod once;
-mod question;
+mod asked_agent;
 mod reasons;
 mod stack;
 
@@ -82,13 +82,13 @@ fn ended_by(system: &System<'_>, ended: Result<u8, Fault>) -> ExitCode
     ensures status { exit_status result ≡ status_of_end ended }
 {
     if let Err(fault) = ended {
-        tell(system, fault);
+        report_end(system, fault);
     }
     exit_code(ended)
 }
 
 // Reports the fault that ended the program on standard error.
-fn tell(system: &System<'_>, fault: Fault) {
+fn report_end(system: &System<'_>, fault: Fault) {
     match fault {
         // reported where it happened; `NotWell` and `NoExecutor` by the status that was printed
         Fault::Usage

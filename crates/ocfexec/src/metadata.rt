@@ -2,7 +2,7 @@
 ghost use Rattle.std.specs.Prelude.{◌≡◌, ◌≤◌, length, IfOk};
 ghost use Rattle.ocf_types.specs.Limits.{metadata_limit};
 
-use crate::question::{Polled, Question};
+use crate::asked_agent::{Polled, AskedAgent};
 use agent_metadata::{MetaCall, run_meta};
 use agent_system::{Leading, leading_for};
 use ocf_env::Site;
@@ -19,11 +19,11 @@ pub struct SiteMetadata<'a> {
     site: Site,
     // Whether each agent runs in a process group of its own.
     groups: bool,
-    asked: Cell<Option<Question<'a>>>,
+    asked: Cell<Option<AskedAgent<'a>>>,
 }
 
 // Ends the agent that was asked, if there was one.
-fn end(alloc: Global, asked: Option<Question<'_>>) {
+fn end(alloc: Global, asked: Option<AskedAgent<'_>>) {
     if let Some(asked) = asked {
         asked.give_up(alloc);
     }
@@ -58,7 +58,7 @@ impl<'a> SiteMetadata<'a> {
         provider: &Provider,
         agent: &AgentType,
         limit: Option<u32>,
-    ) -> Result<Question<'a>, MetaFault> {
+    ) -> Result<AskedAgent<'a>, MetaFault> {
         if let Some(asked) = self.asked.replace(None) {
             match asked.to(provider, agent) {
                 Ok(asked) => return Ok(asked),
@@ -72,11 +72,11 @@ impl<'a> SiteMetadata<'a> {
             agent,
             leading: &leading,
         };
-        Question::start(self.system, &call, limit)
+        AskedAgent::start(self.system, &call, limit)
     }
 
     // Keeps an agent that has not answered. If another one is being asked, it is ended.
-    fn keep(&self, alloc: Global, asked: Question<'a>) {
+    fn keep(&self, alloc: Global, asked: AskedAgent<'a>) {
         end(alloc, self.asked.replace(Some(asked)));
     }
 

@@ -28,7 +28,7 @@ struct KnownRun {
     reason: Option<Text>,
 }
 
-/// The reasons in agents' logs. Each is looked for once, when its failure is first told, and then remembered, also after the log has grown
+/// The reasons in agents' logs. Each is looked for once, when its failure is first reported, and then remembered, also after the log has grown
 /// past it.
 #[derive(Drop)]
 pub struct LogReasons {
@@ -108,8 +108,8 @@ impl Reasons for LogReasons {
             run: failed.run,
             reason: self.found(failed),
         };
-        let told = copied(self.rt.alloc(), text_in(&run));
+        let reason = copied(self.rt.alloc(), text_in(&run));
         remember(&mut known, run);
-        told
+        reason
     }
 }

@@ -36,9 +36,9 @@ ill es e = condition_of (history (es ++ e ∷ []) (Some e))
 started : List Ended
 started = result 1 action.Start (code 0) ∷ []
 
-untold : (well [] ≡ NeverRun) × (well (result 0 action.Start Dropped ∷ []) ≡ NeverRun)
+without_result : (well [] ≡ NeverRun) × (well (result 0 action.Start Dropped ∷ []) ≡ NeverRun)
     × (well (result 1 action.ValidateAll (code 0) ∷ []) ≡ NeverRun) × (well (replicate 16 (result 0 action.Start Cancelled)) ≡ Unknown)
-untold = (refl, refl, refl, refl)
+without_result = (refl, refl, refl, refl)
 
 ends : (well started ≡ Started) × (well (started ++ result 2 action.Promote (code 0) ∷ []) ≡ Promoted)
     × (well (result 1 action.Demote (code 0) ∷ []) ≡ Started) × (well (started ++ result 2 action.Stop (code 0) ∷ []) ≡ Stopped)

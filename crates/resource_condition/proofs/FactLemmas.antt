@@ -11,7 +11,7 @@ use Rattle.ocf_types.specs.declared.operation.Ended.{Ended as Result}
 use Rattle.ocf_types.specs.declared.operation.Running.{Running}
 use Rattle.ocf_types.specs.declared.outcome.Outcome.{Outcome}
 use Rattle.run_counts.specs.Runs.{end_of}
-use Rattle.resource_condition.specs.Facts.{FactOf, Tells, ended_facts, fact_of, facts_by, facts_since, held_of, none_recorded, recorded_at, taken, taken_of}
+use Rattle.resource_condition.specs.Facts.{FactOf, IsRecordOf, ended_facts, fact_of, facts_by, facts_since, held_of, none_recorded, recorded_at, taken, taken_of}
 use Rattle.resource_condition.specs.declared.condition.Recorded.{Recorded}
 use Rattle.resource_condition.specs.declared.facts.Fact.{Fact}
 use Rattle.resource_condition.specs.declared.facts.Fact.TheVariants.{Ended}
@@ -28,12 +28,12 @@ pub held_more : (facts : List FactOf) (f : FactOf) (q : List ℕ) → held_of (f
 held_more facts f q = fold_one (taken_of q) facts f none_recorded
 
 -- a map that has taken one more fact
-module _ (id : List ℕ) (fact : Fact) (facts : List FactOf) (old new : List (List ℕ × Recorded)) (were : Tells old facts) where
+module _ (id : List ℕ) (fact : Fact) (facts : List FactOf) (old new : List (List ℕ × Recorded)) (were : IsRecordOf old facts) where
   abbrev next : Recorded
   next = taken (recorded_at old id) fact
 
   pub tells_more : ((q : List ℕ) → lookup (bytes_eq q) new ≡ cond (bytes_eq id q) (Some next) (lookup (bytes_eq q) old))
-      → Tells new (facts ++ fact_of id fact ∷ [])
+      → IsRecordOf new (facts ++ fact_of id fact ∷ [])
   tells_more updates q = by (bytes_eq id q) refl
     where
       by : (b : Bool) → bytes_eq id q ≡ b → recorded_at new q ≡ held_of (facts ++ fact_of id fact ∷ []) q

@@ -140,12 +140,12 @@ judged k None = k.condition
 judged k (Some e) = if e.run == k.run then worsened k.condition else (if lasts k e then given_up k.condition else k.condition)
 
 -- the condition of a resource of which no result shows one: it never ran, unless results were dropped or forgotten
-abbrev pub condition_untold : Bool → Condition
-condition_untold cut = if cut then Unknown else NeverRun
+abbrev pub condition_without_result : Bool → Condition
+condition_without_result cut = if cut then Unknown else NeverRun
 
 -- the condition of a resource, by what results hold of it, and its last failure
 abbrev pub condition_by : Recorded → Option Ended → Condition
-condition_by r failed = option_map_or (λ k. judged k failed) r.known (condition_untold r.cut)
+condition_by r failed = option_map_or (λ k. judged k failed) r.known (condition_without_result r.cut)
 
 -- the resource was stopped, and has failed since a failure that lasts
 abbrev pub is_given_up : Known → Ended → Bool

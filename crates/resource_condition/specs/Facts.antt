@@ -49,8 +49,8 @@ abbrev pub recorded_at : List (List ℕ × Recorded) → List ℕ → Recorded
 recorded_at recorded id = unwrap_or (lookup (bytes_eq id) recorded) none_recorded
 
 -- the map holds of each resource what these facts do
-abbrev pub Tells : List (List ℕ × Recorded) → List FactOf → Type 0
-Tells recorded facts = (id : List ℕ) → recorded_at recorded id ≡ held_of facts id
+abbrev pub IsRecordOf : List (List ℕ × Recorded) → List FactOf → Type 0
+IsRecordOf recorded facts = (id : List ℕ) → recorded_at recorded id ≡ held_of facts id
 
 -- the facts of a state: what the history of each resource holds
 abbrev pub facts_of : State → List FactOf

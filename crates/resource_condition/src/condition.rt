@@ -1,7 +1,7 @@
 //! The condition of a resource, by its last results.
 ghost use Rattle.std.specs.Prelude.{◌≡◌, ◌<◌, length, min};
 ghost use Rattle.ocf_types.specs.Indexes.{at_index};
-ghost use Rattle.resource_condition.specs.Conditions.{after, changed_in, condition_by, condition_of, condition_untold, condition_word, given_up};
+ghost use Rattle.resource_condition.specs.Conditions.{after, changed_in, condition_by, condition_of, condition_without_result, condition_word, given_up};
 ghost use Rattle.resource_condition.specs.Conditions.{found_by, held_in, is_bad, is_given_up, is_same, judged, known_of, lasts, left_by, since_by, since_in, since_judged, since_of, up_in, written_by};
 ghost use Rattle.resource_condition.specs.Conditions.{written_by_code, worsened};
 
@@ -251,8 +251,8 @@ fn judged(known: &Known, failed: Option<Ended>) -> Condition
 }
 
 // The condition of a resource of which no result shows one.
-fn condition_untold(cut: bool) -> Condition
-    ensures { result ≡ condition_untold cut }
+fn condition_without_result(cut: bool) -> Condition
+    ensures { result ≡ condition_without_result cut }
 {
     if cut {
         Condition::Unknown
@@ -267,7 +267,7 @@ pub fn condition_by(recorded: &Recorded, failed: Option<Ended>) -> Condition
 {
     match recorded.known {
         Some(known) => judged(&known, failed),
-        None => condition_untold(recorded.cut),
+        None => condition_without_result(recorded.cut),
     }
 }
 

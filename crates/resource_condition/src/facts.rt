@@ -4,7 +4,7 @@ ghost use Rattle.std.specs.List.{flat_map};
 ghost use Rattle.ocf_types.specs.Indexes.{entry_at};
 ghost use Rattle.ocf_types.specs.Resource.{ended_of};
 ghost use Rattle.resource_condition.specs.Conditions.{held_in};
-ghost use Rattle.resource_condition.specs.Facts.{FactOf, Tells, ended_facts, facts_by, facts_of, fact_of, forgotten, named_facts, none_recorded, recorded_at, taken};
+ghost use Rattle.resource_condition.specs.Facts.{FactOf, IsRecordOf, ended_facts, facts_by, facts_of, fact_of, forgotten, named_facts, none_recorded, recorded_at, taken};
 
 use crate::condition::{Recorded, after, held_in};
 use exec_state::State;
@@ -74,8 +74,8 @@ pub fn recorded_of(recorded: &RecordedById, id: &RscId) -> Recorded
 
 // Takes one more fact of a resource.
 fn take(recorded: &mut RecordedById, id: &RscId, fact: &Fact) -> Result<(), Refused>
-    ensures told { (facts : List FactOf) → Tells recorded.old.entries facts
-        → OnOk result (Tells recorded.new.entries (facts ++ fact_of id.now fact.now ∷ [])) }
+    ensures recorded { (facts : List FactOf) → IsRecordOf recorded.old.entries facts
+        → OnOk result (IsRecordOf recorded.new.entries (facts ++ fact_of id.now fact.now ∷ [])) }
 {
     let next = taken(&recorded_of(recorded, id), fact);
     Global::reserve_entries(recorded, 1)?;
@@ -87,8 +87,8 @@ fn take(recorded: &mut RecordedById, id: &RscId, fact: &Fact) -> Result<(), Refu
 
 // Takes what a change names: a new resource, or one whose results are forgotten.
 fn take_named(recorded: &mut RecordedById, change: &Change<Params>) -> Result<(), Refused>
-    ensures told { (facts : List FactOf) → Tells recorded.old.entries facts
-        → OnOk result (Tells recorded.new.entries (facts ++ named_facts change.now)) }
+    ensures recorded { (facts : List FactOf) → IsRecordOf recorded.old.entries facts
+        → OnOk result (IsRecordOf recorded.new.entries (facts ++ named_facts change.now)) }
 {
     match change {
         Change::Register(registration) => {
@@ -122,8 +122,8 @@ fn take_index(
     index: usize,
 ) -> Result<(), Refused>
     requires { index < length state.now.state.resources }
-    ensures told { (facts : List FactOf) → Tells recorded.old.entries facts → OnOk result
-        (Tells recorded.new.entries (facts ++ ended_facts event.now (entry_at state.now.state index))) }
+    ensures recorded { (facts : List FactOf) → IsRecordOf recorded.old.entries facts → OnOk result
+        (IsRecordOf recorded.new.entries (facts ++ ended_facts event.now (entry_at state.now.state index))) }
 {
     let id = state.id_at(index);
     let Some(outcome) = end_of(&event.change, id) else {
@@ -138,8 +138,8 @@ fn take_index(
 
 // Takes the results of all resources whose running actions the event ends.
 fn take_ended(recorded: &mut RecordedById, state: &State, event: &Event) -> Result<(), Refused>
-    ensures told { (facts : List FactOf) → Tells recorded.old.entries facts → OnOk result
-        (Tells recorded.new.entries
+    ensures recorded { (facts : List FactOf) → IsRecordOf recorded.old.entries facts → OnOk result
+        (IsRecordOf recorded.new.entries
         (facts ++ flat_map (ended_facts event.now) state.now.state.resources)) }
 {
     let (from, to) = ending(state, &event.change);
@@ -151,8 +151,8 @@ fn take_ended(recorded: &mut RecordedById, state: &State, event: &Event) -> Resu
 
 /// Takes the facts of an event, by the state before it.
 pub fn take_event(recorded: &mut RecordedById, state: &State, event: &Event) -> Result<(), Refused>
-    ensures told { (facts : List FactOf) → Tells recorded.old.entries facts → OnOk result
-        (Tells recorded.new.entries (facts ++ facts_by state.now.state event.now)) }
+    ensures recorded { (facts : List FactOf) → IsRecordOf recorded.old.entries facts → OnOk result
+        (IsRecordOf recorded.new.entries (facts ++ facts_by state.now.state event.now)) }
 {
     take_named(recorded, &event.change)?;
     take_ended(recorded, state, event)
@@ -160,7 +160,7 @@ pub fn take_event(recorded: &mut RecordedById, state: &State, event: &Event) -> 
 
 /// What the histories of a state hold of each resource.
 pub fn recorded_in(alloc: Global, state: &State) -> Result<RecordedById, Refused>
-    ensures told { IfOk result (λ recorded. Tells recorded.entries (facts_of state.now.state)) }
+    ensures recorded { IfOk result (λ recorded. IsRecordOf recorded.entries (facts_of state.now.state)) }
 {
     let mut recorded = RecordedById::new(alloc);
     for index in 0..state.len() {

@@ -29,7 +29,7 @@ fn are_equal(one: &Ended, other: &Ended) -> bool {
 }
 
 // Whether an earlier result has a line that has this one too.
-fn is_told(state: &State, index: usize, at: usize) -> bool
+fn has_line(state: &State, index: usize, at: usize) -> bool
     requires known { index < length state.now.state.resources }
     requires within { at < length (at_index state.now.state index).history.ended }
 {
@@ -139,7 +139,7 @@ fn add_at(
     requires known { index < length state.now.state.resources }
     requires within { at < length (at_index state.now.state index).history.ended }
 {
-    if is_told(state, index, at) {
+    if has_line(state, index, at) {
         return;
     }
     let first = state.ended_at(index, at);

@@ -3,7 +3,7 @@ use Rattle.std.proofs.lemmas.List.{map_more, take_all}
 use Rattle.ocf_types.specs.Indexes.{entry_at, no_entry}
 use Rattle.ocf_types.specs.Resource.{Resource}
 use Rattle.resource_condition.specs.Conditions.{held_in}
-use Rattle.resource_condition.specs.Facts.{FactOf, Tells, fact_of, recorded_at}
+use Rattle.resource_condition.specs.Facts.{FactOf, IsRecordOf, fact_of, recorded_at}
 use Rattle.resource_condition.specs.declared.condition.Recorded.{Recorded}
 use Rattle.resource_condition.specs.declared.facts.Fact.TheVariants.{Held}
 use Rattle.resource_condition.proofs.facts.recorded_in.Goals as goal
@@ -22,15 +22,15 @@ loop-index-preserved c =
     let before = map fact (take i s.resources) in
     let one : fact_of c.id_at.result.now (Held c.held_in-held.result) ≡ fact (entry_at s i) =
     ap (λ (id : List ℕ). fact_of id (Held c.held_in-held.result)) c.id_at.ensures ∙ ap (λ (r : Recorded). fact_of (entry_at s i).0 (Held r)) c.held_in-held.ensures in
-    subst (λ (l : List FactOf). Tells c.take.new.recorded.entries l)
+    subst (λ (l : List FactOf). IsRecordOf c.take.new.recorded.entries l)
     (ap (λ (f : FactOf). before ++ f ∷ []) one ∙ sym (map_more fact s.resources i no_entry lt))
-    (c.in_ok-take.ensures.told before c.loop-index.invariant)
+    (c.in_ok-take.ensures.recorded before c.loop-index.invariant)
 
 pub returns : goal.returns
 returns c = record {
-  told =
+  recorded =
       let s = c.args.state.now.state in
       let all : length s.resources ≤ c.loop-index.index = search rules in
-      subst (λ (l : List (List ℕ × Resource)). Tells c.loop-index.recorded.entries (map fact l)) (take_all c.loop-index.index s.resources all)
+      subst (λ (l : List (List ℕ × Resource)). IsRecordOf c.loop-index.recorded.entries (map fact l)) (take_all c.loop-index.index s.resources all)
       c.loop-index.invariant;
 }

@@ -6,7 +6,7 @@ use Rattle.resource_condition.proofs.facts.take.Goals as goal
 
 pub returns : goal.returns
 returns c = record {
-  told = λ facts were.
+  recorded = λ facts were.
       let old = c.args.recorded.now.entries in
       let id = c.args.id.now in
       let fact = c.args.fact.now in

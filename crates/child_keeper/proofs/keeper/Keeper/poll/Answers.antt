@@ -122,7 +122,7 @@ returns-in-Running-clause-asked g c =
       lives = asked.1;
       its = asked.2;
       answer = c.ask.result;
-      told = c.poll_of-answer.ensures;
+      poll = c.poll_of-answer.ensures;
       after = after_answered _ _ asked.0 c.ask.result None (as_running c.ask.result c.in-Running.ensures) asked.3;
     }
 
@@ -135,7 +135,7 @@ returns-in-Exited-clause-asked g c =
       lives = asked.1;
       its = asked.2;
       answer = c.ask.result;
-      told = c.in-Exited.ensures;
+      poll = c.in-Exited.ensures;
       after = after_answered _ _ asked.0 c.ask.result (Some ended.0) ended.1 (c.reap.ensures.same ∙ asked.3);
     }
 
@@ -148,7 +148,7 @@ returns-in-Signaled-clause-asked g c =
       lives = asked.1;
       its = asked.2;
       answer = c.ask.result;
-      told = c.in-Signaled.ensures;
+      poll = c.in-Signaled.ensures;
       after = after_answered _ _ asked.0 c.ask.result (Some ended.0) ended.1 (c.reap-agent.ensures.same ∙ asked.3);
     }
 
@@ -168,6 +168,6 @@ returns-in-Fault-clause-asked g c =
       lives = asked.1;
       its = asked.2;
       answer = c.ask.result;
-      told = c.poll_of-answer.ensures;
+      poll = c.poll_of-answer.ensures;
       after = after_failed v (g.R.AgentSystem.view c.ask.new.rt) _ asked.0 moved.agent.process c.ask.result failed.0 failed.1 asked.3 same moved.after;
     }

@@ -1,14 +1,14 @@
 use Rattle.std.proofs.Common.{◌≤◌, arith, slice_index_or}
-use Rattle.child_keeper.proofs.WaitLemmas.{killed_later, part_same, told_all, told_processes}
+use Rattle.child_keeper.proofs.WaitLemmas.{killed_later, part_same, reported_all, reported_processes}
 use Rattle.process_ends.specs.Endings.{processes}
 use Rattle.child_keeper.proofs.waits.Waits.go_on.Goals as goal
 
-pub returns-then-not-any_untold-clause-rest : goal.returns-then-not-any_untold-clause-rest
-returns-then-not-any_untold-clause-rest g c = part_same (processes c.args.self.now.waits.items)
+pub returns-then-not-any_unreported-clause-rest : goal.returns-then-not-any_unreported-clause-rest
+returns-then-not-any_unreported-clause-rest g c = part_same (processes c.args.self.now.waits.items)
 
 pub returns-clause-given_up : goal.returns-clause-given_up
 returns-clause-given_up g c =
-    rw c.report_fresh.ensures.told (told_all g.R.AgentSystem.process_of _ c.await_ended.new.waits.items c.await_ended.ensures.given_up)
+    rw c.report_fresh.ensures.reported (reported_all g.R.AgentSystem.process_of _ c.await_ended.new.waits.items c.await_ended.ensures.given_up)
 
 pub returns-clause-killed : goal.returns-clause-killed
 returns-clause-killed g c =
@@ -18,4 +18,4 @@ returns-clause-killed g c =
 
 pub returns-clause-rest : goal.returns-clause-rest
 returns-clause-rest g c =
-    rw (c.report_fresh.ensures.told, told_processes, ← c.end_due.ensures.same) c.await_ended.ensures.rest
+    rw (c.report_fresh.ensures.reported, reported_processes, ← c.end_due.ensures.same) c.await_ended.ensures.rest

@@ -27,7 +27,7 @@ of_spec 𝓤 𝓛 𝓜 𝓡 wired =
     f.Key.name code.function (code.unfolded 𝓤 𝓛.H 𝓜 𝓡 wired)
     (λ κs. tt) (λ κs. tt)
     (λ κs qs bounds a g are.
-    let begun : R.Denot = record { «of» = record {}; told = g } in
+    let begun : R.Denot = record { «of» = record {}; answers = g } in
     let y : W.Ghost = ((κs, qs, bounds, a, tt), g) in
     qed 𝓛 ((raw (alive 𝓛 f.ended.signature κs qs) ⊛ ‵ (owns [] a tt)) ∷ raw ((c κs a).requires g) ∷ []) ∵
     keep ! (0 ∷ []) $ split ! $ keep ! (0 ∷ 1 ∷ []) $

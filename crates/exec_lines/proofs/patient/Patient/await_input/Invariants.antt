@@ -4,5 +4,5 @@ use Rattle.exec_lines.proofs.patient.Patient.await_input.Given as goal
 
 abbrev pub invariant-loop : goal.invariant-loop
 invariant-loop g l =
-    (l.self.polled.inner ≡ l.fn.self.polled.inner) × (l.fn.self.polled.note.told.again ≤ l.self.polled.note.told.again)
-    × (l.counter ≤ l.self.polled.note.told.again)
+    (l.self.polled.inner ≡ l.fn.self.polled.inner) × (l.fn.self.polled.note.answers.again ≤ l.self.polled.note.answers.again)
+    × (l.counter ≤ l.self.polled.note.answers.again)

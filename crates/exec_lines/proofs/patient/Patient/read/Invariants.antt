@@ -6,4 +6,4 @@ use Rattle.exec_lines.proofs.patient.Patient.read.Given as goal
 abbrev pub invariant-loop : goal.invariant-loop
 invariant-loop g l =
     Keeps (g.R.Read.remaining l.fn.self.polled.inner) (g.R.Read.remaining l.self.polled.inner)
-    × (l.counter ≤ l.self.polled.note.told.again)
+    × (l.counter ≤ l.self.polled.note.answers.again)

@@ -6,4 +6,4 @@ use Rattle.exec_lines.proofs.patient.PatientOutput.put.Given as goal
 abbrev pub invariant-loop : goal.invariant-loop
 invariant-loop g l =
     Keeps (g.W.Write.contents l.fn.self.polled.inner) (g.W.Write.contents l.self.polled.inner)
-    × (l.counter ≤ l.self.polled.note.told.again)
+    × (l.counter ≤ l.self.polled.note.answers.again)

@@ -13,7 +13,7 @@ use std::alloc::Global;
 
 /// The agent of a provider and a type, which is asked for its metadata and has not answered yet, by a handle of the system of its own. It
 /// cannot be dropped: it is polled until it answers, or given up.
-pub struct Question<'a> {
+pub struct AskedAgent<'a> {
     provider: Provider,
     agent: AgentType,
     agents: SystemAgents<'a>,
@@ -22,15 +22,15 @@ pub struct Question<'a> {
     pub ghost alone: { IsAlone agents.sights (asked_process child_process child) },
 }
 
-/// The result of a poll of a question.
+/// The result of a poll of an agent that was asked.
 pub enum Polled<'a> {
     /// It was not answered yet.
-    Waits(Question<'a>),
+    Waits(AskedAgent<'a>),
     /// The metadata, or why there are none.
     Answered(Result<Vec<u8>, MetaFault>),
 }
 
-impl<'a> Question<'a> {
+impl<'a> AskedAgent<'a> {
     ghost use Rattle.ocfexec.specs.Questions.{IfAnswered};
 
     /// Asks an agent. It has `limit` milliseconds, or as long as it takes where there is no limit.
@@ -38,10 +38,10 @@ impl<'a> Question<'a> {
         system: &'a System<'a>,
         call: &MetaCall<'_, Global>,
         limit: Option<u32>,
-    ) -> Result<Question<'a>, MetaFault> {
+    ) -> Result<AskedAgent<'a>, MetaFault> {
         let mut agents = SystemAgents::new(system);
         let child = MetaChild::start(&mut agents, system.host().alloc(), call, limit)?;
-        Ok(Question {
+        Ok(AskedAgent {
             provider: call.provider.copied(),
             agent: call.agent.copied(),
             agents,
@@ -49,9 +49,9 @@ impl<'a> Question<'a> {
         })
     }
 
-    /// The question, if it is to the agent of this provider and this type; otherwise it is the error.
-    pub fn to(self, provider: &Provider, agent: &AgentType) -> Result<Question<'a>, Question<'a>> {
-        let Question {
+    /// It, if it is the agent of this provider and this type; otherwise it is the error.
+    pub fn to(self, provider: &Provider, agent: &AgentType) -> Result<AskedAgent<'a>, AskedAgent<'a>> {
+        let AskedAgent {
             provider: its_provider,
             agent: its_agent,
             agents,
@@ -59,13 +59,13 @@ impl<'a> Question<'a> {
         } = self;
         let is_to = its_provider.as_bytes() == provider.as_bytes()
             && its_agent.as_bytes() == agent.as_bytes();
-        let question = Question {
+        let asked = AskedAgent {
             provider: its_provider,
             agent: its_agent,
             agents,
             child,
         };
-        if is_to { Ok(question) } else { Err(question) }
+        if is_to { Ok(asked) } else { Err(asked) }
     }
 
     /// Returns the answer if there is one, without waiting for it.
@@ -73,14 +73,14 @@ impl<'a> Question<'a> {
         ensures length { IfAnswered result
             (λ answer. IfOk answer (λ bytes. length bytes.items ≤ metadata_limit)) }
     {
-        let Question {
+        let AskedAgent {
             provider,
             agent,
             mut agents,
             child,
         } = self;
         match child.poll(&mut agents, alloc) {
-            MetaPoll::Waits(child) => Polled::Waits(Question {
+            MetaPoll::Waits(child) => Polled::Waits(AskedAgent {
                 provider,
                 agent,
                 agents,
@@ -92,7 +92,7 @@ impl<'a> Question<'a> {
 
     /// Gives the agent up and ends it with all its descendants. An agent that lives on is named on standard error.
     pub fn give_up(self, alloc: Global) {
-        let Question {
+        let AskedAgent {
             provider: _,
             agent: _,
             mut agents,
