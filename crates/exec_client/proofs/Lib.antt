@@ -9,3 +9,5 @@ pub mod Plain
 pub mod Incarnations
 pub mod Examples
 pub mod SignalLemmas
+pub mod EventLemmas
+pub mod FailureLemmas

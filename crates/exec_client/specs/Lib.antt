@@ -9,3 +9,5 @@ pub mod Sends
 pub mod ClientView
 pub mod MaySend
 pub mod Incarnations
+pub mod Events
+pub mod Failures

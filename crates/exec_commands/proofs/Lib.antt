@@ -3,3 +3,6 @@ pub mod ParamLemmas
 pub mod ValueLemmas
 pub mod LeaveLemmas
 pub mod TwiceLemmas
+pub mod ColonLemmas
+pub mod MemberLemmas
+pub mod CountLemmas

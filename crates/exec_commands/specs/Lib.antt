@@ -8,3 +8,4 @@ pub mod Rules
 pub mod Blame
 pub mod Tags
 pub mod Served
+pub mod KeyCounts

@@ -3,6 +3,7 @@
 
 mod blame;
 mod commands;
+mod counts;
 mod key;
 mod keys;
 mod line;

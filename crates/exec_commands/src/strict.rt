@@ -14,7 +14,7 @@ use crate::served::{refused_line, served_line};
 use crate::tag::tag_of;
 use growth::{Grows, Refused};
 use json::{Error, Scratch, Value};
-use key_counts::has_key_twice;
+use crate::counts::has_key_twice;
 use ocf_types::Refusal;
 use std::alloc::Global;
 use std::str;

@@ -2,7 +2,7 @@
 ghost use Rattle.std.specs.Prelude.{◌≡◌, ◌≤◌, ◌<◌, true, List, IfErr};
 ghost use Rattle.exec_faults.specs.Faults.{HasCause, IsRunEnd};
 ghost use Rattle.exec_client.specs.SentItem.{SentItem};
-ghost use Rattle.exec_events.specs.Failures.{tell_failure};
+ghost use Rattle.exec_client.specs.Failures.{tell_failure};
 ghost use Rattle.session_machine.specs.Behaviours.{opening};
 ghost use Rattle.session_machine.specs.First.{IsNew};
 ghost use Rattle.exec_session.specs.Steps.{IsReportOf};
@@ -16,8 +16,7 @@ ghost use Rattle.exec_host.specs.Sites.{site_of};
 use crate::host::Host;
 use crate::options::{Findings, events_of, rules_of, served_directory};
 use crate::upkeep::directory_of;
-use exec_client::{Client, JsonClient};
-use exec_events::{Eventful, Strict};
+use exec_client::{Client, Eventful, JsonClient, Strict};
 use exec_faults::Fault;
 use exec_options::Options;
 use exec_session::{LineRoom, Run, run_lines};

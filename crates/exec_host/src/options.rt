@@ -4,7 +4,7 @@ ghost use Rattle.exec_host.specs.Services.{IsHeldTo, found_identity, served_dire
 
 use crate::host::Host;
 use crate::limits::MOST_TURNS;
-use exec_events::Events;
+use exec_client::Events;
 use exec_options::{JournalLocation, Options, Subcommand, VERSION};
 use exec_replies::{JournalId, NoticeForm, Service};
 use ocf_types::Orphan;

@@ -7,12 +7,12 @@ use Rattle.ocf_types.specs.declared.action.Action.TheVariants as action
 use Rattle.ocf_types.specs.declared.operation.Ended.{Ended}
 use Rattle.ocf_types.specs.declared.outcome.Outcome.TheVariants.{Run}
 use Rattle.ocf_types.specs.declared.outcome.RunEnd.TheVariants.{Done, TimedOut}
-use Rattle.resource_condition.specs.Conditions.{held_in}
+use Rattle.resource_status.specs.Conditions.{held_in}
 use Rattle.exec_metrics.specs.Labels.{label}
 use Rattle.exec_metrics.specs.Families.{header}
 use Rattle.exec_metrics.specs.Metrics.{samples}
 use Rattle.exec_metrics.specs.Samples.{bare}
-use Rattle.run_counts.specs.Counts.{no_runs}
+use Rattle.resource_status.specs.Counts.{no_runs}
 use Rattle.exec_metrics.specs.declared.family.Family.{Family}
 use Rattle.exec_metrics.specs.declared.family.Family.TheVariants as family
 

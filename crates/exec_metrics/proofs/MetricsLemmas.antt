@@ -8,14 +8,14 @@ use Rattle.exec_journal.specs.Opening.{OpensAt}
 use Rattle.exec_journal.specs.Position.{Position}
 use Rattle.exec_faults.specs.declared.fault.Fault.{Fault}
 use Rattle.exec_faults.specs.declared.fault.Fault.TheVariants as fault
-use Rattle.journal_measure.specs.RanOn.{HasCounts}
-use Rattle.journal_measure.specs.RecordedOn.{HasRecorded}
-use Rattle.journal_measure.specs.Sizes.{IsSize}
-use Rattle.journal_measure.specs.declared.measuring.Size.{Size}
-use Rattle.resource_condition.specs.Facts.{recorded_at}
-use Rattle.resource_condition.specs.declared.condition.Recorded.{Recorded}
-use Rattle.run_counts.specs.Counts.{count_at}
-use Rattle.run_counts.specs.declared.count.RunCount.{RunCount}
+use Rattle.journal_log.specs.RanOn.{HasCounts}
+use Rattle.journal_log.specs.RecordedOn.{HasRecorded}
+use Rattle.journal_log.specs.Sizes.{IsSize}
+use Rattle.journal_log.specs.declared.measuring.Size.{Size}
+use Rattle.resource_status.specs.Facts.{recorded_at}
+use Rattle.resource_status.specs.declared.condition.Recorded.{Recorded}
+use Rattle.resource_status.specs.Counts.{count_at}
+use Rattle.resource_status.specs.declared.count.RunCount.{RunCount}
 use Rattle.exec_metrics.specs.Metrics.{journal_families, measured, GoesOn, IsWritten, Measure, WritesAs, WritesFound}
 
 -- the measure by the maps of a measured journal

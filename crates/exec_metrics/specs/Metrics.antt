@@ -14,17 +14,17 @@ use Rattle.exec_metrics.specs.Samples.{age, age_of_monitor, age_sample, bare, bi
 use Rattle.exec_metrics.specs.declared.families.Taken.{Taken}
 use Rattle.exec_metrics.specs.declared.family.Family.{Family}
 use Rattle.exec_metrics.specs.declared.family.Family.TheVariants as family
-use Rattle.journal_measure.specs.RanOn.{RanOn}
-use Rattle.journal_measure.specs.RecordedOn.{FactsBy}
-use Rattle.journal_measure.specs.Sizes.{IsSize}
-use Rattle.journal_measure.specs.declared.measuring.Size.{Size}
+use Rattle.journal_log.specs.RanOn.{RanOn}
+use Rattle.journal_log.specs.RecordedOn.{FactsBy}
+use Rattle.journal_log.specs.Sizes.{IsSize}
+use Rattle.journal_log.specs.declared.measuring.Size.{Size}
 use Rattle.ocf_codes.specs.ExitCodes.{IsPlainText}
-use Rattle.resource_condition.specs.Conditions.{condition_by}
-use Rattle.resource_condition.specs.Facts.{FactOf, held_of, recorded_at}
-use Rattle.resource_condition.specs.declared.condition.Recorded.{Recorded}
-use Rattle.run_counts.specs.Counts.{count_at, tally}
-use Rattle.run_counts.specs.Runs.{Ran}
-use Rattle.run_counts.specs.declared.count.RunCount.{RunCount}
+use Rattle.resource_status.specs.Conditions.{condition_by}
+use Rattle.resource_status.specs.Facts.{FactOf, held_of, recorded_at}
+use Rattle.resource_status.specs.declared.condition.Recorded.{Recorded}
+use Rattle.resource_status.specs.Counts.{count_at, tally}
+use Rattle.resource_status.specs.Runs.{Ran}
+use Rattle.resource_status.specs.declared.count.RunCount.{RunCount}
 
 -- a moment, the size of a journal, the counts of each resource's runs, and what the records hold of each resource
 pub record Measure : Type 0 where

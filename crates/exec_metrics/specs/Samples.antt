@@ -6,10 +6,10 @@ use Rattle.ocf_types.specs.Actions.{action_word}
 use Rattle.ocf_types.specs.Outcomes.{outcome_code, outcome_word}
 use Rattle.ocf_types.specs.declared.operation.Ended.{Ended}
 use Rattle.ocf_types.specs.declared.operation.Recur.{Recur}
-use Rattle.resource_condition.specs.Conditions.{condition_word}
+use Rattle.resource_status.specs.Conditions.{condition_word}
 use Rattle.resource_status.specs.Results.{is_run, last_of}
-use Rattle.resource_condition.specs.declared.condition.Condition.{Condition}
-use Rattle.resource_condition.specs.declared.condition.Condition.TheVariants.{NeverRun, Started, Promoted, Stopped, Failed, Unknown}
+use Rattle.resource_status.specs.declared.condition.Condition.{Condition}
+use Rattle.resource_status.specs.declared.condition.Condition.TheVariants.{NeverRun, Started, Promoted, Stopped, Failed, Unknown}
 use Rattle.exec_metrics.specs.Families.{name}
 use Rattle.exec_metrics.specs.Labels.{label, next_label}
 use Rattle.exec_metrics.specs.declared.family.Family.{Family}

@@ -11,11 +11,10 @@ use crate::sample::{add_bare, add_plain, bit};
 use crate::states::add_states;
 use exec_state::State;
 use growth::Refused;
-use journal_measure::Measured;
+use journal_log::Measured;
 use line_text::LineText;
 use ocf_types::{Moment, StateView};
-use resource_condition::{condition_by, recorded_of};
-use run_counts::count_of;
+use resource_status::{condition_by, count_of, recorded_of};
 use std::alloc::Global;
 
 /// The moment at which metrics are taken, and the measure of the journal.

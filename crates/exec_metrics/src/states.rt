@@ -7,7 +7,7 @@ use crate::label::add_next_label;
 use crate::sample::{begin, bit, finish};
 use line_text::LineText;
 use ocf_types::RscId;
-use resource_condition::Condition;
+use resource_status::Condition;
 
 fn is_same(is: Condition, condition: Condition) -> bool
     ensures { result ≡ is_same is condition }

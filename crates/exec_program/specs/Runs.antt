@@ -17,7 +17,7 @@ use Rattle.exec_faults.specs.declared.fault.Fault.{Fault}
 use Rattle.exec_faults.specs.declared.fault.Fault.TheVariants as fault
 use Rattle.exec_session.specs.Ends.{ClosesByCalls}
 use Rattle.exec_client.specs.ClientView.{ClientView}
-use Rattle.exec_events.specs.Failures.{tell_failure}
+use Rattle.exec_client.specs.Failures.{tell_failure}
 use Rattle.exec_host.specs.Asked.{AreFresh, Asked, System}
 use Rattle.exec_host.specs.Limits.{book_room}
 use Rattle.exec_host.specs.declared.lines.LineParts.{LineParts}

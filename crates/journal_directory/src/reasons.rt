@@ -1,5 +1,5 @@
 //! Reasons of failures, as agents wrote them to their logs.
-use exit_reasons::{Tail, last_reason};
+use agent_logs::{Tail, last_reason};
 use ocf_types::RscId;
 use process_ends::System;
 use status_report::Remark;

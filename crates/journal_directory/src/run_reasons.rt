@@ -3,7 +3,7 @@ use crate::bytes::{around_first, around_last};
 use crate::headings::BEGINS;
 use crate::reasons::{LogTail, followed_tail, log_of, tail_at};
 use crate::shared_log::SharedLog;
-use exit_reasons::{Tail, last_reason};
+use agent_logs::{Tail, last_reason};
 use ocf_types::RscId;
 use std::alloc::Global;
 use std::io;

@@ -1,2 +1,9 @@
 pub mod ResultLemmas
 pub mod StatusLemmas
+pub mod Tallies
+pub mod Since
+pub mod RunExamples
+pub mod ConditionExamples
+pub mod ConditionLemmas
+pub mod FactLemmas
+pub mod LawLemmas

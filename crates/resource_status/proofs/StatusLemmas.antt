@@ -8,9 +8,9 @@ use Rattle.serde_json.specs.Written.{has_float}
 use Rattle.ocf_types.specs.Resource.{Resource}
 use Rattle.ocf_types.specs.declared.operation.Ended.{Ended}
 use Rattle.ocf_types.specs.declared.operation.Running.{Running}
-use Rattle.resource_condition.specs.Conditions.{since_of}
+use Rattle.resource_status.specs.Conditions.{since_of}
 use Rattle.resource_status.specs.Statuses.{doing_data, failure_data, reason_data, resource_data, since_data}
-use Rattle.resource_condition.specs.declared.condition.Since.{Since}
+use Rattle.resource_status.specs.declared.condition.Since.{Since}
 
 pub reason_no_float : (reason : Option (List ℕ)) → has_float (reason_data reason) ≡ false
 reason_no_float None = refl

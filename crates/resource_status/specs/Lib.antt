@@ -2,3 +2,8 @@ pub mod Meanings
 pub mod Reasons
 pub mod Results
 pub mod Statuses
+pub mod Runs
+pub mod Counts
+pub mod Conditions
+pub mod Facts
+pub mod Laws

@@ -9,8 +9,8 @@ use Rattle.ocf_types.specs.declared.operation.Ended.{Ended}
 use Rattle.ocf_types.specs.declared.operation.Running.{Running}
 use Rattle.ocf_codes.specs.ExitCodes.{name_read}
 use Rattle.exec_replies.specs.Objects.{natural_data, object_from}
-use Rattle.resource_condition.specs.Conditions.{condition_of, condition_word, since_of}
-use Rattle.resource_condition.specs.declared.condition.Since.{Since}
+use Rattle.resource_status.specs.Conditions.{condition_of, condition_word, since_of}
+use Rattle.resource_status.specs.declared.condition.Since.{Since}
 use Rattle.resource_status.specs.Reasons.{reason_of}
 use Rattle.resource_status.specs.declared.reasons.RunReason.{RunReason}
 

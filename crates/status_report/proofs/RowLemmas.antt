@@ -3,7 +3,7 @@ use Rattle.std.proofs.Common.{◌≡◌, ℕ, ◌+◌, ◌<◌, ◌++◌, List, 
 use Rattle.std.proofs.lemmas.List.{map_more}
 use Rattle.ocf_types.specs.Indexes.{entry_at, no_entry}
 use Rattle.ocf_types.specs.State.{State}
-use Rattle.resource_condition.specs.declared.condition.Recorded.{Recorded}
+use Rattle.resource_status.specs.declared.condition.Recorded.{Recorded}
 use Rattle.status_report.specs.Rows.{row_of}
 use Rattle.status_report.specs.declared.options.StatusOptions.{StatusOptions}
 use Rattle.status_report.specs.declared.rows.Row.{Row}

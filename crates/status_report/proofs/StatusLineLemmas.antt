@@ -3,7 +3,7 @@ use Rattle.std.proofs.Common.{◌≡◌, Bool, false, Option, Some, None, refl}
 use Rattle.std.specs.Prelude.{option_map}
 use Rattle.serde_json.specs.Written.{has_float}
 use Rattle.ocf_types.specs.declared.operation.Running.{Running}
-use Rattle.resource_condition.specs.declared.condition.Since.{Since}
+use Rattle.resource_status.specs.declared.condition.Since.{Since}
 use Rattle.resource_status.proofs.StatusLemmas.{failure_no_float, reason_no_float}
 use Rattle.status_report.specs.Remarks.{reason_of, wait_of}
 use Rattle.status_report.specs.StatusLines.{executor_data, running_data, since_data, status_data}

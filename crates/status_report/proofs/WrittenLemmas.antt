@@ -9,8 +9,8 @@ use Rattle.exec_journal.specs.Opening.{FailsToOpen, OpensAt}
 use Rattle.exec_journal.specs.Position.{Position}
 use Rattle.exec_journal.specs.declared.fault.JournalFault.{JournalFault}
 use Rattle.exec_journal.specs.declared.fault.JournalFault.TheVariants as journal
-use Rattle.journal_measure.specs.RecordedOn.{HasRecorded}
-use Rattle.resource_condition.specs.declared.condition.Recorded.{Recorded}
+use Rattle.journal_log.specs.RecordedOn.{HasRecorded}
+use Rattle.resource_status.specs.declared.condition.Recorded.{Recorded}
 use Rattle.exec_faults.specs.Faults.{IsRunEnd, opening_fault}
 use Rattle.exec_faults.specs.declared.fault.Fault.{Fault}
 use Rattle.exec_faults.specs.declared.fault.Fault.TheVariants as fault

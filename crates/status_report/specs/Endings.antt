@@ -8,8 +8,8 @@ use Rattle.ocf_types.specs.State.{State}
 use Rattle.disk_model.specs.Image.{Image}
 use Rattle.exec_journal.specs.Found.{FoundAs, HasDamage}
 use Rattle.two_parts.specs.declared.damage.Damage.{Damage}
-use Rattle.journal_measure.specs.RecordedOn.{HasRecorded}
-use Rattle.resource_condition.specs.declared.condition.Recorded.{Recorded}
+use Rattle.journal_log.specs.RecordedOn.{HasRecorded}
+use Rattle.resource_status.specs.declared.condition.Recorded.{Recorded}
 use Rattle.exec_faults.specs.declared.fault.Fault.{Fault}
 use Rattle.exec_faults.specs.declared.fault.Fault.TheVariants as fault
 use Rattle.status_report.specs.Rows.{is_any_bad, is_left, rows_of}

@@ -5,10 +5,10 @@ use Rattle.std.specs.Borrow.{Bor}
 use Rattle.std.specs.Str.{bytes_eq}
 use Rattle.ocf_types.specs.Resource.{Resource}
 use Rattle.ocf_types.specs.State.{State}
-use Rattle.resource_condition.specs.Conditions.{condition_by, is_bad, since_by}
-use Rattle.resource_condition.specs.Facts.{recorded_at}
-use Rattle.resource_condition.specs.declared.condition.Condition.{Condition}
-use Rattle.resource_condition.specs.declared.condition.Recorded.{Recorded}
+use Rattle.resource_status.specs.Conditions.{condition_by, is_bad, since_by}
+use Rattle.resource_status.specs.Facts.{recorded_at}
+use Rattle.resource_status.specs.declared.condition.Condition.{Condition}
+use Rattle.resource_status.specs.declared.condition.Recorded.{Recorded}
 use Rattle.status_report.specs.declared.options.StatusOptions.{StatusOptions}
 use Rattle.status_report.specs.declared.rows.Row.{Row}
 

@@ -8,9 +8,9 @@ use Rattle.ocf_types.specs.Actions.{action_word}
 use Rattle.ocf_types.specs.State.{State}
 use Rattle.ocf_types.specs.declared.operation.Running.{Running}
 use Rattle.exec_replies.specs.Objects.{natural_data, object_from}
-use Rattle.resource_condition.specs.Conditions.{condition_word}
+use Rattle.resource_status.specs.Conditions.{condition_word}
 use Rattle.resource_status.specs.Statuses.{failure_data, reason_data}
-use Rattle.resource_condition.specs.declared.condition.Since.{Since}
+use Rattle.resource_status.specs.declared.condition.Since.{Since}
 use Rattle.status_report.specs.Remarks.{reason_of, wait_of}
 use Rattle.status_report.specs.Shown.{resource_lines, shown}
 use Rattle.status_report.specs.declared.options.StatusOptions.{StatusOptions}

@@ -10,8 +10,7 @@ use exec_state::State;
 use line_text::LineText;
 use ocf_codes::{Code, read_code};
 use ocf_types::{Action, Ended, Outcome, Recur, RunEnd, StateView};
-use resource_condition::Condition;
-use resource_status::{last_run, meaning};
+use resource_status::{Condition, last_run, meaning};
 use std::alloc::Global;
 
 // The columns for the name of a line: those of the longest action, and one more. A space follows them.

@@ -5,8 +5,7 @@ use line_text::LineText;
 use log_lines::add_moment;
 use ocf_codes::{code_of, name_of};
 use ocf_types::{Action, Ended, Millis, Moment, Outcome, Running};
-use resource_condition::{Condition, Since};
-use resource_status::{Tone, failure_meaning, meaning, tone_of};
+use resource_status::{Condition, Since, Tone, failure_meaning, meaning, tone_of};
 use std::alloc::Global;
 
 // A moment that is ahead by less counts as now, since the two clocks are read one after the other. In milliseconds.

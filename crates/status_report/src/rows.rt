@@ -7,7 +7,7 @@ use crate::options::StatusOptions;
 use exec_state::State;
 use growth::{Refused, push};
 use ocf_types::{Ended, RscId, Running, StateView};
-use resource_condition::{Condition, RecordedById, Since, condition_by, recorded_of, since_by};
+use resource_status::{Condition, RecordedById, Since, condition_by, recorded_of, since_by};
 use std::alloc::Global;
 
 /// What is shown of a resource.

@@ -5,7 +5,7 @@ ghost use Rattle.disk_model.specs.Disk.{Increased};
 ghost use Rattle.exec_journal.specs.Found.{FoundAs};
 ghost use Rattle.exec_journal.specs.Opening.{Opens};
 ghost use Rattle.exec_faults.specs.Faults.{HasCause, IsRunEnd};
-ghost use Rattle.journal_measure.specs.RecordedOn.{HasRecorded};
+ghost use Rattle.journal_log.specs.RecordedOn.{HasRecorded};
 ghost use Rattle.status_report.specs.Endings.{EndsWith, IsWritten, WritesAs};
 ghost use Rattle.status_report.specs.StatusLines.{IsText};
 
@@ -20,9 +20,8 @@ use exec_journal::Journal;
 use exec_lines::write_flushed;
 use exec_state::State;
 use growth::Grows;
-use journal_log::LogFault;
-use journal_measure::measure;
-use resource_condition::RecordedById;
+use journal_log::{LogFault, measure};
+use resource_status::RecordedById;
 use std::alloc::Global;
 use std::io::Write;
 

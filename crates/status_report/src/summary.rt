@@ -5,7 +5,7 @@ use crate::rows::Row;
 use exec_state::State;
 use line_text::LineText;
 use ocf_types::{Moment, StateView};
-use resource_condition::Condition;
+use resource_status::Condition;
 use std::alloc::Global;
 
 // The conditions, in the order in which they are counted.

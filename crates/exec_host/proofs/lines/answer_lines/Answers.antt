@@ -2,7 +2,7 @@ use Rattle.std.proofs.Common.{◌∙◌, ℕ, List, Option, option_map, inl, inr
 use Rattle.ocf_env.specs.Locations.{SiteView}
 use Rattle.exec_replies.specs.JournalIds.{id_digits}
 use Rattle.exec_client.specs.ClientView.{ClientView}
-use Rattle.exec_events.specs.Failures.{tell_failure}
+use Rattle.exec_client.specs.Failures.{tell_failure}
 use Rattle.exec_host.specs.Requests.{AskIdentity, AskSite, OpenWriter, StartClock}
 use Rattle.exec_host.proofs.LineLemmas.{held_of, lent_digits}
 use Rattle.exec_host.proofs.lines.answer_lines.Goals as goal

@@ -1,6 +1,6 @@
 use Rattle.std.proofs.Common.{rules, ◌≡◌, ◌++◌, ap, ap₂, sym, ◌∙◌}
 use Rattle.ocf_types.specs.Indexes.{entry_at}
-use Rattle.resource_condition.specs.Conditions.{condition_by}
+use Rattle.resource_status.specs.Conditions.{condition_by}
 use Rattle.exec_metrics.specs.Metrics.{measure_of, samples}
 use Rattle.exec_metrics.specs.Samples.{state_samples}
 use Rattle.exec_metrics.specs.declared.family.Family.{Family}

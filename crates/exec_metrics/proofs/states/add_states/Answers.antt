@@ -1,6 +1,6 @@
 use Rattle.std.proofs.Common.{◌++◌, refl}
 use Rattle.exec_metrics.specs.Samples.{state_sample}
-use Rattle.resource_condition.specs.declared.condition.Condition.TheVariants.{NeverRun, Started, Promoted, Stopped, Failed, Unknown}
+use Rattle.resource_status.specs.declared.condition.Condition.TheVariants.{NeverRun, Started, Promoted, Stopped, Failed, Unknown}
 use Rattle.exec_metrics.proofs.TextLemmas.{after}
 use Rattle.exec_metrics.proofs.states.add_states.Goals as goal
 

@@ -2,9 +2,9 @@ use Rattle.std.proofs.Common.{sym, subst}
 use Rattle.disk_model.specs.Image.{Image}
 use Rattle.exec_journal.proofs.Openings.{opens_on, unwritten_opens}
 use Rattle.exec_journal.specs.Found.{FoundAs}
-use Rattle.journal_measure.specs.RanOn.{HasCounts}
-use Rattle.journal_measure.specs.RecordedOn.{HasRecorded}
-use Rattle.journal_measure.specs.Sizes.{IsSize}
+use Rattle.journal_log.specs.RanOn.{HasCounts}
+use Rattle.journal_log.specs.RecordedOn.{HasRecorded}
+use Rattle.journal_log.specs.Sizes.{IsSize}
 use Rattle.exec_metrics.specs.Metrics.{WritesAs}
 use Rattle.exec_metrics.proofs.writing.metrics.Goals as goal
 

@@ -2,7 +2,7 @@ use Rattle.std.proofs.Common.{inl, inr, refl, sym, subst}
 use Rattle.disk_model.specs.Image.{Image}
 use Rattle.exec_journal.proofs.Openings.{opens_on, unwritten_opens}
 use Rattle.exec_journal.specs.Found.{FoundAs}
-use Rattle.journal_measure.specs.RecordedOn.{HasRecorded}
+use Rattle.journal_log.specs.RecordedOn.{HasRecorded}
 use Rattle.status_report.specs.Endings.{WritesAs}
 use Rattle.status_report.proofs.statuses.status.Goals as goal
 

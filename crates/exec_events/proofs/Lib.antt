@@ -1,2 +1,0 @@
-pub mod EventLemmas
-pub mod FailureLemmas

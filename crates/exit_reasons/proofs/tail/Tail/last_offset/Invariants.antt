@@ -1,8 +1,0 @@
-use Rattle.std.proofs.Common.{◌≡◌, ◌≤◌, ◌+◌, length, IfSome}
-use Rattle.std.specs.List.{range_with_len}
-use Rattle.exit_reasons.specs.Reasons.{last_of, reason_word}
-use Rattle.exit_reasons.proofs.tail.Tail.last_offset.Given as goal
-
-abbrev pub invariant-loop-at : goal.invariant-loop-at
-invariant-loop-at l =
-    (l.last ≡ last_of l.self (range_with_len 0 l.at)) × IfSome l.last (λ at. at + length reason_word ≤ length l.self.bytes.now)

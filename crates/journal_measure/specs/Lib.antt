@@ -1,4 +1,0 @@
-pub mod Sizes
-pub mod RanOn
-pub mod RecordedOn
-pub mod Tallied

@@ -1,3 +1,0 @@
-pub mod ColonLemmas
-pub mod MemberLemmas
-pub mod CountLemmas

@@ -1,4 +1,0 @@
-pub mod ConditionExamples
-pub mod ConditionLemmas
-pub mod FactLemmas
-pub mod LawLemmas

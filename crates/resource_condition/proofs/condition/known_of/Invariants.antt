@@ -1,7 +1,0 @@
-use Rattle.std.proofs.Common.{◌≡◌, take}
-use Rattle.ocf_types.specs.Indexes.{at_index}
-use Rattle.resource_condition.specs.Conditions.{known_of}
-use Rattle.resource_condition.proofs.condition.known_of.Given as goal
-
-abbrev pub invariant-loop-at : goal.invariant-loop-at
-invariant-loop-at l = l.known ≡ known_of (take l.at (at_index l.state.state l.index).history.ended)

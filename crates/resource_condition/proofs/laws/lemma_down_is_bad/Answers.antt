@@ -1,5 +1,0 @@
-use Rattle.resource_condition.proofs.LawLemmas.{down_is_bad}
-use Rattle.resource_condition.proofs.laws.lemma_down_is_bad.Goals as goal
-
-pub returns : goal.returns
-returns c = down_is_bad

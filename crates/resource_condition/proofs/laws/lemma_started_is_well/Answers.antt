@@ -1,5 +1,0 @@
-use Rattle.resource_condition.proofs.LawLemmas.{started_is_well}
-use Rattle.resource_condition.proofs.laws.lemma_started_is_well.Goals as goal
-
-pub returns : goal.returns
-returns c = started_is_well

@@ -1,7 +1,0 @@
-use Rattle.std.proofs.Common.{sym, ◌∙◌}
-use Rattle.run_counts.proofs.Since.{alone_at}
-use Rattle.run_counts.proofs.ends.index_alone.Goals as goal
-
-pub returns-in-Some-clause-others : goal.returns-in-Some-clause-others
-returns-in-Some-clause-others c =
-    alone_at c.args.state.now.state c.args.id.now c.in-Some.index c.lemma_known.ensures.lawful.ids (sym c.index_of.ensures ∙ c.in-Some.is)
