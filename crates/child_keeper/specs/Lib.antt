@@ -1,5 +1,3 @@
-pub mod Scripts
-pub mod Scripted
 pub mod Agents
 pub mod Keepers
 pub mod Openings

@@ -1,6 +1,6 @@
 //! Two machines, one after the other: the first crashes in each device call in turn, and the second is opened on a crash image.
 use crate::steps::{nowhere, registration};
-use child_keeper::{Script, Scripted};
+use test_support::{Script, Scripted};
 use disk_model::Fill;
 use executor::{Input, InputOf};
 use ocf_types::{

@@ -1,5 +1,5 @@
 //! Executors that spawn nothing, and a registration by one.
-use child_keeper::{Script, Scripted};
+use test_support::{Script, Scripted};
 use disk_model::Disk;
 use executor::{Executor, OpenError};
 use ocf_env::{Site, Text};

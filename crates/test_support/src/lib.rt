@@ -3,9 +3,13 @@
 #![tactic(auto)]
 
 mod clock;
+mod drawn_agents;
 mod metadata;
+mod script;
 mod scripted;
 
 pub use clock::MovedClock;
+pub use drawn_agents::{agents, no_agents, nowhere};
 pub use metadata::NoMetadata;
-pub use scripted::{agents, no_agents, nowhere};
+pub use script::Script;
+pub use scripted::Scripted;

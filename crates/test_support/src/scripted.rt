@@ -1,95 +1,205 @@
-//! Scripted agent processes.
-use anyhow::Result;
-use child_keeper::{Script, Scripted};
-use child_model::Poll;
-use ocf_env::{Site, Text};
-use ocf_types::StartFault;
-use std::alloc::Global;
+//! Simulated agent processes that answer by a script.
+ghost use Rattle.std.specs.Prelude.{◌≡◌, ◌-◌, ◌<◌, ◌==◌, ◌≤◌, [], Contains, IfOk, IsTrue, None, OnErr, drop, length};
+ghost use Rattle.std.specs.VecDeque.{deque_items};
+ghost use Rattle.child_model.specs.Children.{AllEnded, Ended, after_ends, after_kill, after_poll, after_start, all_ended, live_limit};
+ghost use Rattle.child_model.specs.MayStart.{MayStart};
+ghost use Rattle.test_support.specs.Scripts.{head_or, killed_on, next_kill, next_poll, next_start, polled_on, started_on};
+
+use crate::script::Script;
+use child_keeper::{Book, LiveRuns};
+use child_model::{Answer, Children, Entry, KillFault, Poll};
+use growth::{GROWTH_LIMIT, Grows};
+use ocf_env::Launch;
+use ocf_types::{RscId, RunId, StartFault};
+use std::alloc::{AllocError, Allocator, Global};
 use std::collections::VecDeque;
+use store_model::Store;
 
-// The number of spawns and polls that are drawn. After them every spawn succeeds, and every agent process keeps running.
-const DRAWS: usize = 16_384;
-
-// The number of polls at which a slow agent process is still running.
-const SLOW: usize = 100;
-
-// Three entries for each of 256 resources.
-const BOOK: usize = 768;
-
-// Pseudo-random numbers from a seed, by Knuth's linear congruential generator of MMIX.
+/// Agent processes that answer what a script says; nothing is spawned. After `new` they allocate nothing.
 #[derive(Drop)]
-struct Dice {
-    state: u64,
+pub struct Scripted<A: Allocator = Global> {
+    script: Script<A>,
+    fault_in: u64,
+    book: Book<A>,
+    live: LiveRuns<A>,
+    last_run: u64,
 }
 
-impl Dice {
-    // A number from 0 to 255.
-    fn roll(&mut self) -> u8 {
-        self.state = self
-            .state
-            .wrapping_mul(6_364_136_223_846_793_005)
-            .wrapping_add(1_442_695_040_888_963_407);
-        (self.state >> 56) as u8
+impl<A: Grows> Scripted<A> {
+    ghost use Rattle.test_support.specs.Scripted.{children_of, planned_in, script_of, script_view};
+
+    /// Agent processes that answer by a script, with a book of this many entries. It fails where memory is refused, and for a book
+    /// of more than [`GROWTH_LIMIT`] entries.
+    pub fn new(alloc: A, script: Script<A>, book: usize) -> Result<Scripted<A>, AllocError>
+        ensures children { IfOk result
+            (λ c. children_of c ≡ record { book = []; log = []; room = book; last_run = 0; live = []; given_up = []; held = deque_items script.holds; site = None }) }
+        ensures script { IfOk result (λ c. script_of c ≡ script_view script) }
+        ensures memory { OnErr result (book ≤ GROWTH_LIMIT → IsTrue A.refuses) }
+    {
+        Ok(Scripted {
+            script,
+            fault_in: 0,
+            book: Book::new(alloc, book)?,
+            live: LiveRuns::new(alloc)?,
+            last_run: 0,
+        })
+    }
+
+    /// The start, poll or kill that is this many calls ahead, 1 for the next one, will fail; 0 cancels the plan. The call still
+    /// consumes the next answer of its list.
+    pub fn plan_fault(&mut self, calls: u64)
+        ensures planned { script_of self.new ≡ planned_in calls (script_of self.old) }
+        ensures children { children_of self.new ≡ children_of self.old }
+    {
+        self.fault_in = calls;
+    }
+
+    // Counts a call, and returns whether it is to fail.
+    fn faults(&mut self) -> bool
+        ensures counted { self.new ≡ record self.old { fault_in = self.old.fault_in - 1 } }
+        ensures value { result ≡ (self.old.fault_in == 1) }
+    {
+        let faults = self.fault_in == 1;
+        self.fault_in = self.fault_in.saturating_sub(1);
+        faults
     }
 }
 
-fn empty_script(alloc: Global) -> Script {
-    Script {
-        starts: VecDeque::new(alloc),
-        polls: VecDeque::new(alloc),
-        kills: VecDeque::new(alloc),
-        holds: VecDeque::new(alloc),
+// Takes the next answer from a list: `last` after its end.
+fn next_of<T: Drop, A: Allocator>(list: &mut VecDeque<T, A>, last: T) -> T
+    ensures value { result ≡ head_or last (deque_items list.old) }
+    ensures rest { deque_items list.new ≡ drop 1 (deque_items list.old) }
+{
+    list.pop_front().unwrap_or(last)
+}
+
+impl<A: Allocator + Copy> Children for Scripted<A> {
+    ghost use Rattle.test_support.specs.Scripted.{children_of, script_of};
+
+    ghost view = { children_of };
+
+    fn start<S: Store, L: Allocator>(
+        &mut self,
+        store: &S,
+        launch: &Launch<L>,
+    ) -> Result<(), StartFault>
+        requires room { 0 < (children_of self.old).room }
+        requires few { length (children_of self.old).live < live_limit }
+        requires rising { (children_of self.old).last_run < launch.now.run }
+        requires ended { (children_of self.old).given_up ≡ [] }
+        requires may_start { MayStart (children_of self.old).site (S.view store.now) launch.now }
+        ensures started { children_of self.new
+            ≡ after_start (children_of self.old) launch.now.run
+            (S.view store.now).clock result }
+        ensures scripted { result ≡ next_start (script_of self.old) }
+        ensures goes_on { script_of self.new ≡ started_on (script_of self.old) }
+    {
+        let faults = self.faults();
+        let scripted = next_of(&mut self.script.starts, Ok(()));
+        let answer = if faults {
+            Err(StartFault::Other)
+        } else {
+            scripted
+        };
+        let run = launch.run;
+        self.book.note(Entry {
+            run,
+            at: store.clock(),
+            answer: Answer::Start(answer),
+        });
+        if answer.is_ok() {
+            self.live.add(run);
+        }
+        self.last_run = run.get();
+        answer
     }
-}
 
-fn start_of(roll: u8) -> Result<(), StartFault> {
-    match roll {
-        0 => Err(StartFault::Missing),
-        1 => Err(StartFault::Denied),
-        2 => Err(StartFault::Other),
-        _ => Ok(()),
+    fn poll(&mut self, run: RunId) -> Poll
+        requires room { 0 < (children_of self.old).room }
+        requires lives { Contains (children_of self.old).live run }
+        ensures polled { children_of self.new ≡ after_poll (children_of self.old) run result }
+        ensures scripted { result ≡ next_poll (script_of self.old) }
+        ensures goes_on { script_of self.new ≡ polled_on (script_of self.old) }
+    {
+        let faults = self.faults();
+        let scripted = next_of(&mut self.script.polls, Poll::Running);
+        let answer = if faults { Poll::Fault } else { scripted };
+        self.book.note(Entry {
+            run,
+            at: 0,
+            answer: Answer::Poll(answer),
+        });
+        match answer {
+            Poll::Running => {}
+            Poll::Fault => self.live.give_up(run),
+            _ => self.live.remove(run),
+        }
+        answer
     }
-}
 
-// The result of a poll, and how often it is repeated.
-fn poll_of(roll: u8) -> (Poll, usize) {
-    match roll {
-        0..=1 => (Poll::Running, SLOW),
-        2..=40 => (Poll::Running, 1),
-        41..=50 => (Poll::Exited(7), 1),
-        51..=53 => (Poll::Exited(1), 1),
-        54 => (Poll::Signaled(9), 1),
-        55 => (Poll::Fault, 1),
-        _ => (Poll::Exited(0), 1),
+    fn kill(&mut self, run: RunId) -> Result<(), KillFault>
+        requires room { 0 < (children_of self.old).room }
+        requires lives { Contains (children_of self.old).live run }
+        ensures killed { children_of self.new ≡ after_kill (children_of self.old) run result }
+        ensures scripted { result ≡ next_kill (script_of self.old) }
+        ensures goes_on { script_of self.new ≡ killed_on (script_of self.old) }
+    {
+        let faults = self.faults();
+        let scripted = next_of(&mut self.script.kills, Ok(()));
+        let answer = if faults { Err(KillFault) } else { scripted };
+        self.book.note(Entry {
+            run,
+            at: 0,
+            answer: Answer::Kill(answer),
+        });
+        self.live.give_up(run);
+        answer
     }
-}
 
-fn push_poll(polls: &mut VecDeque<Poll>, roll: u8) -> Result<()> {
-    let (poll, times) = poll_of(roll);
-    for _ in 0..times {
-        polls.push_back(poll)?;
+    fn end_killed(&mut self)
+        ensures ended { Ended (children_of self.old) (children_of self.new) }
+        ensures released { children_of self.new
+            ≡ after_ends (children_of self.old) (drop 1 (children_of self.old).held) }
+        ensures script { script_of self.new ≡ script_of self.old }
+    {
+        self.live.forget_given_up();
+        let _ = self.script.holds.pop_front();
     }
-    Ok(())
-}
 
-/// Agent processes whose spawns and ends follow from a seed: most are spawned and succeed.
-pub fn agents(alloc: Global, seed: u64) -> Result<Scripted> {
-    let mut dice = Dice { state: seed };
-    let mut script = empty_script(alloc);
-    for _ in 0..DRAWS {
-        script.starts.push_back(start_of(dice.roll()))?;
-        push_poll(&mut script.polls, dice.roll())?;
+    fn give_up_all(&mut self)
+        ensures ended { AllEnded (children_of self.old) (children_of self.new) }
+        ensures held { children_of self.new
+            ≡ all_ended (children_of self.old) (children_of self.old).held }
+        ensures script { script_of self.new ≡ script_of self.old }
+    {
+        self.live.clear();
     }
-    Ok(Scripted::new(alloc, script, BOOK)?)
-}
 
-/// Agent processes that are spawned and keep running.
-pub fn no_agents(alloc: Global) -> Result<Scripted> {
-    Ok(Scripted::new(alloc, empty_script(alloc), BOOK)?)
-}
+    fn clear_book(&mut self) {
+        self.book.clear();
+    }
 
-/// Empty agent paths: there are no agents.
-pub fn nowhere(alloc: Global) -> Site {
-    let (root, path) = (String::new(alloc), String::new(alloc));
-    Site::new(Text::new(root), Text::new(path), None)
+    fn last_run(&self) -> u64 {
+        self.last_run
+    }
+
+    fn book(&self) -> &[Entry] {
+        self.book.entries.as_slice()
+    }
+
+    fn room(&self) -> usize {
+        self.book.room
+    }
+
+    fn holds(&self, id: &RscId) -> bool {
+        self.script.holds.iter().any(|held| held == id)
+    }
+
+    fn is_live(&self, run: RunId) -> bool {
+        self.live.contains(run)
+    }
+
+    fn live_count(&self) -> usize {
+        self.live.runs.len()
+    }
 }
