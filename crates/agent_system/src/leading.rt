@@ -29,11 +29,6 @@ impl<A: Allocator> Leading<A> {
             Leading::Nothing => None,
         }
     }
-
-    /// Whether that program waits for a byte on its standard input.
-    pub fn has_gate(&self) -> bool {
-        matches!(self, Leading::Launcher(_))
-    }
 }
 
 fn launcher_in<A: Grows>(alloc: A, directory: &str) -> Result<String<A>, Refused<A>> {

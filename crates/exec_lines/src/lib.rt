@@ -30,7 +30,7 @@ pub use line_input::LineInput;
 pub use moment::{moment_now, moment_of};
 pub use output::Output;
 pub use patient::Patient;
-pub use put::{put_bytes, put_flushed};
+pub use put::put_bytes;
 pub use read_ahead::ReadAhead;
 pub use reply::{write_bytes, write_flushed};
 pub use session_clock::SessionClock;

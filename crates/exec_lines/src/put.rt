@@ -23,17 +23,3 @@ pub fn put_bytes<W: Output>(writer: &mut W, bytes: &[u8]) -> io::Result<()>
     }
     Ok(())
 }
-
-/// Puts the bytes and flushes, so that after `Ok` the system has them. After an error, which only a failed write or flush causes, a
-/// prefix of them is put.
-pub fn put_flushed<W: Output>(writer: &mut W, bytes: &[u8]) -> io::Result<()>
-    ensures written { OnOk result
-        (Appends (W.contents writer.old) (W.contents writer.new) bytes.now) }
-    ensures flushed { OnOk result (IsTrue (W.flushed writer.new)) }
-    ensures prefix { OnErr result
-        (AppendsPrefix (W.contents writer.old) (W.contents writer.new) bytes.now) }
-    ensures breaks { OnErr result (IsTrue (W.broke writer.new)) }
-{
-    put_bytes(writer, bytes)?;
-    writer.flush_out()
-}

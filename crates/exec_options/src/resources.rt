@@ -44,12 +44,4 @@ impl<'a> Resources<'a> {
     pub fn asks_for(&self, id: &str) -> bool {
         self.is_empty() || self.ids().iter().any(|named| *named == id)
     }
-
-    /// The resource, if exactly one is named.
-    pub fn single(&self) -> Option<&'a str> {
-        match self.ids() {
-            [id] => Some(*id),
-            _ => None,
-        }
-    }
 }
