@@ -18,7 +18,7 @@ ghost use Rattle.exec_replies.specs.declared.reply.LineReply.TheVariants as answ
 use crate::flow::Flow;
 use crate::gathered::Gathered;
 use crate::held::Held;
-use crate::room::{make_room, tidy_timed};
+use crate::room::make_room;
 use crate::session::Session;
 use child_model::Children;
 use exec_client::Message;
@@ -126,7 +126,7 @@ impl<E: Edge + Drop> Session<E> {
         ensures steps { Steps self.old self.new result }
         ensures answered { OnOk result (HasAnswered self.old.trace self.new.trace []) }
     {
-        let end = tidy_timed(&self.edge, &mut self.pace, &mut self.executor);
+        let end = self.executor.tidy();
         self.edge.note_tidy(&self.executor, end);
         self.reply(&LineReply::Tidy(end))
     }

@@ -78,8 +78,8 @@ fn is_tidy_due<S: Store + Drop, C: Children + Drop>(
     SECOND_MARK < tail || is_at_leisure(executor, now, pace * pieces(executor))
 }
 
-/// Tidies the store, and records how long a piece of that took.
-pub fn tidy_timed<E: Edge + Drop>(
+// Tidies the store, and records how long a piece of that took.
+fn tidy_timed<E: Edge + Drop>(
     edge: &E,
     pace: &mut Pace,
     executor: &mut On<E::Store, E::Children>,
@@ -88,7 +88,7 @@ pub fn tidy_timed<E: Edge + Drop>(
 {
     let pieces = pieces(executor);
     let begun = edge.micros();
-    let end = executor.tidy();
+    let end = executor.tidy_at_once();
     pace.took(edge.micros().saturating_sub(begun) / MILLI, pieces);
     end
 }

@@ -1,0 +1,10 @@
+//! When a snapshot is made durable.
+
+/// When the pieces of a snapshot are made durable.
+#[derive(Clone, Copy, Debug, PartialEq, Eq)]
+pub enum SnapshotSync {
+    /// Each before the next one is written.
+    EachPiece,
+    /// All of them, after the last one.
+    AtEnd,
+}
