@@ -7,6 +7,7 @@ ghost use Rattle.exec_commands.specs.Served.{IsServedAs, line_in, served_line};
 ghost use Rattle.exec_commands.specs.Tags.{IsTaggedAs, tag_of};
 ghost use Rattle.exec_commands.specs.Twice.{HasKeyTwice};
 
+use crate::counts::has_key_twice;
 use crate::line::{Line, Served};
 use crate::read::value_of;
 use crate::refused::About;
@@ -14,7 +15,6 @@ use crate::served::{refused_line, served_line};
 use crate::tag::tag_of;
 use growth::{Grows, Refused};
 use json::{Error, Scratch, Value};
-use crate::counts::has_key_twice;
 use ocf_types::Refusal;
 use std::alloc::Global;
 use std::str;

@@ -120,7 +120,12 @@ pub fn serve_agents<H: Host, D: Disk + ReportsError + Drop>(
     match Executor::open(host.alloc(), disk, agents, own, now) {
         Ok(opened) => served(host, options, parts, &watch, opened),
         Err(fault) => {
-            let ended = report_failed_device(host, options, &fault.disk, Err(opening_fault(fault.why)));
+            let ended = report_failed_device(
+                host,
+                options,
+                &fault.disk,
+                Err(opening_fault(fault.why)),
+            );
             (fault.disk, ended)
         }
     }

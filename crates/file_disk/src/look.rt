@@ -123,10 +123,7 @@ pub(crate) fn examined<R: Files<File = File>, A: Allocator + Copy>(
 }
 
 // Refuses a pair of which one file is gone, by the bytes that were read of both.
-fn refuse_lost<A: Allocator + Copy>(
-    a: &PartCopy<A>,
-    b: &PartCopy<A>,
-) -> Result<(), OpenFault> {
+fn refuse_lost<A: Allocator + Copy>(a: &PartCopy<A>, b: &PartCopy<A>) -> Result<(), OpenFault> {
     let there = if a.bytes.is_empty() { b } else { a };
     match refuse_loss(a.entry(), b.entry()) {
         Ok(()) => Ok(()),

@@ -27,4 +27,4 @@ pub use files::{FaultForm, disk_or_fault, open_files, report_device, report_fail
 pub use identity::settled_identity;
 pub use registration::{RegisteredResource, registered};
 pub use run_reasons::{reason_in_directory, reason_in_file};
-pub use show::{show_files, show_disk};
+pub use show::{show_disk, show_files};

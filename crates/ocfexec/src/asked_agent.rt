@@ -50,7 +50,11 @@ impl<'a> AskedAgent<'a> {
     }
 
     /// It, if it is the agent of this provider and this type; otherwise it is the error.
-    pub fn to(self, provider: &Provider, agent: &AgentType) -> Result<AskedAgent<'a>, AskedAgent<'a>> {
+    pub fn to(
+        self,
+        provider: &Provider,
+        agent: &AgentType,
+    ) -> Result<AskedAgent<'a>, AskedAgent<'a>> {
         let AskedAgent {
             provider: its_provider,
             agent: its_agent,

@@ -24,7 +24,8 @@ use exec_replies::JournalId;
 use file_disk::{FileDisk, FileError, JournalPaths, RamDisk};
 use growth::Refused;
 use journal_directory::{
-    FaultForm, disk_or_fault, not_emptied, open_files, report_device, settled_identity, show_files, show_disk,
+    FaultForm, disk_or_fault, not_emptied, open_files, report_device, settled_identity, show_disk,
+    show_files,
 };
 use ocf_env::Site;
 use ocf_types::{Moment, Orphan};

@@ -10,6 +10,7 @@ ghost use Rattle.exec_program.specs.Starts.{status_of_end};
 ghost use Rattle.ocfexec.specs.Ends.{EndsWith};
 
 mod arguments;
+mod asked_agent;
 mod errors;
 mod guarded;
 mod host;
@@ -17,7 +18,6 @@ mod log;
 mod metadata;
 mod moment;
 mod once;
-mod asked_agent;
 mod reasons;
 mod stack;
 

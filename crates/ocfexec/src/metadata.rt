@@ -2,7 +2,7 @@
 ghost use Rattle.std.specs.Prelude.{◌≡◌, ◌≤◌, length, IfOk};
 ghost use Rattle.ocf_types.specs.Limits.{metadata_limit};
 
-use crate::asked_agent::{Polled, AskedAgent};
+use crate::asked_agent::{AskedAgent, Polled};
 use agent_metadata::{MetaCall, run_meta};
 use agent_system::{Leading, leading_for};
 use ocf_env::Site;

@@ -1,6 +1,5 @@
 //! Two machines, one after the other: the first crashes in each device call in turn, and the second is opened on a crash image.
 use crate::steps::{nowhere, registration};
-use test_support::{Script, Scripted};
 use disk_model::Fill;
 use executor::{Input, InputOf};
 use ocf_types::{
@@ -9,6 +8,7 @@ use ocf_types::{
 use std::alloc::Global;
 use std::collections::VecDeque;
 use test_incarnations::{Machine, live_twice};
+use test_support::{Script, Scripted};
 
 // A machine whose agent processes are spawned and keep running.
 fn machine(alloc: Global, now: u64, inputs: Vec<Input>, stop: u64) -> Option<Machine<Scripted>> {

@@ -1,5 +1,4 @@
 //! Executors that spawn nothing, and a registration by one.
-use test_support::{Script, Scripted};
 use disk_model::Disk;
 use executor::{Executor, OpenError};
 use ocf_env::{Site, Text};
@@ -9,6 +8,7 @@ use ocf_types::{
 };
 use std::alloc::Global;
 use std::collections::VecDeque;
+use test_support::{Script, Scripted};
 
 /// Agent processes for an executor that spawns nothing: their book has no capacity.
 pub fn no_children(alloc: Global) -> Option<Scripted> {

@@ -1,5 +1,4 @@
 //! Sessions over whole inputs, with a disk in memory, scripted agent processes and a clock that does not move.
-use test_support::{NoMetadata, Script, Scripted, nowhere};
 use child_model::Poll;
 use disk_model::MemDisk;
 use exec_client::{JsonClient, NoReasons};
@@ -15,6 +14,7 @@ use std::io;
 use std::rt::Clock;
 use std::str::from_utf8;
 use std::time::Duration;
+use test_support::{NoMetadata, Script, Scripted, nowhere};
 
 // A clock that does not move.
 #[derive(Drop)]

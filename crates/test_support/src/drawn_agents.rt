@@ -1,7 +1,7 @@
 //! Scripted agent processes whose answers are drawn.
-use anyhow::Result;
 use crate::script::Script;
 use crate::scripted::Scripted;
+use anyhow::Result;
 use child_model::Poll;
 use ocf_env::{Site, Text};
 use ocf_types::StartFault;
