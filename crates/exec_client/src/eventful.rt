@@ -4,9 +4,10 @@ ghost use Rattle.std.specs.Io.KnownBytes.{Appends};
 ghost use Rattle.exec_client.specs.MessageView.{message_view};
 ghost use Rattle.exec_client.specs.Events.{IsEventLine, WritesEvents, notices_in};
 
+use crate::client::Client;
 use crate::event_lines::event_line;
+use crate::message::Message;
 use child_model::Children;
-use exec_client::{Client, Message};
 use exec_commands::Tag;
 use exec_lines::{IoFault, write_flushed};
 use exec_replies::NoticeForm;

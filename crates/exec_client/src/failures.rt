@@ -6,7 +6,7 @@ ghost use Rattle.exec_client.specs.MessageView.{message_view};
 ghost use Rattle.exec_client.specs.SentItem.{sent_in};
 ghost use Rattle.exec_client.specs.Failures.{is_refused, is_undone, tell_failure};
 
-use exec_client::Message;
+use crate::message::Message;
 use exec_replies::{DrainEnd, LineReply};
 use ocf_codes::is_failure;
 use ocf_types::{Notice, Reply, TidyEnd};

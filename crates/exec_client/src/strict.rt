@@ -2,9 +2,10 @@
 ghost use Rattle.std.specs.Prelude.{◌≡◌, []};
 ghost use Rattle.exec_client.specs.Failures.{tell_failure};
 
+use crate::client::Client;
 use crate::failures::tells_failure;
+use crate::message::Message;
 use child_model::Children;
-use exec_client::{Client, Message};
 use exec_commands::Tag;
 use exec_lines::IoFault;
 use exec_replies::NoticeForm;

@@ -7,11 +7,11 @@ ghost use Rattle.resource_status.specs.Conditions.{held_in};
 ghost use Rattle.resource_status.specs.Facts.{FactOf, IsRecordOf, ended_facts, facts_by, facts_of, fact_of, forgotten, named_facts, none_recorded, recorded_at, taken};
 
 use crate::condition::{Recorded, after, held_in};
+use crate::ends::{end_of, ending};
 use exec_state::State;
 use growth::{Grows, Refused};
 use indexmap::IndexMap;
 use ocf_types::{Change, Ended, Event, Moment, Outcome, Params, RscId, Running, StateView, Step};
-use resource_status::{end_of, ending};
 use std::alloc::Global;
 
 /// What the records hold of each resource, by its id.
