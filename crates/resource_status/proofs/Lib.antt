@@ -1,7 +1,7 @@
 pub mod ResultLemmas
 pub mod StatusLemmas
 pub mod Tallies
-pub mod Since
+pub mod RunLemmas
 pub mod RunExamples
 pub mod ConditionExamples
 pub mod ConditionLemmas

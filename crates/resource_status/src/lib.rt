@@ -1,4 +1,4 @@
-//! What results mean, in words, and the status of a resource as JSON.
+//! What the results of a resource mean: in words, as its condition, as counts of its runs, and as JSON.
 #![tactic(auto)]
 
 mod condition;

@@ -2,7 +2,7 @@ use Rattle.std.proofs.Common.{rules, ◌≡◌, ◌<◌, List, ◌++◌, length,
 use Rattle.std.specs.List.{flat_map}
 use Rattle.resource_status.specs.Counts.{Tallies}
 use Rattle.resource_status.specs.Runs.{Ran, ended_by}
-use Rattle.resource_status.proofs.Since.{ended_none, index_more, none_after, none_before}
+use Rattle.resource_status.proofs.RunLemmas.{ended_none, index_more, none_after, none_before}
 use Rattle.resource_status.proofs.counting.count_ended.Goals as goal
 
 pub loop-index-init : goal.loop-index-init

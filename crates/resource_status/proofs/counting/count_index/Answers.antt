@@ -3,7 +3,7 @@ use Rattle.ocf_types.specs.Expected.{has_failed}
 use Rattle.ocf_types.specs.Indexes.{entry_at}
 use Rattle.resource_status.specs.Counts.{Tallies}
 use Rattle.resource_status.specs.Runs.{Ran}
-use Rattle.resource_status.proofs.Since.{ended_one}
+use Rattle.resource_status.proofs.RunLemmas.{ended_one}
 use Rattle.resource_status.proofs.counting.count_index.Goals as goal
 
 pub returns : goal.returns

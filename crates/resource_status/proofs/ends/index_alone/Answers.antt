@@ -1,5 +1,5 @@
 use Rattle.std.proofs.Common.{sym, ◌∙◌}
-use Rattle.resource_status.proofs.Since.{alone_at}
+use Rattle.resource_status.proofs.RunLemmas.{alone_at}
 use Rattle.resource_status.proofs.ends.index_alone.Goals as goal
 
 pub returns-in-Some-clause-others : goal.returns-in-Some-clause-others

@@ -1,6 +1,6 @@
 use Rattle.std.proofs.Common.{rules, ◌≡◌, ◌<◌, List, ◌++◌, length, take, sym, ap, subst, ◌∙◌, append-nil}
 use Rattle.std.specs.List.{flat_map}
-use Rattle.resource_status.proofs.Since.{index_more, none_after, none_before}
+use Rattle.resource_status.proofs.RunLemmas.{index_more, none_after, none_before}
 use Rattle.resource_status.specs.Facts.{FactOf, IsRecordOf, ended_facts}
 use Rattle.resource_status.proofs.FactLemmas.{ended_none}
 use Rattle.resource_status.proofs.facts.take_ended.Goals as goal
