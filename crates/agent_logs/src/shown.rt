@@ -38,7 +38,7 @@ fn add_shown_byte(text: &mut Vec<u8>, byte: u8) -> Result<(), Refused>
 }
 
 /// Appends bytes, escaped for a terminal.
-#[tactic(auto, using(crate::proofs::Lemmas::byte_more))]
+#[tactic(auto, using(crate::proofs::ReasonLemmas::byte_more))]
 pub fn add_shown(text: &mut Vec<u8>, bytes: &[u8]) -> Result<(), Refused>
     ensures added { OnOk result (text.new.items ≡ text.old.items ++ flat_map shown_byte bytes.now) }
 {
