@@ -5,8 +5,7 @@ An edit that does not compile is replaced by the next one of the seed, so a seed
 What becomes of each: the proof of its crate refuses it; or, with --tests, a check of `make check FAST=1` of the program compiled with it;
 or, where it changes what other crates see, the proof of a crate that names its crate; or it is alive. Edits of one crate are tried
 together. mutants/out/random has the edits, and in its file `tried` what became of each, with the sum of the crates' texts that this rests
-on, so an interrupted run goes on. mutants/random.tried has such lines of the seed of docs/TESTING.md; it is read, too, and never written
-here. The table is over the edits of this call.
+on, so an interrupted run goes on. The table is over the edits of this call.
 
 Use: random_edits.py [--seed N] [--count M] [--tests] [-j CRATES] [CRATE..]"""
 import argparse
@@ -31,8 +30,6 @@ import wrong_bodies as bodies
 from wrong_bodies import MUTANTS, TOP, called
 
 FOLDER = MUTANTS / "out/random"
-# what became of edits of the seed of docs/TESTING.md
-SCORE = MUTANTS / "random.tried"
 NO_CODE = re.compile(r'//[^\n]*|/\*.*?\*/|\bb?r(#*)".*?"\1|"(?:\\.|[^"\\])*"|\'(?:\\(?:x\w\w|u\{\w+\}|.)|[^\\\'\n])\'', re.DOTALL)
 NO_BODY = re.compile(r"\bghost use [^;]*;|#!?(?=\[)|\b(?:requires|ensures)(?: \*)?(?:\s+\w+)?\s*(?=\{)|\bghost\s+\w+\s*[:=]\s*(?=\{)")
 CONSTANT = re.compile(r"^ *(?:pub(?:\([a-z]+\))? )?const \w+: [^=;\n]*=([^;\n]*);", re.MULTILINE)
@@ -272,12 +269,11 @@ def drawn(lines: list[list[Edit]], seed: int) -> Iterator[Edit]:
 
 
 class Kept:
-    """What became of edits, by the beginning of the sum of the texts that it rests on: as earlier calls kept it, and as this one does, in
-    the last of these files."""
+    """What became of edits, by the beginning of the sum of the texts that it rests on, as earlier calls and this one keep it in a file."""
 
-    def __init__(self, *paths: Path):
-        self.path, self.fates = paths[-1], {}
-        for line in itertools.chain(*(path.read_text(encoding="utf-8").splitlines() for path in paths if path.exists())):
+    def __init__(self, path: Path):
+        self.path, self.fates = path, {}
+        for line in path.read_text(encoding="utf-8").splitlines() if path.exists() else []:
             with contextlib.suppress(ValueError, KeyError):
                 one = json.loads(line)
                 self.fates[one["sum"]] = one["fate"]
@@ -597,7 +593,7 @@ def main() -> int:
     lines = all_edits(words.crates or product(texts))
     if not lines:
         sys.exit("random_edits.py: these crates have no line to edit")
-    found = judged(drawn(lines, words.seed), words.count, Judge(texts, Kept(SCORE, FOLDER / "tried"), words.tests, words.j))
+    found = judged(drawn(lines, words.seed), words.count, Judge(texts, Kept(FOLDER / "tried"), words.tests, words.j))
     print(table(found, [crate for crate in product(texts) if crate in texts.at_or_below("executor")]))
     return 1 if "?" in found.values() else 0
 
