@@ -1,9 +1,16 @@
-/* A device whose sync takes 5 milliseconds more: loaded before the C library (LD_PRELOAD), by together.py. */
+/* A device whose sync takes 5 milliseconds more, or as many as MILLISECONDS says: loaded before the C library (LD_PRELOAD), by together.py
+ * and tidies.py. */
 #define _GNU_SOURCE
 #include <dlfcn.h>
+#include <stdlib.h>
 #include <time.h>
 
-static const struct timespec more = {0, 5000000};
+/* waits as long as a sync takes more */
+static void wait_more(void) {
+    const char *given = getenv("MILLISECONDS");
+    struct timespec more = {0, (given ? atol(given) : 5) * 1000000};
+    nanosleep(&more, NULL);
+}
 
 /* a sync of the C library that takes so much more */
 #define SLOW(name)                                           \
@@ -11,7 +18,7 @@ static const struct timespec more = {0, 5000000};
         static int (*real)(int);                             \
         if (!real)                                           \
             real = (int (*)(int))dlsym(RTLD_NEXT, #name);    \
-        nanosleep(&more, NULL);                              \
+        wait_more();                                         \
         return real(file);                                   \
     }
 

@@ -22,7 +22,7 @@ from journal_format import BODY, CLOSED, FIRST, FRAME, KINDS, MAGIC, START, clos
 RULES = {
     "opening": "an opening syncs each part before it reads it, and both before anything is written, acknowledged or started",
     "directory": "a directory in which a file was made is synced before anything is acknowledged or started",
-    "write": "between two writes there is a sync of the part that the first one wrote to",
+    "write": "between two writes there is a sync of the part that the first one wrote to, if they are not pieces of one snapshot",
     "gate": "a gate is opened by a write of its byte alone, over a whole record or a whole head and snapshot that were written and synced",
     "place": "any other write lies after a closed gate, closes the open first gate of the part that is not current, or makes a first byte",
     "acknowledged": "nothing is acknowledged or started while a write is not synced",
@@ -120,6 +120,10 @@ class Part:
         # a write that was cut short continues with these bytes
         self.rest = (call.at + call.made, call.text[call.made:])
 
+    def goes_on(self, call):
+        """Whether a write has the next piece of a snapshot whose first gate is not open."""
+        return self.gate == 0 and self.laid[0] <= 1 < call.at == self.laid[1]
+
     def is_whole(self, gate):
         """Whether it ends at this closed gate, and everything that the gate makes count was written since, with the next gate closed."""
         after = gate_after(self.text, gate)
@@ -143,6 +147,9 @@ class Journal:
 
     def every(self, what):
         return all(getattr(part, what) for part in self.parts.values())
+
+    def others(self, one, what):
+        return all(getattr(part, what) for part in self.parts.values() if part is not one)
 
     def wants(self, holds, rule):
         if not holds:
@@ -192,7 +199,7 @@ class Journal:
         elif is_gate(call):
             self.wants(self.every("is_synced") and part.is_whole(call.at), "gate")
         else:
-            self.wants(self.every("is_synced"), "write")
+            self.wants(self.every("is_synced") or part.goes_on(call) and self.others(part, "is_synced"), "write")
             self.wants(self.is_beside(call, part), "place")
         part.write(call)
 
@@ -273,7 +280,7 @@ class RealSyncs(helper.Check):
             self.skipTest("install a C compiler (apt-get install gcc)")
         self.shim = helper.shim("real_syncs.c", self.here)
         self.agent("Step", 'sleep "${OCF_RESKEY_time:-0}"\nexit "${OCF_RESKEY_code:-0}"\n')
-        self.seed, self.counts = helper.number("SEED", 20261126), collections.Counter()
+        self.seed, self.counts, self.words = helper.number("SEED", 20261126), collections.Counter(), []
 
     def begun(self, place="journal", *texts):
         """A journal with these parts, or one whose files do not exist yet."""
@@ -285,7 +292,7 @@ class RealSyncs(helper.Check):
         asked = list(asked)
         self.note(os.path.basename(journal.directory) + ".asked", b"".join(lines for lines, _ in asked))
         layers = {"LD_PRELOAD": self.shim, "LOG": self.place("log"), "SHIM": lie, "FAULT": fault}
-        words = [PROGRAM, word, "--journal", journal.directory, "--root", self.here]
+        words = [PROGRAM, word, "--journal", journal.directory, "--root", self.here, *self.words]
         with open(self.place("out"), "w+b") as out, open(self.place("log"), "wb"):
             run = subprocess.Popen(words, stdin=subprocess.PIPE, stdout=out, stderr=subprocess.DEVNULL, env=layers)
             self.asks(run, asked)
@@ -356,6 +363,15 @@ class RealSyncs(helper.Check):
                 self.assertEqual(self.opened(journal, "run", [], fault=fault)[1], -9)
                 self.assertEqual(self.opened(journal, "run", SHORT)[1], 0, "the next opening")
         self.report()
+
+    def test_own_tidy(self):
+        """a tidy that the program makes by itself syncs the pieces of its snapshot together, before their gate is opened"""
+        self.words = ["--tidy-at", "1"]
+        large = {"op": "params", "id": "r0", "params": {f"p{place:02}": "x" * 1000 for place in range(15)}}
+        calls, status, _ = self.opened(self.begun(), "run", [(helper.lines(helper.register("r0", "Step"), *[large] * 200), 0)])
+        of_part = [call for call in calls if is_device_call(call) and os.path.basename(call.path) == helper.PARTS[1]]
+        gate = next(place for place, call in enumerate(of_part) if is_gate(call))
+        self.assertEqual((status, [call.name for call in of_part[gate - 6:gate]]), (0, ["fdatasync", *["pwrite"] * 4, "fdatasync"]))
 
     # The effect of calls that fail.
 
