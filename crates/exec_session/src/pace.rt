@@ -1,16 +1,13 @@
 //! How fast a session tidies.
 ghost use Rattle.std.specs.Prelude.{◌≤◌};
 
-// A guess for the first tidy, in milliseconds a piece: a sync of a slow device.
-const GUESSED: u64 = 8;
-
 // The least time of a piece that is assumed, in milliseconds.
 const FASTEST: u64 = 1;
 
 // The greatest, in milliseconds.
 const SLOWEST: u64 = 1_000;
 
-/// How long a piece of a tidy takes: measured in the last tidy, or a guess before the first.
+/// How long a piece of a tidy takes: measured in the last tidy, or assumed before the first.
 #[derive(Drop)]
 pub struct Pace {
     // in milliseconds
@@ -18,9 +15,9 @@ pub struct Pace {
 }
 
 impl Pace {
-    /// No tidy was made yet.
+    /// No tidy was made yet: the fastest is assumed, since all pieces share one sync.
     pub fn new() -> Pace {
-        Pace { each: GUESSED }
+        Pace { each: FASTEST }
     }
 
     /// The time of a piece, in milliseconds.

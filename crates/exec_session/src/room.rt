@@ -18,7 +18,7 @@ const WORTHWHILE: u64 = 2_097_152;
 // of the longest events, more than a group commit and a turn need.
 const SECOND_MARK: u64 = PART_LIMIT - RESERVE - 70 * EVENT_LIMIT as u64;
 
-// The size of a piece of a tidy, in bytes. Each piece is synced.
+// The size of a piece of a tidy, in bytes.
 const PIECE: u64 = 4_096;
 
 // The microseconds in a millisecond.
