@@ -44,6 +44,6 @@ returns-in-Err-clause-runs g c = inr (inl (record {
   why = c.in-Err.fault.why;
   holds = record { looked_after = c.in-Ok.ensures.agents; fresh = c.in-Ok.ensures.fresh; shown = c.moment-now.ensures.moment };
   refused = c.in-Err.ensures.failed;
-  ends = c.reported-ended.ensures ∙ ap Err c.opening_fault.ensures;
+  ends = c.report_failed_device-ended.ensures ∙ ap Err c.opening_fault.ensures;
   keeps = c.lemma_refusal_keeps_promise.ensures c.args.disk _ _ _ _ _ c.in-Err.ensures.failed;
 }))

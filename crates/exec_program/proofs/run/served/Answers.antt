@@ -17,7 +17,7 @@ returns-clause-serves g c = record {
   lines = c.answer_lines-lines.ensures.runs.2;
   leaves = c.into_disk-disk.ensures.value;
   ends = subst (λ (r : Result Unit Fault). EndsBy g.H.Host.asked c.args.options c.args.watch.now r c.ended_over-ended.result)
-      (c.judged-ended.ensures.judged ∙ (ap (judged c.args.options c.answer_lines-lines.result.has_failed) c.reported-ended.ensures
+      (c.judged-ended.ensures.judged ∙ (ap (judged c.args.options c.answer_lines-lines.result.has_failed) c.report_failed_device-ended.ensures
       ∙ ap (λ (b : Bool). judged c.args.options b c.answer_lines-lines.result.ended) c.answer_lines-lines.ensures.runs.1))
       c.ended_over-ended.ensures.ends;
 }
