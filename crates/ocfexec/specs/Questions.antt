@@ -2,8 +2,8 @@
 use Rattle.std.specs.Prelude.{ℕ, ⊤, Result}
 use Rattle.std.specs.Global.{Vec}
 use Rattle.ocf_types.specs.declared.outcome.MetaFault.{MetaFault}
-use Rattle.ocfexec.specs.declared.question.Polled.{Polled}
-use Rattle.ocfexec.specs.declared.question.Polled.TheVariants.{Waits, Answered}
+use Rattle.ocfexec.specs.declared.asked_agent.Polled.{Polled}
+use Rattle.ocfexec.specs.declared.asked_agent.Polled.TheVariants.{Waits, Answered}
 
 -- a fact about the answer to a question, if it was answered
 abbrev pub IfAnswered : Polled → (Result (Vec ℕ) MetaFault → Type 0) → Type 0
