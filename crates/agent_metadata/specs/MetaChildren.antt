@@ -1,5 +1,5 @@
 -- The view of an agent that is asked for its metadata.
-use Rattle.std.specs.Prelude.{◌≡◌, ℕ, ◌++◌, ⊤, List, Bool, true, Option, None, Some, IfOk, IfSome, Result, Vec}
+use Rattle.std.specs.Prelude.{◌≡◌, ℕ, ◌++◌, ⊤, List, [], Bool, true, Option, None, Some, IfOk, IfSome, Result, Vec}
 use Rattle.ocf_types.specs.declared.outcome.MetaFault.{MetaFault}
 use Rattle.agent_system.specs.declared.agent_process.AgentProcess.{AgentProcess}
 use Rattle.agent_metadata.specs.MetaOutputs.{AddsAll}
@@ -21,6 +21,10 @@ left_of remaining (Some stream) = remaining stream
 -- the view of such an agent
 abbrev pub asked_of : {R M C O : Type 0} → (O → Option (List ℕ)) → MetaChild R M C O → AskedView
 asked_of remaining c = record { left = left_of remaining c.stdout; kept = c.output.bytes.items; is_whole = c.output.is_whole }
+
+-- nothing of its answer is kept yet, and nothing was left out
+abbrev pub HasNone : AskedView → Type 0
+HasNone v = (v.kept ≡ []) × (v.is_whole ≡ true)
 
 -- its process
 abbrev pub asked_process : {R M C O : Type 0} → (C → AgentProcess) → MetaChild R M C O → AgentProcess

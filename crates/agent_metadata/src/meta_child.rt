@@ -1,10 +1,10 @@
 //! An agent that is asked for its metadata.
-ghost use Rattle.std.specs.Prelude.{◌≡◌, ◌≢◌, ◌<◌, ◌≤◌, [], true, false, IfErr, IfOk, IfSome, IsTrue, None, Ok, OnErr, OnOk, Some, vec_len};
+ghost use Rattle.std.specs.Prelude.{◌≡◌, ◌≢◌, ◌<◌, ◌≤◌, true, false, IfErr, IfOk, IfSome, IsTrue, None, Ok, OnErr, OnOk, Some, vec_len};
 ghost use Rattle.std.specs.Io.KnownBytes.{IsAtEnd};
 ghost use Rattle.agent_metadata.specs.Asking.{AsksFor, EndsOne, IsAlone, IsIdle, IsRefused, OnlyPolls, RunsOne, SendsNone};
 ghost use Rattle.agent_metadata.specs.Codes.{CountsAs};
 ghost use Rattle.agent_metadata.specs.MetaCalls.{IsMetaCall};
-ghost use Rattle.agent_metadata.specs.MetaChildren.{IfAnswered, PollsTo, asked_of, left_of, asked_process};
+ghost use Rattle.agent_metadata.specs.MetaChildren.{HasNone, IfAnswered, PollsTo, asked_of, asked_process, left_of};
 ghost use Rattle.agent_metadata.specs.MetaOutputs.{KeepsAll};
 ghost use Rattle.agent_metadata.specs.MetaRuns.{IsAnswerOf, IsCodeNow, IsStop, PollsBy, StartFails};
 ghost use Rattle.agent_system.specs.Commands.{leader_of};
@@ -199,8 +199,7 @@ impl<R: AgentSystem + Clock + Eprint, A: Grows> MetaChild<R, A> {
         limit: Option<u32>,
     ) -> Result<MetaChild<R, A>, MetaFault>
         requires idle { IsIdle (R.view rt.old).sights }
-        ensures none { IfOk result (λ child. (asked_of R.Output.remaining child).kept ≡ []) }
-        ensures whole { IfOk result (λ child. (asked_of R.Output.remaining child).is_whole ≡ true) }
+        ensures none { IfOk result (λ child. HasNone (asked_of R.Output.remaining child)) }
         ensures asked { IfOk result (λ child. AsksFor (leader_of call.now.leading.now)
             (IsMetaCall call.now.site.now call.now.provider.now call.now.agent.now)
             (R.view rt.old) (R.view rt.new) (asked_process R.process_of child)) }
