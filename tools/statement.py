@@ -22,10 +22,10 @@ OTHERS = [("executor_laws", "laws", "lemma_whole_history"), ("executor_laws", "r
           ("executor_laws", "runs", "lemma_refusal_keeps_promise"), ("agent_system", "laws", "lemma_one_at_a_time")]
 # Definitions that the first part names and the second has: what calls do by their contracts; what a store, a disk, two files and an executor
 # are seen as, and what files are found as; which states are lawful; and the bytes of events.
-BENEATH = [("executor_laws", "Incarnations", "Lasted"), ("executor_laws", "Incarnations", "Calls"), ("executor", "ExecutorView", "ExecutorView"),
+BENEATH = [("executor_laws", "Incarnations", "Lasted"), ("executor", "Exchanges", "Calls"), ("executor", "ExecutorView", "ExecutorView"),
            ("store_model", "StoreView", "StoreView"), ("disk_model", "Disk", "DiskView"), ("disk_model", "Image", "Image"),
            ("exec_journal", "Journal", "JournalView"), ("exec_journal", "StoreViews", "store_view"), ("exec_journal", "Found", "FoundAs"),
-           ("exec_journal", "Reserve", "PairHasReserve"), ("ocf_types", "LawfulState", "IsLawfulState"),
+           ("exec_journal", "Reserve", "PairHasReserve"), ("ocf_model", "LawfulState", "IsLawfulState"),
            ("store_model", "Batches", "IsTooLong"), ("store_model", "Batches", "encoded_batch"), ("ocf_types", "Encoding", "encoded_event")]
 # A trait that laws speak of by its views alone: the crate and the file that use it, and its name.
 SPOKEN = [("agent_system", "src/laws.rt", "AgentSystem")]

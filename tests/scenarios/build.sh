@@ -7,5 +7,5 @@ cd "$(dirname "$0")/../.."
 . tests/lib/checked.sh
 # shellcheck disable=SC2034 # the thousands of scenarios would take four times as long with AddressSanitizer, which the trials have
 plain=yes
-build_checked 'scenarios: ocf_types store_model disk_model event_wire exec_state exec_journal ocf_codes ocf_env child_model test_support
-    executor exec_commands exec_replies exec_faults status_report test_stores hex anyhow'
+build_checked 'scenarios: ocf_types ocf_model store_model disk_model event_wire exec_state exec_journal ocf_codes ocf_env child_model
+    test_support executor exec_commands exec_replies exec_faults status_report test_stores hex anyhow'

@@ -7,13 +7,15 @@ ghost use Rattle.std.specs.Vec.{vec_capacity};
 ghost use Rattle.child_keeper.specs.Agents.{others_of, run_of, runs_of};
 ghost use Rattle.child_model.specs.Children.{live_limit};
 
-use crate::live::LIVE_LIMIT;
 use agent_logs::Uncopied;
 use agent_system::AgentProcess;
 use growth::{Grows, Refused, with_capacity};
-use ocf_types::{Action, RscId, RunId};
+use ocf_types::{Action, RESOURCES_LIMIT, RscId, RunId};
 use std::alloc::Allocator;
 use std::time::Duration;
+
+/// How many agent processes may live at once: one for each resource that can be registered.
+pub const LIVE_LIMIT: usize = RESOURCES_LIMIT;
 
 /// An agent's process, and the action that it performs.
 #[derive(Drop)]

@@ -174,41 +174,26 @@ impl<C: Drop, R: AgentSystem<Child = C> + Clock + Eprint + Drop, A: Allocator + 
             at: 0,
             answer: Answer::Poll(answer),
         });
+        let Keeper {
+            rt,
+            roster,
+            log,
+            agents,
+            ..
+        } = self;
         match answer {
             Poll::Running => answer,
             Poll::Exited(code) => {
-                let end = LoggedEnd::Exited(code);
-                let _ = reap(
-                    &mut self.rt,
-                    self.roster,
-                    &self.log,
-                    &mut self.agents,
-                    run,
-                    end,
-                );
+                let _ = reap(rt, *roster, log, agents, run, LoggedEnd::Exited(code));
                 answer
             }
             Poll::Signaled(signal) => {
-                let end = LoggedEnd::Signaled(signal);
-                let agent = reap(
-                    &mut self.rt,
-                    self.roster,
-                    &self.log,
-                    &mut self.agents,
-                    run,
-                    end,
-                );
-                report_signaled(&self.rt, &agent, signal);
+                let agent = reap(rt, *roster, log, agents, run, LoggedEnd::Signaled(signal));
+                report_signaled(rt, &agent, signal);
                 answer
             }
             Poll::Fault => {
-                give_up(
-                    &mut self.rt,
-                    &self.log,
-                    &mut self.agents,
-                    run,
-                    LoggedEnd::Lost,
-                );
+                give_up(rt, log, agents, run, LoggedEnd::Lost);
                 answer
             }
         }

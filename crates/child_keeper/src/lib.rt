@@ -5,7 +5,6 @@ mod agents;
 mod book;
 mod keeper;
 pub mod laws;
-mod live;
 mod logging;
 mod moments;
 mod opening;
@@ -17,8 +16,8 @@ mod wait_lines;
 mod waits;
 
 pub use agent_logs::{Log, LogDirectory};
+pub use agents::LIVE_LIMIT;
 pub use book::Book;
 pub use child_model::{Answer, Children, Entry, KillFault, Poll};
-pub use live::{LIVE_LIMIT, LiveRuns};
 pub use opening::Upkeep;
 pub use processes::Processes;

@@ -10,8 +10,7 @@ ghost use Rattle.child_keeper.specs.declared.wait.WaitOf.{WaitOf};
 ghost use Rattle.process_ends.specs.Endings.{AreGivenUp, HasKilled, OnlyEnds, processes};
 ghost use Rattle.process_ends.specs.declared.given_up.GivenUpAction.{GivenUpAction};
 
-use crate::agents::Agent;
-use crate::live::LIVE_LIMIT;
+use crate::agents::{Agent, LIVE_LIMIT};
 use crate::moments::millis_now;
 use crate::record::Record;
 use crate::wait::{Wait, wait_for};

@@ -6,8 +6,8 @@ use Rattle.ocf_types.specs.Kinds.{Event}
 use Rattle.ocf_types.specs.declared.command.RequestOf.TheVariants as asked
 use Rattle.store_model.specs.StoreView.{StoreView}
 use Rattle.executor.specs.CallLemmas.{followed_by_assoc, followed_by_none}
-use Rattle.executor_laws.specs.Incarnations.{Abandoned, Calls, Cleared, Does, Exchange, Finished, Batch, Tidied, Took}
-use Rattle.executor_laws.specs.CommandBatches.{IsAt, replies_of}
+use Rattle.executor.specs.Exchanges.{Abandoned, Calls, Cleared, Does, Exchange, Finished, Batch, Tidied, Took}
+use Rattle.executor.specs.CommandExchanges.{IsAt, replies_of}
 use Rattle.executor.specs.Sessions.{Effects, followed_by, no_effects}
 use Rattle.executor.specs.ExecutorView.{ExecutorView}
 use Rattle.executor.specs.declared.session.InputOf.TheVariants as input

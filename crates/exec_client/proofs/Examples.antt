@@ -1,9 +1,10 @@
 -- Examples: the definitions refuse messages that are sent too often, too early or not at all.
 use Rattle.std.proofs.Common.{ℕ, true≢false, List, [], ◌∷◌, ◌++◌, ap, length, length-append, arith}
-use Rattle.ocf_types.specs.Kinds.{Event, Reply, Request}
-use Rattle.ocf_types.specs.declared.reply.ReplyOf.TheVariants.{Done}
+use Rattle.ocf_types.specs.Kinds.{Event, Request}
+use Rattle.ocf_model.specs.Answer.{Reply}
+use Rattle.ocf_model.specs.declared.reply.ReplyOf.TheVariants.{Done}
 use Rattle.store_model.specs.StoreView.{StoreView}
-use Rattle.executor_laws.specs.Incarnations.{Took}
+use Rattle.executor.specs.Exchanges.{Took}
 use Rattle.executor.specs.Sessions.{Effects}
 use Rattle.executor.specs.ExecutorView.{ExecutorView}
 use Rattle.executor.specs.declared.session.InputOf.TheVariants as input

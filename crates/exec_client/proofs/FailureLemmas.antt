@@ -1,9 +1,9 @@
 -- Messages of several lines tell of a failure if one of their lines does.
 use Rattle.std.proofs.Common.{◌≡◌, ◌||◌, Bool, List, [], ◌∷◌, map, refl, ap, sym}
 use Rattle.std.specs.List.{list_any}
-use Rattle.ocf_types.specs.Kinds.{Reply}
-use Rattle.ocf_types.specs.Notices.{is_failure}
-use Rattle.ocf_types.specs.declared.reply.Notice.{Notice}
+use Rattle.ocf_model.specs.Answer.{Reply}
+use Rattle.ocf_types.specs.Expected.{is_failure}
+use Rattle.ocf_types.specs.declared.notice.Notice.{Notice}
 use Rattle.child_model.specs.declared.answer.Entry.{Entry}
 use Rattle.exec_client.specs.SentItem.{Reported, answered, noticed_by}
 use Rattle.exec_client.specs.Failures.{is_refused, tell_failure, tells_failure}

@@ -2,25 +2,26 @@
 use Rattle.std.proofs.Common.{◌≡◌, ◌↔◌, ℕ, Bool, true, false, List, [], ◌∷◌, ◌++◌, map, Result, Ok, Err, refl, sym, ap, subst, ◌∙◌}
 use Rattle.std.proofs.lemmas.List.{append-nil, map-append}
 use Rattle.std.specs.List.{AllByRecursion, flat_map}
-use Rattle.ocf_types.specs.Answer.{event_of}
-use Rattle.ocf_types.specs.Kinds.{Command, Event, Reply, Request}
+use Rattle.ocf_model.specs.Answer.{event_of}
+use Rattle.ocf_types.specs.Kinds.{Command, Event, Request}
+use Rattle.ocf_model.specs.Answer.{Reply}
 use Rattle.ocf_types.specs.declared.command.RequestOf.TheVariants as asked
-use Rattle.ocf_types.specs.declared.refusal.Refusal.{Refusal}
-use Rattle.ocf_types.specs.declared.refusal.Refusal.TheVariants.{Disk}
-use Rattle.ocf_types.specs.declared.reply.ReplyOf.TheVariants as reply
-use Rattle.ocf_types.specs.declared.reply.TidyEnd.{TidyEnd}
-use Rattle.ocf_types.specs.declared.reply.TurnEnd.{TurnEnd}
+use Rattle.ocf_model.specs.declared.refusal.Refusal.{Refusal}
+use Rattle.ocf_model.specs.declared.refusal.Refusal.TheVariants.{Disk}
+use Rattle.ocf_model.specs.declared.reply.ReplyOf.TheVariants as reply
+use Rattle.ocf_model.specs.declared.reply.TidyEnd.{TidyEnd}
+use Rattle.ocf_model.specs.declared.reply.TurnEnd.{TurnEnd}
 use Rattle.store_model.specs.StoreView.{StoreView}
 use Rattle.executor.specs.CallLemmas.{followed_by_none}
-use Rattle.executor_laws.specs.CallLemmas.{calls_after}
+use Rattle.executor.specs.ExchangeLemmas.{calls_after}
 use Rattle.exec_ledger.specs.Commands.{Obeys}
 use Rattle.executor.specs.Commands.{Serves, ServesWhile}
-use Rattle.executor_laws.specs.Incarnations.{Abandoned, Calls, Cleared, Does, Exchange, Finished, Batch, Tidied, Took}
-use Rattle.executor_laws.specs.BatchCalls.{TakesBatch}
-use Rattle.executor_laws.specs.BatchLemmas.{commands_called}
+use Rattle.executor.specs.Exchanges.{Abandoned, Calls, Cleared, Does, Exchange, Finished, Batch, Tidied, Took}
+use Rattle.executor.specs.BatchCalls.{TakesBatch}
+use Rattle.executor.specs.CommandExchangeLemmas.{commands_called}
 use Rattle.exec_ledger.specs.Together.{batch_replies}
 use Rattle.executor.specs.CommandBatches.{TakesCommands}
-use Rattle.executor_laws.specs.CommandBatches.{IsAt, replies_of}
+use Rattle.executor.specs.CommandExchanges.{IsAt, replies_of}
 use Rattle.exec_ledger.specs.Lemmas.{while_open}
 use Rattle.exec_ledger.specs.Pieces.{Effects, followed_by, no_effects, batch_effects}
 use Rattle.executor.specs.Sessions.{TakesWhile, command_effects}

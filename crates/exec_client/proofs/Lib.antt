@@ -6,7 +6,6 @@ pub mod TagLemmas
 pub mod CallsSent
 pub mod Growing
 pub mod Plain
-pub mod Incarnations
 pub mod Examples
 pub mod SignalLemmas
 pub mod EventLemmas

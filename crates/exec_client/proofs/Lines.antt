@@ -5,9 +5,9 @@ use Rattle.std.proofs.lemmas.List.{append-nil}
 use Rattle.std.specs.Io.KnownBytes.{Appends, Keeps}
 use Rattle.std.specs.List.{flat_map}
 use Rattle.exec_lines.specs.Prefixes.{AppendsPrefix}
-use Rattle.ocf_types.specs.Kinds.{Reply}
-use Rattle.ocf_types.specs.declared.reply.Notice.{Notice}
-use Rattle.ocf_types.specs.declared.reply.ReplyOf.TheVariants as reply
+use Rattle.ocf_model.specs.Answer.{Reply}
+use Rattle.ocf_types.specs.declared.notice.Notice.{Notice}
+use Rattle.ocf_model.specs.declared.reply.ReplyOf.TheVariants as reply
 use Rattle.exec_replies.specs.Replies.{notice_line}
 use Rattle.exec_replies.specs.declared.notice.NoticeForm.{NoticeForm}
 use Rattle.exec_replies.specs.declared.notice.Origin.TheVariants.{Opening}

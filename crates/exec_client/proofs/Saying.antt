@@ -1,14 +1,14 @@
 -- Which answers may be sent.
 use Rattle.std.proofs.Common.{◌≡◌, ◌⊎◌, inl, inr, true, false, Option, None, Some, refl, sym, ap, subst, ◌∙◌}
 use Rattle.std.specs.Option.{option_map_or}
-use Rattle.ocf_types.specs.Answer.{info_of, reply_to}
-use Rattle.ocf_types.specs.Kinds.{Reply}
-use Rattle.ocf_types.specs.Resource.{Resource}
-use Rattle.ocf_types.specs.State.{State, resource_at}
+use Rattle.ocf_model.specs.Answer.{info_of, reply_to}
+use Rattle.ocf_model.specs.Answer.{Reply}
+use Rattle.ocf_model.specs.Resource.{Resource}
+use Rattle.ocf_model.specs.State.{State, resource_at}
 use Rattle.ocf_types.specs.declared.command.Question.{Question}
 use Rattle.ocf_types.specs.declared.command.Question.TheVariants as question
-use Rattle.ocf_types.specs.declared.refusal.Refusal.TheVariants.{Memory, UnknownResource}
-use Rattle.ocf_types.specs.declared.reply.ReplyOf.TheVariants as reply
+use Rattle.ocf_model.specs.declared.refusal.Refusal.TheVariants.{Memory, UnknownResource}
+use Rattle.ocf_model.specs.declared.reply.ReplyOf.TheVariants as reply
 use Rattle.exec_state.specs.Answers.{IsReplyOrMemory}
 use Rattle.executor.specs.ExecutorView.{ExecutorView}
 use Rattle.exec_client.specs.BackedBy.{claims}

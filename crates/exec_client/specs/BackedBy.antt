@@ -1,9 +1,9 @@
 -- The events that back what is sent: each acknowledgement and each notice of a result has an event of its own.
 use Rattle.std.specs.Prelude.{◌≡◌, Bool, true, false, List, [], ◌∷◌}
 use Rattle.ocf_types.specs.Kinds.{Event}
-use Rattle.ocf_types.specs.declared.reply.ReplyOf.TheVariants.{Accepted, Done}
+use Rattle.ocf_model.specs.declared.reply.ReplyOf.TheVariants.{Accepted, Done}
 use Rattle.exec_ledger.specs.Replies.{KeepsRunning, acknowledged}
-use Rattle.executor_laws.specs.Promise.{IsOfResult}
+use Rattle.executor.specs.Reports.{IsOfResult}
 use Rattle.exec_replies.specs.declared.reply.LineReply.TheVariants.{Request}
 use Rattle.exec_client.specs.SentItem.{SentItem, Answered, Noticed}
 

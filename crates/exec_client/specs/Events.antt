@@ -1,11 +1,11 @@
 -- The line of a result, for a person.
 use Rattle.std.specs.Prelude.{◌≡◌, ◌||◌, Bool, true, false, if◌then◌else◌, ℕ, List, [], ◌∷◌, ◌++◌, Option, codes}
 use Rattle.std.specs.Io.KnownBytes.{Appends}
-use Rattle.ocf_types.specs.Notices.{is_failure}
+use Rattle.ocf_types.specs.Expected.{is_failure}
 use Rattle.ocf_types.specs.declared.outcome.Outcome.{Outcome}
 use Rattle.ocf_types.specs.declared.outcome.Outcome.TheVariants.{Run, Interrupted, Dropped}
 use Rattle.ocf_types.specs.declared.outcome.RunEnd.TheVariants.{Lost}
-use Rattle.ocf_types.specs.declared.reply.Notice.{Notice}
+use Rattle.ocf_types.specs.declared.notice.Notice.{Notice}
 use Rattle.exec_client.specs.MessageView as message
 use Rattle.exec_client.specs.MessageView.{MessageView}
 use Rattle.resource_status.specs.Meanings.{tone_of}

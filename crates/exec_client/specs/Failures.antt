@@ -1,10 +1,10 @@
 -- Which messages say that a line was not done or that an action failed.
 use Rattle.std.specs.Prelude.{Bool, true, false, List, Err}
 use Rattle.std.specs.List.{list_any}
-use Rattle.ocf_types.specs.Notices.{is_failure}
-use Rattle.ocf_types.specs.Kinds.{Reply}
-use Rattle.ocf_types.specs.declared.reply.ReplyOf.TheVariants as reply
-use Rattle.ocf_types.specs.declared.reply.TidyEnd.TheVariants as tidy
+use Rattle.ocf_types.specs.Expected.{is_failure}
+use Rattle.ocf_model.specs.Answer.{Reply}
+use Rattle.ocf_model.specs.declared.reply.ReplyOf.TheVariants as reply
+use Rattle.ocf_model.specs.declared.reply.TidyEnd.TheVariants as tidy
 use Rattle.exec_replies.specs.declared.ends.DrainEnd.TheVariants as drain
 use Rattle.exec_replies.specs.declared.reply.LineReply.{LineReply}
 use Rattle.exec_replies.specs.declared.reply.LineReply.TheVariants as line

@@ -8,6 +8,5 @@ pub mod BackedBy
 pub mod Sends
 pub mod ClientView
 pub mod MaySend
-pub mod Incarnations
 pub mod Events
 pub mod Failures

@@ -1,13 +1,13 @@
 -- When a client may be sent something.
 use Rattle.std.specs.Prelude.{◌≡◌, ◌⊎◌, true, ⊤, List, ◌++◌, length}
 use Rattle.std.specs.List.{AllByRecursion}
-use Rattle.ocf_types.specs.Answer.{reply_to}
-use Rattle.ocf_types.specs.Kinds.{Reply}
+use Rattle.ocf_model.specs.Answer.{reply_to}
+use Rattle.ocf_model.specs.Answer.{Reply}
 use Rattle.ocf_types.specs.declared.command.Question.{Question}
-use Rattle.ocf_types.specs.declared.reply.Notice.{Notice}
-use Rattle.ocf_types.specs.declared.reply.ReplyOf.TheVariants as reply
+use Rattle.ocf_types.specs.declared.notice.Notice.{Notice}
+use Rattle.ocf_model.specs.declared.reply.ReplyOf.TheVariants as reply
 use Rattle.store_model.specs.StoreView.{StoreView}
-use Rattle.executor_laws.specs.Incarnations.{Calls, Exchange}
+use Rattle.executor.specs.Exchanges.{Calls, Exchange}
 use Rattle.executor.specs.Sessions.{Effects}
 use Rattle.executor.specs.ExecutorView.{ExecutorView}
 use Rattle.exec_replies.specs.Replies.{statuses_in}

@@ -1,7 +1,7 @@
 -- Which tag each line of a message has.
 use Rattle.std.specs.Prelude.{List, [], ◌∷◌}
-use Rattle.ocf_types.specs.Kinds.{Reply}
-use Rattle.ocf_types.specs.declared.reply.Notice.{Notice}
+use Rattle.ocf_model.specs.Answer.{Reply}
+use Rattle.ocf_types.specs.declared.notice.Notice.{Notice}
 use Rattle.exec_client.specs.MessageView as message
 use Rattle.exec_client.specs.MessageView.{MessageView}
 use Rattle.exec_client.specs.Tags.{LineTag, TagsView, after_line_reply, after_notice, after_reply, next_line, tag_of_call}

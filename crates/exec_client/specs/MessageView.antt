@@ -1,7 +1,7 @@
 -- Messages as contracts see them.
 use Rattle.std.specs.Prelude.{List}
-use Rattle.ocf_types.specs.Kinds as kinds
-use Rattle.ocf_types.specs.declared.reply.Notice.{Notice}
+use Rattle.ocf_model.specs.Answer as answer
+use Rattle.ocf_types.specs.declared.notice.Notice.{Notice}
 use Rattle.child_model.specs.declared.answer.Entry.{Entry}
 use Rattle.exec_replies.specs.declared.reply.LineReply.{LineReply}
 use Rattle.exec_client.specs.declared.message.Message.{Message}
@@ -11,7 +11,7 @@ use Rattle.exec_client.specs.declared.message.Message.TheVariants as message
 -- its end; a line that answers no line; or the report of the opening, or a part of it.
 pub data MessageView : Type 0 where
   Reply : LineReply → MessageView
-  Replies : List kinds.Reply → MessageView
+  Replies : List answer.Reply → MessageView
   Turn : List Entry → List Notice → MessageView
   News : LineReply → MessageView
   Report : List Notice → MessageView

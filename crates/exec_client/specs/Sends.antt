@@ -2,7 +2,7 @@
 use Rattle.std.specs.Prelude.{◌≡◌, false, List, [], ◌∷◌, ◌++◌, map}
 use Rattle.std.specs.List.{AllByRecursion}
 use Rattle.store_model.specs.StoreView.{StoreView}
-use Rattle.executor_laws.specs.Incarnations.{Does, Exchange, Finished, Batch, Took}
+use Rattle.executor.specs.Exchanges.{Does, Exchange, Finished, Batch, Took}
 use Rattle.executor.specs.Sessions.{Effects, followed_by, no_effects}
 use Rattle.executor.specs.ExecutorView.{ExecutorView}
 use Rattle.executor.specs.declared.session.InputOf.TheVariants as input

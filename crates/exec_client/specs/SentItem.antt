@@ -1,7 +1,7 @@
 -- What a client is sent.
 use Rattle.std.specs.Prelude.{ℕ, List, [], ◌∷◌, ◌++◌, drop, map, Option, None}
-use Rattle.ocf_types.specs.Kinds.{Reply}
-use Rattle.ocf_types.specs.declared.reply.Notice.{Notice}
+use Rattle.ocf_model.specs.Answer.{Reply}
+use Rattle.ocf_types.specs.declared.notice.Notice.{Notice}
 use Rattle.exec_replies.specs.Replies.{notice_line, reply_line}
 use Rattle.exec_replies.specs.declared.notice.NoticeForm.{NoticeForm}
 use Rattle.exec_replies.specs.declared.notice.Origin.TheVariants.{Opening, Turn}

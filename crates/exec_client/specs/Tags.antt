@@ -1,9 +1,9 @@
 -- The tags of lines that wait for a reply, and of the calls that lines were given.
 use Rattle.std.specs.Prelude.{ℕ, ◌-◌, ◌^◌, ◌==◌, nat_lt, not, List, [], ◌∷◌, ◌++◌, length, drop, filter, if◌then◌else◌, Option, Some, None, option_map}
 use Rattle.std.specs.List.{find}
-use Rattle.ocf_types.specs.Kinds.{Reply}
-use Rattle.ocf_types.specs.declared.reply.Notice.{Notice}
-use Rattle.ocf_types.specs.declared.reply.ReplyOf.TheVariants as reply
+use Rattle.ocf_model.specs.Answer.{Reply}
+use Rattle.ocf_types.specs.declared.notice.Notice.{Notice}
+use Rattle.ocf_model.specs.declared.reply.ReplyOf.TheVariants as reply
 use Rattle.exec_replies.specs.declared.reply.LineReply.{LineReply}
 use Rattle.exec_replies.specs.declared.reply.LineReply.TheVariants.{Request}
 

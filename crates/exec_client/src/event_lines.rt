@@ -1,6 +1,6 @@
 //! The line of a result, for a person.
 ghost use Rattle.std.specs.Prelude.{◌≡◌, IfOk};
-ghost use Rattle.ocf_types.specs.Notices.{is_failure};
+ghost use Rattle.ocf_types.specs.Expected.{is_failure};
 ghost use Rattle.resource_status.specs.Meanings.{tone_of};
 ghost use Rattle.exec_client.specs.Events.{IsEventLine, is_bad, is_unknown, mark_of, marked};
 

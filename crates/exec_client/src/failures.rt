@@ -1,7 +1,7 @@
 //! Which messages say that a line was not done or that an action failed.
 ghost use Rattle.std.specs.Prelude.{◌≡◌};
 ghost use Rattle.std.specs.List.{list_any};
-ghost use Rattle.ocf_types.specs.Notices.{is_failure};
+ghost use Rattle.ocf_types.specs.Expected.{is_failure};
 ghost use Rattle.exec_client.specs.MessageView.{message_view};
 ghost use Rattle.exec_client.specs.SentItem.{sent_in};
 ghost use Rattle.exec_client.specs.Failures.{is_refused, is_undone, tell_failure};
@@ -9,7 +9,8 @@ ghost use Rattle.exec_client.specs.Failures.{is_refused, is_undone, tell_failure
 use crate::message::Message;
 use exec_replies::{DrainEnd, LineReply};
 use ocf_codes::is_failure;
-use ocf_types::{Notice, Reply, TidyEnd};
+use ocf_model::{Reply, TidyEnd};
+use ocf_types::Notice;
 
 fn is_refused(reply: &Reply) -> bool
     ensures { result ≡ is_refused reply.now }

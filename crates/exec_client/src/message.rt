@@ -6,7 +6,8 @@ ghost use Rattle.exec_client.specs.declared.message.Message.TheVariants.{Notices
 use child_model::{Children, Entry};
 use exec_replies::LineReply;
 use executor::On;
-use ocf_types::{Notice, Reply};
+use ocf_model::Reply;
+use ocf_types::Notice;
 use store_model::Store;
 
 /// The notices of a turn, and what the agent processes had answered by its end. The signal that ended a run is found there, since the

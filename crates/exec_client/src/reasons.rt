@@ -6,7 +6,8 @@ use exec_state::State;
 use growth::push;
 use ocf_codes::is_failure;
 use ocf_env::Text;
-use ocf_types::{RscId, StateView};
+use ocf_model::StateView;
+use ocf_types::RscId;
 use resource_status::RunReason;
 use std::alloc::Global;
 

@@ -13,7 +13,7 @@ use crate::tags::Tags;
 use exec_lines::{IoFault, Output};
 use exec_replies::{JsonLines, LineReply, NoticeForm, Tagged};
 use growth::Grows;
-use ocf_types::Reply;
+use ocf_model::Reply;
 use resource_status::RunReason;
 use std::alloc::Global;
 

@@ -7,7 +7,8 @@ use crate::waiting::{Waiting, take_first};
 use exec_commands::Tag;
 use exec_replies::LineReply;
 use growth::{Grows, Refused};
-use ocf_types::{CallId, Notice, Reply};
+use ocf_model::Reply;
+use ocf_types::{CallId, Notice};
 use std::alloc::Global;
 use std::marker::Model;
 

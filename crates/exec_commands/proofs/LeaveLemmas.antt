@@ -8,8 +8,8 @@ use Rattle.ocf_types.specs.declared.command.CommandOf.TheVariants as command
 use Rattle.ocf_types.specs.declared.command.Question.{Question}
 use Rattle.ocf_types.specs.declared.command.Question.TheVariants as question
 use Rattle.ocf_types.specs.declared.command.RequestOf.TheVariants as request
-use Rattle.ocf_types.specs.declared.refusal.Refusal.{Refusal}
-use Rattle.ocf_types.specs.declared.refusal.Refusal.TheVariants.{UnknownOp}
+use Rattle.ocf_model.specs.declared.refusal.Refusal.{Refusal}
+use Rattle.ocf_model.specs.declared.refusal.Refusal.TheVariants.{UnknownOp}
 use Rattle.exec_commands.specs.Keys.{given, text_at, number_at, number_or, number_there}
 use Rattle.exec_commands.specs.Lines.{asked, commanded, id_in, register_in, set_params_in, exec_in, recur_in, cancel_in, withdraw_in}
 use Rattle.exec_commands.specs.Lines.{line_for, line_of, meta_in, operation_named}

@@ -13,7 +13,7 @@ use Rattle.ocf_types.specs.Names.{is_param_name}
 use Rattle.ocf_types.specs.Values.{is_param_value}
 use Rattle.ocf_types.specs.Params.{ParamList, is_before, is_after, are_params_after, AreParams, last_name}
 use Rattle.ocf_types.specs.Lemmas.{and_false, before_trans, both, less_is}
-use Rattle.ocf_types.specs.declared.refusal.Refusal.TheVariants.{BadValue}
+use Rattle.ocf_model.specs.declared.refusal.Refusal.TheVariants.{BadValue}
 use Rattle.exec_commands.specs.Keys.{TextPair, text_pair, texts_seen, are_ascending}
 use Rattle.exec_commands.specs.Values.{are_names, valued_params}
 

@@ -9,8 +9,8 @@ use Rattle.serde_json.specs.Find.{get, as_str, as_object}
 use Rattle.ocf_types.specs.Actions.{action_named, level_numbered}
 use Rattle.ocf_types.specs.Expected.{expect_of_code}
 use Rattle.ocf_types.specs.Names.{is_provider, is_rsc_id}
-use Rattle.ocf_types.specs.declared.refusal.Refusal.{Refusal}
-use Rattle.ocf_types.specs.declared.refusal.Refusal.TheVariants.{Syntax, BadName, BadValue}
+use Rattle.ocf_model.specs.declared.refusal.Refusal.{Refusal}
+use Rattle.ocf_model.specs.declared.refusal.Refusal.TheVariants.{Syntax, BadName, BadValue}
 use Rattle.exec_commands.specs.LineKeys.{key_word, range_of}
 use Rattle.exec_commands.specs.declared.key.Key.{Key}
 use Rattle.exec_commands.specs.declared.key.Key.TheVariants.{Op}

@@ -6,8 +6,8 @@ use Rattle.std.specs.Option.{option_map_or, ok_or}
 use Rattle.serde_json.specs.Data.{Data, Members, no_members, member}
 use Rattle.serde_json.specs.Find.{get, as_str, as_number, as_u64, as_object}
 use Rattle.ocf_types.specs.Params.{ParamList, is_after}
-use Rattle.ocf_types.specs.declared.refusal.Refusal.{Refusal}
-use Rattle.ocf_types.specs.declared.refusal.Refusal.TheVariants.{Syntax}
+use Rattle.ocf_model.specs.declared.refusal.Refusal.{Refusal}
+use Rattle.ocf_model.specs.declared.refusal.Refusal.TheVariants.{Syntax}
 
 -- the next step with the value that was read, or the refusal
 abbrev pub given : {A B : Type 0} → Result A Refusal → (A → Result B Refusal) → Result B Refusal

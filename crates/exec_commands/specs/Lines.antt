@@ -13,8 +13,8 @@ use Rattle.ocf_types.specs.declared.command.CommandOf.TheVariants as command
 use Rattle.ocf_types.specs.declared.command.Question.{Question}
 use Rattle.ocf_types.specs.declared.command.Question.TheVariants as question
 use Rattle.ocf_types.specs.declared.command.RequestOf.TheVariants as request
-use Rattle.ocf_types.specs.declared.refusal.Refusal.{Refusal}
-use Rattle.ocf_types.specs.declared.refusal.Refusal.TheVariants.{UnknownOp}
+use Rattle.ocf_model.specs.declared.refusal.Refusal.{Refusal}
+use Rattle.ocf_model.specs.declared.refusal.Refusal.TheVariants.{UnknownOp}
 use Rattle.exec_commands.specs.Keys.{given, typed, text_at, number_at, number_or, number_there, params_at, params_if_there}
 use Rattle.exec_commands.specs.Values.{named, params_of, check_of, task_named, millis_of, call_of, limit_of, limit_if_named}
 use Rattle.exec_commands.specs.Values.{default_limit, default_meta_limit}

@@ -1,8 +1,8 @@
 -- The message of a refusal, and the key that it is about.
 use Rattle.std.specs.Prelude.{ℕ, List, ◌++◌, Option, None, Some, is_some, option_map, if◌then◌else◌}
 use Rattle.ocf_types.specs.Actions.{action_named}
-use Rattle.ocf_types.specs.declared.refusal.Refusal.{Refusal}
-use Rattle.ocf_types.specs.declared.refusal.Refusal.TheVariants as refusal
+use Rattle.ocf_model.specs.declared.refusal.Refusal.{Refusal}
+use Rattle.ocf_model.specs.declared.refusal.Refusal.TheVariants as refusal
 use Rattle.exec_commands.specs.LineKeys.{key_word, range_of, range_text}
 use Rattle.exec_commands.specs.declared.key.Key.{Key}
 use Rattle.exec_commands.specs.declared.message.TheConstants as text

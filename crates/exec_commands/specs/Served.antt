@@ -3,8 +3,8 @@ use Rattle.std.specs.Prelude.{◌≡◌, ◌≢◌, ℕ, nat_le, Bool, true, fal
 use Rattle.std.specs.Option.{option_map_or}
 use Rattle.serde_json.specs.Data.{Data}
 use Rattle.ocf_types.specs.Limits.{line_limit}
-use Rattle.ocf_types.specs.declared.refusal.Refusal.{Refusal}
-use Rattle.ocf_types.specs.declared.refusal.Refusal.TheVariants.{BadValue, Memory, Syntax}
+use Rattle.ocf_model.specs.declared.refusal.Refusal.{Refusal}
+use Rattle.ocf_model.specs.declared.refusal.Refusal.TheVariants.{BadValue, Memory, Syntax}
 use Rattle.exec_commands.specs.declared.key.Key.TheVariants.{Tag}
 use Rattle.exec_commands.specs.declared.refused.About.{About}
 use Rattle.exec_commands.specs.declared.refused.About.TheVariants as about

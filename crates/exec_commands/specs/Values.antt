@@ -10,8 +10,8 @@ use Rattle.ocf_types.specs.Actions.{action_named, level_numbered, task_of}
 use Rattle.ocf_types.specs.Expected.{expect_of_code}
 use Rattle.ocf_types.specs.declared.action.Check.{Check}
 use Rattle.ocf_types.specs.declared.action.Task.{Task}
-use Rattle.ocf_types.specs.declared.refusal.Refusal.{Refusal}
-use Rattle.ocf_types.specs.declared.refusal.Refusal.TheVariants.{BadName, BadValue}
+use Rattle.ocf_model.specs.declared.refusal.Refusal.{Refusal}
+use Rattle.ocf_model.specs.declared.refusal.Refusal.TheVariants.{BadName, BadValue}
 use Rattle.exec_commands.specs.Keys.{given}
 
 -- a text that is a valid name, or a refusal

@@ -16,7 +16,8 @@ use crate::tag::{Tag, tag_in};
 use crate::values::{provider, rsc_id};
 use growth::{Refused, text_of};
 use ocf_env::Text;
-use ocf_types::{Action, Expect, Level, Refusal};
+use ocf_model::Refusal;
+use ocf_types::{Action, Expect, Level};
 use serde_json::{Map, Value};
 use std::alloc::Global;
 

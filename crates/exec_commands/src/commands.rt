@@ -1,7 +1,7 @@
 //! Reads commands from JSON values.
 ghost use Rattle.std.specs.Prelude.{◌≡◌, ◌≢◌, Ok, Err, IfOk, IfErr, IsTrue};
 ghost use Rattle.serde_json.specs.View.{view};
-ghost use Rattle.ocf_types.specs.declared.refusal.Refusal.TheVariants.{Memory};
+ghost use Rattle.ocf_model.specs.declared.refusal.Refusal.TheVariants.{Memory};
 ghost use Rattle.exec_commands.specs.Lines.{id_in, register_in, set_params_in, exec_in, recur_in, cancel_in};
 ghost use Rattle.exec_commands.specs.Lines.{withdraw_in};
 
@@ -10,7 +10,8 @@ use crate::params::params_of;
 use crate::texts::{params_at, params_if_there};
 use crate::values::{agent_type, call_id, check, millis, provider, rsc_id, task};
 use growth::Grows;
-use ocf_types::{Command, DEFAULT_TIMEOUT, Refusal, Registration, RscId};
+use ocf_model::Refusal;
+use ocf_types::{Command, DEFAULT_TIMEOUT, Registration, RscId};
 use serde_json::Value;
 use std::alloc::Global;
 

@@ -2,9 +2,9 @@
 ghost use Rattle.std.specs.Prelude.{◌≡◌, Ok, Err, IfOk, IfErr, ◌≢◌};
 ghost use Rattle.serde_json.specs.View.{view};
 ghost use Rattle.exec_commands.specs.Keys.{text_at, typed, natural, number_at, number_or, number_there};
-ghost use Rattle.ocf_types.specs.declared.refusal.Refusal.TheVariants.{Memory};
+ghost use Rattle.ocf_model.specs.declared.refusal.Refusal.TheVariants.{Memory};
 
-use ocf_types::Refusal;
+use ocf_model::Refusal;
 use serde_json::Value;
 
 /// The text under a key.

@@ -6,7 +6,8 @@ ghost use Rattle.exec_commands.specs.Messages.{hint_text, key_text, message_of, 
 use crate::key::Key;
 use crate::refused::About;
 use growth::{Refused, push_text};
-use ocf_types::{Action, Refusal};
+use ocf_model::Refusal;
+use ocf_types::Action;
 
 // The messages of refusals that are about no single key, each by the name of its refusal.
 pub const SYNTAX: &str = "a line must be one JSON object of at most 131072 bytes";

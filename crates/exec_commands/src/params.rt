@@ -2,13 +2,14 @@
 ghost use Rattle.std.specs.Prelude.{◌≡◌, ◌≢◌, None, Ok, Err, IfOk, IfErr, IsTrue};
 ghost use Rattle.std.specs.List.{list_all};
 ghost use Rattle.ocf_types.specs.Names.{is_param_name};
-ghost use Rattle.ocf_types.specs.declared.refusal.Refusal.TheVariants.{Memory};
+ghost use Rattle.ocf_model.specs.declared.refusal.Refusal.TheVariants.{Memory};
 ghost use Rattle.exec_commands.specs.Keys.{TextPair, texts_seen, are_ascending};
 ghost use Rattle.exec_commands.specs.Values.{are_names, params_of, valued_params};
 
 use crate::texts::Texts;
 use growth::Grows;
-use ocf_types::{PARAMS_LIMIT, ParamName, ParamValue, Params, Refusal, ValueError};
+use ocf_model::Refusal;
+use ocf_types::{PARAMS_LIMIT, ParamName, ParamValue, Params, ValueError};
 use std::alloc::Global;
 
 fn is_param_name(text: &str) -> bool

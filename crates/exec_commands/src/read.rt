@@ -3,7 +3,7 @@ ghost use Rattle.std.specs.Prelude.{◌≡◌, ◌≢◌, ◌<◌, false, length
 ghost use Rattle.std.specs.Str.{IsUtf8};
 ghost use Rattle.serde_json.specs.Read.{read};
 ghost use Rattle.serde_json.specs.View.{view};
-ghost use Rattle.ocf_types.specs.declared.refusal.Refusal.TheVariants.{Syntax, Memory};
+ghost use Rattle.ocf_model.specs.declared.refusal.Refusal.TheVariants.{Syntax, Memory};
 ghost use Rattle.exec_commands.specs.Served.{is_service_line};
 ghost use Rattle.exec_commands.specs.Lines.{drain_in, watch_in, meta_in, line_for, line_of, value_of, line_read, commanded, asked};
 
@@ -15,7 +15,8 @@ use crate::line::Line;
 use crate::operation::{Operation, operation_named};
 use crate::values::{agent_type, limit, limit_if_named, millis, provider};
 use growth::{Grows, Refused};
-use ocf_types::{Command, LINE_LIMIT, Question, Refusal, Request};
+use ocf_model::Refusal;
+use ocf_types::{Command, LINE_LIMIT, Question, Request};
 use serde_json::Value;
 use std::alloc::Global;
 

@@ -4,7 +4,7 @@ ghost use Rattle.exec_commands.specs.Messages.{about_key, key_of};
 
 use crate::key::Key;
 use ocf_env::Text;
-use ocf_types::Refusal;
+use ocf_model::Refusal;
 
 /// The subject of a line's refusal.
 #[derive(Drop)]

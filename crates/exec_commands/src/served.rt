@@ -1,7 +1,7 @@
 //! Reads the JSON value of a line of a `serve` session.
 ghost use Rattle.std.specs.Prelude.{◌≡◌, ◌≢◌, Ok, Err, IfOk, IfErr, IsTrue};
 ghost use Rattle.serde_json.specs.View.{view};
-ghost use Rattle.ocf_types.specs.declared.refusal.Refusal.TheVariants.{Memory};
+ghost use Rattle.ocf_model.specs.declared.refusal.Refusal.TheVariants.{Memory};
 ghost use Rattle.exec_commands.specs.Lines.{served_line_of, served_meta_in};
 ghost use Rattle.exec_commands.specs.Served.{known_line, refused_line, served_line, tagged_line};
 
@@ -15,7 +15,7 @@ use crate::tag::is_mistagged;
 use crate::values::{agent_type, limit, provider};
 use growth::{Grows, Refused, text_of};
 use ocf_env::Text;
-use ocf_types::Refusal;
+use ocf_model::Refusal;
 use serde_json::Value;
 use std::alloc::Global;
 

@@ -1,7 +1,7 @@
 //! Reads the lines of a `serve` session, in which no key may occur twice.
 ghost use Rattle.std.specs.Prelude.{◌≡◌, true, false, None, Some, Ok, IfOk, IfErr, IsTrue};
 ghost use Rattle.serde_json.specs.View.{view};
-ghost use Rattle.ocf_types.specs.declared.refusal.Refusal.TheVariants.{Memory};
+ghost use Rattle.ocf_model.specs.declared.refusal.Refusal.TheVariants.{Memory};
 ghost use Rattle.exec_commands.specs.Lines.{value_of};
 ghost use Rattle.exec_commands.specs.Served.{IsServedAs, line_in, served_line};
 ghost use Rattle.exec_commands.specs.Tags.{IsTaggedAs, tag_of};
@@ -15,7 +15,7 @@ use crate::served::{refused_line, served_line};
 use crate::tag::tag_of;
 use growth::{Grows, Refused};
 use json::{Error, Scratch, Value};
-use ocf_types::Refusal;
+use ocf_model::Refusal;
 use std::alloc::Global;
 use std::str;
 

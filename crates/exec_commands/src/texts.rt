@@ -1,11 +1,11 @@
 //! Objects whose members are all texts, from which parameters are made.
 ghost use Rattle.std.specs.Prelude.{◌≡◌, ◌≢◌, [], None, Ok, Err, IfOk, IfErr, IsTrue};
 ghost use Rattle.serde_json.specs.View.{view, members_view};
-ghost use Rattle.ocf_types.specs.declared.refusal.Refusal.TheVariants.{Memory};
+ghost use Rattle.ocf_model.specs.declared.refusal.Refusal.TheVariants.{Memory};
 ghost use Rattle.exec_commands.specs.Keys.{typed, texts, member_texts, texts_seen, are_ascending, params_at, params_if_there};
 
 use growth::{Grows, push};
-use ocf_types::Refusal;
+use ocf_model::Refusal;
 use serde_json::{Map, Value};
 use std::alloc::Global;
 use std::marker::Model;

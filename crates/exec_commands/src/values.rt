@@ -2,11 +2,10 @@
 ghost use Rattle.std.specs.Prelude.{◌≡◌, ◌≢◌, IfErr};
 ghost use Rattle.ocf_types.specs.Names.{is_rsc_id, is_provider, is_agent_type};
 ghost use Rattle.exec_commands.specs.Values.{named, check_numbered, check_of, task_named, millis_of, call_of, limit_if_named, limit_of};
-ghost use Rattle.ocf_types.specs.declared.refusal.Refusal.TheVariants.{Memory};
+ghost use Rattle.ocf_model.specs.declared.refusal.Refusal.TheVariants.{Memory};
 
-use ocf_types::{
-    Action, AgentType, CallId, Check, Expect, Level, Millis, Provider, Refusal, RscId, Task,
-};
+use ocf_model::Refusal;
+use ocf_types::{Action, AgentType, CallId, Check, Expect, Level, Millis, Provider, RscId, Task};
 
 /// The id of a resource.
 pub fn rsc_id(text: &str) -> Result<RscId, Refusal>

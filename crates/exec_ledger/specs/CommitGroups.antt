@@ -1,7 +1,8 @@
 -- Group commit: commands that arrived together, as batches and as single commands.
 use Rattle.std.specs.Prelude.{◌≡◌, ℕ, List, [], ◌∷◌}
 use Rattle.std.specs.List.{flat_map}
-use Rattle.ocf_types.specs.Kinds.{Command, Reply}
+use Rattle.ocf_types.specs.Kinds.{Command}
+use Rattle.ocf_model.specs.Answer.{Reply}
 use Rattle.store_model.specs.StoreView.{StoreView}
 use Rattle.exec_ledger.specs.Commands.{TakesCommand}
 use Rattle.exec_ledger.specs.LedgerView.{LedgerView}

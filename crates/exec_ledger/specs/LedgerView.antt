@@ -1,7 +1,7 @@
 -- The view of a ledger, and its invariant.
 use Rattle.std.specs.Prelude.{◌≡◌, Bool, true, false}
-use Rattle.ocf_types.specs.Due.{Due}
-use Rattle.ocf_types.specs.State.{State}
+use Rattle.ocf_model.specs.Due.{Due}
+use Rattle.ocf_model.specs.State.{State}
 use Rattle.store_model.specs.Batches.{HasReserve}
 use Rattle.store_model.specs.Calls.{IsSettled}
 use Rattle.store_model.specs.StoreView.{StoreView}

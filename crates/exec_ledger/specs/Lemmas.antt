@@ -5,10 +5,10 @@ use Rattle.std.proofs.Common.{inl, inr, ⊎_elim, arith, refl, sym, ◌∙◌, a
 use Rattle.std.proofs.lemmas.Bool.{or_right}
 use Rattle.std.proofs.lemmas.List.{append-nil}
 use Rattle.std.proofs.lemmas.List.Elements.{Contains-append_cases, Contains-push_cases}
-use Rattle.ocf_types.specs.Due.{Due, due_after}
+use Rattle.ocf_model.specs.Due.{Due, due_after}
 use Rattle.ocf_types.specs.Kinds.{Event}
-use Rattle.ocf_types.specs.Lemmas.{after_all-append}
-use Rattle.ocf_types.specs.State.{State, after, after_all}
+use Rattle.ocf_model.specs.StateLemmas.{after_all-append}
+use Rattle.ocf_model.specs.State.{State, after, after_all}
 use Rattle.ocf_types.specs.Limits.{slot_frame}
 use Rattle.store_model.specs.declared.fault.AppendFault.TheVariants.{Disk}
 use Rattle.store_model.specs.Lemmas.{joined as runs_joined, left_now, started, weakened}

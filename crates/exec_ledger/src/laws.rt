@@ -1,5 +1,5 @@
 //! Lemmas about what a crash leaves, each the contract of a function that does nothing.
-ghost use Rattle.ocf_types.specs.State.{State};
+ghost use Rattle.ocf_model.specs.State.{State};
 ghost use Rattle.store_model.specs.Batches.{HasReserve};
 ghost use Rattle.store_model.specs.Calls.{IsSettled};
 ghost use Rattle.exec_ledger.specs.Pieces.{CrashCondition, Effects};

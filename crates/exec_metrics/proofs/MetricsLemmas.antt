@@ -1,6 +1,6 @@
 -- The metrics of a state that is found on parts of this measure.
 use Rattle.std.proofs.Common.{◌≡◌, ℕ, List, [], Option, Result, Ok, Err, subst}
-use Rattle.ocf_types.specs.State.{State}
+use Rattle.ocf_model.specs.State.{State}
 use Rattle.disk_model.specs.Image.{Image}
 use Rattle.disk_model.specs.Disk.{DiskView}
 use Rattle.exec_journal.specs.Found.{FoundAs}

@@ -4,9 +4,9 @@ use Rattle.std.proofs.lemmas.List.{append-nil, append_assoc, take_more}
 use Rattle.std.proofs.lemmas.Grind.{flat_map-append, get_or_default_zero}
 use Rattle.std.specs.List.{flat_map}
 use Rattle.ocf_types.specs.Lemmas.{flat_more}
-use Rattle.ocf_types.specs.Indexes.{entry_at, no_entry}
-use Rattle.ocf_types.specs.Resource.{Resource}
-use Rattle.ocf_types.specs.State.{State}
+use Rattle.ocf_model.specs.Indexes.{entry_at, no_entry}
+use Rattle.ocf_model.specs.Resource.{Resource}
+use Rattle.ocf_model.specs.State.{State}
 
 -- one more item, at an index within the list
 pub item_more : {X : Type 0} (f : X → List ℕ) (xs : List X) (i : ℕ) (x : X) (prefix : List ℕ) → i < length xs → x ≡ get_or xs i x

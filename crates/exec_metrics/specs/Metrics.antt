@@ -2,8 +2,8 @@
 use Rattle.std.specs.Prelude.{◌≡◌, ℕ, ◌-◌, ⊤, List, [], ◌∷◌, ◌++◌, length, map, is_some, Option, Result, Ok, Err}
 use Rattle.std.specs.List.{flat_map}
 use Rattle.std.specs.Io.KnownBytes.{Appends}
-use Rattle.ocf_types.specs.Resource.{Resource}
-use Rattle.ocf_types.specs.State.{State}
+use Rattle.ocf_model.specs.Resource.{Resource}
+use Rattle.ocf_model.specs.State.{State}
 use Rattle.disk_model.specs.Image.{Image}
 use Rattle.two_parts.specs.Choice.{choice}
 use Rattle.exec_journal.specs.Found.{FoundAs, HasDamage}

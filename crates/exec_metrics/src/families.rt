@@ -1,7 +1,7 @@
 //! The families of a journal, one after the other.
 ghost use Rattle.std.specs.Prelude.{◌≡◌, ◌<◌, ◌++◌, ◌∷◌, [], length, IfOk};
 ghost use Rattle.std.specs.List.{flat_map};
-ghost use Rattle.ocf_types.specs.Indexes.{entry_at};
+ghost use Rattle.ocf_model.specs.Indexes.{entry_at};
 ghost use Rattle.exec_metrics.specs.Metrics.{family_of, journal_families, lines_in, measure_of, of_actions, of_journal, of_results, samples, GoesOn};
 
 use crate::family::{Family, add_header};
@@ -13,7 +13,8 @@ use exec_state::State;
 use growth::Refused;
 use journal_log::Measured;
 use line_text::LineText;
-use ocf_types::{Moment, StateView};
+use ocf_model::StateView;
+use ocf_types::Moment;
 use resource_status::{condition_by, count_of, recorded_of};
 use std::alloc::Global;
 

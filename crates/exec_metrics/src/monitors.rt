@@ -1,7 +1,7 @@
 //! The codes and ages of recurring monitors' last results.
 ghost use Rattle.std.specs.Prelude.{◌≡◌, ◌<◌, ◌++◌, length};
 ghost use Rattle.std.specs.List.{flat_map};
-ghost use Rattle.ocf_types.specs.Indexes.{at_index, id_at};
+ghost use Rattle.ocf_model.specs.Indexes.{at_index, id_at};
 ghost use Rattle.exec_metrics.specs.Samples.{age_of_monitor, code_of_monitor, interval_label, monitor_age, monitor_code, outcome_value};
 
 use crate::family::Family;
@@ -11,7 +11,8 @@ use crate::sample::{begin, finish};
 use exec_state::State;
 use line_text::LineText;
 use ocf_codes::code_of;
-use ocf_types::{Ended, Moment, Recur, RscId, StateView};
+use ocf_model::StateView;
+use ocf_types::{Ended, Moment, Recur, RscId};
 use resource_status::last_run;
 
 // Adds the label for the interval of a recurring monitor.

@@ -1,6 +1,6 @@
 //! The codes and ages of results.
 ghost use Rattle.std.specs.Prelude.{◌≡◌, ◌<◌, ◌++◌, length};
-ghost use Rattle.ocf_types.specs.Indexes.{at_index};
+ghost use Rattle.ocf_model.specs.Indexes.{at_index};
 ghost use Rattle.exec_metrics.specs.Samples.{age, age_sample, code_labels, code_sample, last_result};
 
 use crate::family::Family;
@@ -9,7 +9,8 @@ use crate::sample::{add_plain, begin, finish};
 use exec_state::State;
 use line_text::LineText;
 use ocf_codes::code_of;
-use ocf_types::{Ended, Moment, RscId, StateView};
+use ocf_model::StateView;
+use ocf_types::{Ended, Moment, RscId};
 
 /// The age of a result, if there is one, in whole seconds; 0 for one that is ahead of the clock.
 pub fn age(now: Moment, found: Option<Ended>) -> Option<u64>

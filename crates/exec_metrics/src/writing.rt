@@ -1,6 +1,6 @@
 //! Measures and opens a journal, and writes its metrics.
 ghost use Rattle.std.specs.Prelude.{[], IsErrOf, IfErr};
-ghost use Rattle.ocf_types.specs.State.{State as PlainState};
+ghost use Rattle.ocf_model.specs.State.{State as PlainState};
 ghost use Rattle.disk_model.specs.Disk.{Increased};
 ghost use Rattle.exec_journal.specs.Found.{FoundAs};
 ghost use Rattle.exec_journal.specs.Opening.{Opens};

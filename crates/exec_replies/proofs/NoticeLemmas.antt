@@ -1,6 +1,6 @@
 -- The tokens of a notice, by its form and where it is from.
 use Rattle.std.proofs.Common.{◌≡◌, ℕ, Option, None, Some, refl}
-use Rattle.ocf_types.specs.declared.reply.Notice.{Notice}
+use Rattle.ocf_types.specs.declared.notice.Notice.{Notice}
 use Rattle.exec_replies.specs.Replies.{lives_of, notice_tokens, timed_data}
 use Rattle.exec_replies.specs.Tags.{marked, written_reason, written_tag}
 use Rattle.exec_replies.specs.Tokens.{value_tokens}

@@ -6,15 +6,15 @@ use Rattle.json.specs.Tree.{items_tokens, members_tokens}
 use Rattle.serde_json.specs.Data.{Data, string}
 use Rattle.serde_json.specs.View.{items_of}
 use Rattle.serde_json.specs.Written.{items_outline, members_outline}
-use Rattle.ocf_types.specs.Kinds.{Info}
+use Rattle.ocf_model.specs.Answer.{Info}
 use Rattle.ocf_types.specs.Params.{ParamList}
 use Rattle.ocf_types.specs.declared.operation.Ended.{Ended}
 use Rattle.ocf_types.specs.declared.operation.Recur.{Recur}
 use Rattle.ocf_types.specs.declared.operation.Running.{Running}
 use Rattle.ocf_types.specs.declared.outcome.MetaFault.TheVariants as fault
-use Rattle.ocf_types.specs.declared.refusal.Refusal.{Refusal}
-use Rattle.ocf_types.specs.declared.reply.Notice.{Notice}
-use Rattle.ocf_types.specs.Refusals.{refusal_row}
+use Rattle.ocf_model.specs.declared.refusal.Refusal.{Refusal}
+use Rattle.ocf_types.specs.declared.notice.Notice.{Notice}
+use Rattle.ocf_model.specs.Refusals.{refusal_row}
 use Rattle.ocf_env.specs.Keys.{key_text}
 use Rattle.exec_replies.specs.Errors.{error_tokens}
 use Rattle.exec_replies.specs.Infos.{info_lists, info_more, info_state, params_tokens, queued_tokens, recur_first, recur_rest, recurring_tokens, running_tokens}

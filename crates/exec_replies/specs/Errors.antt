@@ -1,8 +1,8 @@
 -- The members of a refusal, in two parts.
 use Rattle.std.specs.Prelude.{ℕ, List, [], ◌∷◌, ◌++◌, Option, None, Some, codes}
 use Rattle.json.specs.Token.{Token, begin_object, end_object}
-use Rattle.ocf_types.specs.Refusals.{refusal_row}
-use Rattle.ocf_types.specs.declared.refusal.Refusal.{Refusal}
+use Rattle.ocf_model.specs.Refusals.{refusal_row}
+use Rattle.ocf_model.specs.declared.refusal.Refusal.{Refusal}
 use Rattle.exec_replies.specs.Service.{lent}
 use Rattle.exec_replies.specs.Tokens.{kind_member, number_member, tag_member, text_member}
 use Rattle.exec_replies.specs.declared.marks.Marks.{Marks}

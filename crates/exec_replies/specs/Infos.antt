@@ -4,7 +4,7 @@ use Rattle.std.specs.List.{flat_map}
 use Rattle.json.specs.Token.{Token, begin_object, end_array, end_object, key}
 use Rattle.ocf_types.specs.Actions.{level_number}
 use Rattle.ocf_types.specs.Expected.{expect_code}
-use Rattle.ocf_types.specs.Kinds.{Info}
+use Rattle.ocf_model.specs.Answer.{Info}
 use Rattle.ocf_types.specs.Params.{ParamList}
 use Rattle.ocf_types.specs.declared.operation.Recur.{Recur}
 use Rattle.ocf_types.specs.declared.operation.Running.{Running}

@@ -3,10 +3,10 @@ use Rattle.std.specs.Prelude.{ℕ, List, [], ◌∷◌, ◌++◌, Option, None, 
 use Rattle.json.specs.Token.{Token, begin_object, end_object}
 use Rattle.ocf_types.specs.Actions.{action_word}
 use Rattle.ocf_types.specs.Expected.{expect_code}
-use Rattle.ocf_types.specs.Notices.{is_failure}
+use Rattle.ocf_types.specs.Expected.{is_failure}
 use Rattle.ocf_types.specs.Outcomes.{outcome_code, outcome_word}
 use Rattle.ocf_types.specs.declared.operation.Ended.{Ended}
-use Rattle.ocf_types.specs.declared.reply.Notice.{Notice}
+use Rattle.ocf_types.specs.declared.notice.Notice.{Notice}
 use Rattle.ocf_codes.specs.ExitCodes.{name_read}
 use Rattle.ocf_env.specs.Keys.{key_text}
 use Rattle.exec_replies.specs.Tokens.{flag_member, number_member, text_member}

@@ -7,23 +7,23 @@ use Rattle.serde_json.specs.View.{view}
 use Rattle.serde_json.specs.Written.{compact_text}
 use Rattle.ocf_types.specs.Actions.{action_word, level_number}
 use Rattle.ocf_types.specs.Expected.{expect_code}
-use Rattle.ocf_types.specs.Notices.{is_failure}
+use Rattle.ocf_types.specs.Expected.{is_failure}
 use Rattle.ocf_types.specs.Outcomes.{outcome_code, outcome_word}
-use Rattle.ocf_types.specs.Refusals.{refusal_row}
-use Rattle.ocf_types.specs.Kinds.{Info, Reply}
+use Rattle.ocf_model.specs.Refusals.{refusal_row}
+use Rattle.ocf_model.specs.Answer.{Info, Reply}
 use Rattle.ocf_types.specs.declared.operation.Recur.{Recur}
 use Rattle.ocf_types.specs.declared.operation.Running.{Running}
 use Rattle.ocf_types.specs.declared.operation.Ended.{Ended}
 use Rattle.ocf_types.specs.declared.outcome.StartFault.{StartFault}
 use Rattle.ocf_types.specs.declared.outcome.StartFault.TheVariants as start
-use Rattle.ocf_types.specs.declared.refusal.Refusal.{Refusal}
-use Rattle.ocf_types.specs.declared.refusal.Refusal.TheVariants.{UnknownOp}
-use Rattle.ocf_types.specs.declared.reply.Notice.{Notice}
-use Rattle.ocf_types.specs.declared.reply.ReplyOf.TheVariants as reply
-use Rattle.ocf_types.specs.declared.reply.TidyEnd.{TidyEnd}
-use Rattle.ocf_types.specs.declared.reply.TidyEnd.TheVariants as tidy
-use Rattle.ocf_types.specs.declared.reply.TurnEnd.{TurnEnd}
-use Rattle.ocf_types.specs.declared.reply.TurnEnd.TheVariants as turn
+use Rattle.ocf_model.specs.declared.refusal.Refusal.{Refusal}
+use Rattle.ocf_model.specs.declared.refusal.Refusal.TheVariants.{UnknownOp}
+use Rattle.ocf_types.specs.declared.notice.Notice.{Notice}
+use Rattle.ocf_model.specs.declared.reply.ReplyOf.TheVariants as reply
+use Rattle.ocf_model.specs.declared.reply.TidyEnd.{TidyEnd}
+use Rattle.ocf_model.specs.declared.reply.TidyEnd.TheVariants as tidy
+use Rattle.ocf_model.specs.declared.reply.TurnEnd.{TurnEnd}
+use Rattle.ocf_model.specs.declared.reply.TurnEnd.TheVariants as turn
 use Rattle.ocf_codes.specs.ExitCodes.{name_read}
 use Rattle.ocf_env.specs.Keys.{key_text}
 use Rattle.exec_commands.specs.Messages.{about_key, message_of}

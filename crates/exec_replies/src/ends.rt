@@ -6,7 +6,8 @@ ghost use Rattle.exec_replies.specs.Tags.{marked_tokens};
 use crate::line_tokens::LineTokens;
 use crate::marks::Marks;
 use growth::Refused;
-use ocf_types::{MetaFault, StartFault, TidyEnd, TurnEnd};
+use ocf_model::{TidyEnd, TurnEnd};
+use ocf_types::{MetaFault, StartFault};
 
 /// How a drain or a watch ended.
 #[derive(Clone, Copy, Debug, PartialEq, Eq)]

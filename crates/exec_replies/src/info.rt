@@ -12,8 +12,9 @@ use crate::names::{agent_text, id_text, param_text, provider_text};
 use crate::results::put_last_failed;
 use growth::Refused;
 use ocf_env::op_key;
+use ocf_model::Info;
 use ocf_types::{
-    AgentType, CallId, Info, ParamName, ParamValue, Params, Provider, Recur, RscId, Running,
+    AgentType, CallId, ParamName, ParamValue, Params, Provider, Recur, RscId, Running,
 };
 
 fn put_param(line: &mut LineTokens, name: &ParamName, value: &ParamValue) -> Result<(), Refused>

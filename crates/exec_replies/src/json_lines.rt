@@ -15,7 +15,8 @@ use crate::tagged::Tagged;
 use crate::write::{write_answer, write_notice, write_reply};
 use exec_lines::{IoFault, Output, put_bytes};
 use growth::Grows;
-use ocf_types::{Notice, Reply};
+use ocf_model::Reply;
+use ocf_types::Notice;
 use std::alloc::Global;
 
 /// A writer, and the buffers in which each of its lines is made.

@@ -11,7 +11,7 @@ use crate::line_buffer::LineBuffer;
 use exec_commands::{About, add_message};
 use growth::{Refused, granted, push};
 use json::{Token, Writer};
-use ocf_types::Refusal;
+use ocf_model::Refusal;
 use std::marker::Model;
 use std::mem;
 

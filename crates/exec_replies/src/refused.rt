@@ -10,7 +10,7 @@ use crate::line_tokens::LineTokens;
 use crate::marks::Marks;
 use exec_commands::{About, LineRefusal, about_key};
 use growth::Refused;
-use ocf_types::Refusal;
+use ocf_model::Refusal;
 
 /// Writes a refusal of a `run` session: its word and its number.
 #[tactic(auto, using(crate::proofs::WholeLemmas::refusal_whole), unfolding(crate::specs::Tokens::text_member, crate::specs::Tokens::number_member, crate::specs::Tokens::flag_member))]

@@ -19,7 +19,8 @@ use crate::service::{Counts, Service, put_metadata, put_ready, put_version};
 use crate::statuses::Statuses;
 use exec_commands::{About, LineRefusal};
 use growth::Refused;
-use ocf_types::{CallId, Ended, MetaFault, OpKey, Refusal, Reply, RscId, TidyEnd, TurnEnd};
+use ocf_model::{Refusal, Reply, TidyEnd, TurnEnd};
+use ocf_types::{CallId, Ended, MetaFault, OpKey, RscId};
 
 /// The reply to a line.
 #[derive(Drop)]

@@ -19,7 +19,8 @@ use crate::service::Service;
 use crate::statuses::{Statuses, status_line};
 use crate::tagged::Tagged;
 use growth::{Refused, append, push};
-use ocf_types::{Notice, Reply};
+use ocf_model::Reply;
+use ocf_types::Notice;
 
 // Adds what follows the line of a reply of a `run` session: metadata, and a newline.
 fn push_after(bytes: &mut Vec<u8>, reply: &LineReply) -> Result<(), Refused>

@@ -3,11 +3,12 @@ use Rattle.std.proofs.Common.{◌≡◌, ◌≢◌, ◌↔◌, ◌==◌, ℕ, su
 use Rattle.std.specs.Prelude.{is_ok, replicate}
 use Rattle.std.specs.Global.{Vec}
 use Rattle.std.proofs.lemmas.List.{drop-map, drop_at, length-map}
-use Rattle.ocf_types.specs.Kinds.{Command, Reply, Request}
+use Rattle.ocf_types.specs.Kinds.{Command, Request}
+use Rattle.ocf_model.specs.Answer.{Reply}
 use Rattle.ocf_types.specs.declared.outcome.MetaFault.{MetaFault}
-use Rattle.ocf_types.specs.declared.refusal.Refusal.{Refusal}
-use Rattle.ocf_types.specs.declared.refusal.Refusal.TheVariants.{Disk}
-use Rattle.ocf_types.specs.declared.reply.ReplyOf.TheVariants as reply
+use Rattle.ocf_model.specs.declared.refusal.Refusal.{Refusal}
+use Rattle.ocf_model.specs.declared.refusal.Refusal.TheVariants.{Disk}
+use Rattle.ocf_model.specs.declared.reply.ReplyOf.TheVariants as reply
 use Rattle.store_model.specs.StoreView.{StoreView}
 use Rattle.executor.specs.CommandBatches.{TakesCommands}
 use Rattle.executor.specs.Commands.{Serves}

@@ -2,8 +2,8 @@
 use Rattle.std.proofs.Common.{◌≡◌, ◌≢◌, ℕ, ◌+◌, ◌<◌, Bool, true, false, ◌||◌, ◌⊎◌, zero, suc, eqb, cond, List, [], ◌∷◌, ◌++◌, length, take, Option, Some, None, Result, Ok, Err, OnErr, OnOk, refl, sym, ap, subst, ◌∙◌, inl, inr, arith, eq-eqb, take_all}
 use Rattle.std.proofs.lemmas.Bool.Decides.{nat_tests}
 use Rattle.std.proofs.lemmas.List.{map-append}
-use Rattle.ocf_types.specs.declared.refusal.Refusal.{Refusal}
-use Rattle.ocf_types.specs.declared.refusal.Refusal.TheVariants.{Memory, Syntax}
+use Rattle.ocf_model.specs.declared.refusal.Refusal.{Refusal}
+use Rattle.ocf_model.specs.declared.refusal.Refusal.TheVariants.{Memory, Syntax}
 use Rattle.exec_commands.specs.Keys.{given, typed}
 use Rattle.exec_commands.specs.Lines.{line_of}
 use Rattle.exec_commands.specs.declared.line.Line.{Line}

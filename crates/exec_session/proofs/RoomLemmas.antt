@@ -5,7 +5,7 @@ use Rattle.std.specs.List.{list_any}
 use Rattle.std.proofs.lemmas.Bool.Decides.{leb_tells}
 use Rattle.std.proofs.lemmas.List.Elements.{All-weaker}
 use Rattle.std.proofs.lemmas.List.Folds.{list_any_at, list_any_none}
-use Rattle.ocf_types.specs.declared.reply.TidyEnd.{TidyEnd}
+use Rattle.ocf_model.specs.declared.reply.TidyEnd.{TidyEnd}
 use Rattle.recurring.specs.Monitors.{IsFirstMoment}
 use Rattle.store_model.specs.StoreView.{StoreView}
 use Rattle.executor.specs.ExecutorView.{ExecutorView}

@@ -1,6 +1,7 @@
 -- Commands that wait to be answered together.
 use Rattle.std.specs.Prelude.{List}
-use Rattle.ocf_types.specs.Kinds.{Command, Reply}
+use Rattle.ocf_types.specs.Kinds.{Command}
+use Rattle.ocf_model.specs.Answer.{Reply}
 use Rattle.exec_session.specs.declared.gathered.Gathered.{Gathered}
 
 -- the commands that wait, in their order

@@ -1,6 +1,6 @@
 -- A line that a session in `serve` holds: it asks for metadata, or for the end of the session.
 use Rattle.std.specs.Prelude.{◌≡◌, ⊤, [], ◌∷◌, Option, Some, None, Result, Ok}
-use Rattle.ocf_types.specs.declared.refusal.Refusal.{Refusal}
+use Rattle.ocf_model.specs.declared.refusal.Refusal.{Refusal}
 use Rattle.exec_commands.specs.declared.line.Line.{Line}
 use Rattle.exec_commands.specs.declared.line.Line.TheVariants as line
 use Rattle.session_machine.specs.Session.{Lines}

@@ -3,7 +3,7 @@ use Rattle.std.specs.Prelude.{◌≡◌, ◌≤◌, ℕ, ◌+◌, true, false, L
 use Rattle.exec_lines.specs.Lines.{line_answer, line_room}
 use Rattle.exec_lines.specs.declared.line.Next.{Next}
 use Rattle.exec_lines.specs.declared.line.Next.TheVariants as end
-use Rattle.ocf_types.specs.declared.refusal.Refusal.{Refusal}
+use Rattle.ocf_model.specs.declared.refusal.Refusal.{Refusal}
 use Rattle.exec_commands.specs.declared.line.Line.{Line}
 use Rattle.session_machine.specs.After.{is_held, reading}
 use Rattle.session_machine.specs.Behaviours.{Trace}

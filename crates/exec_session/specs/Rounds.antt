@@ -1,7 +1,7 @@
 -- Rounds of a session: in `run` a read, and in `serve` the lines that are there, a turn and a wait.
 use Rattle.std.specs.Prelude.{◌≡◌, ◌≢◌, ◌<◌, ◌++◌, ◌∷◌, true, false, [], length, map, None, Result, Ok}
-use Rattle.ocf_types.specs.declared.refusal.Refusal.{Refusal}
-use Rattle.ocf_types.specs.declared.reply.TurnEnd.TheVariants.{Done}
+use Rattle.ocf_model.specs.declared.refusal.Refusal.{Refusal}
+use Rattle.ocf_model.specs.declared.reply.TurnEnd.TheVariants.{Done}
 use Rattle.exec_commands.specs.declared.line.Line.{Line}
 use Rattle.exec_lines.specs.Buffer.{line_bytes}
 use Rattle.session_machine.specs.Limits.{most_together}

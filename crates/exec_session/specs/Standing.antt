@@ -1,7 +1,7 @@
 -- A session as its functions see it: what has happened, the input that it has in hand, its pause, and how its last own turn ended.
 use Rattle.std.specs.Prelude.{◌≡◌, ◌≢◌, ◌≤◌, ◌<◌, ⊤, Bool, true, false, List, [], ◌++◌, map, length, take, None, Result, OnErr}
 use Rattle.ocf_types.specs.Kinds.{Command}
-use Rattle.ocf_types.specs.declared.reply.TurnEnd.{TurnEnd}
+use Rattle.ocf_model.specs.declared.reply.TurnEnd.{TurnEnd}
 use Rattle.exec_client.specs.ClientView.{ClientView}
 use Rattle.exec_client.specs.MessageView.{MessageView}
 use Rattle.exec_lines.specs.Buffer.{line_bytes}

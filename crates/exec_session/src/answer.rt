@@ -1,6 +1,6 @@
 //! Replies to lines, one by one or as a group commit.
 ghost use Rattle.std.specs.Prelude.{◌≡◌, ◌≢◌, ◌↔◌, [], ◌∷◌, false, length, replicate, true, IfOk, Ok, OnOk};
-ghost use Rattle.ocf_types.specs.declared.reply.ReplyOf.TheVariants.{Refused};
+ghost use Rattle.ocf_model.specs.declared.reply.ReplyOf.TheVariants.{Refused};
 ghost use Rattle.session_machine.specs.May.{IsNextReply};
 ghost use Rattle.session_machine.specs.Replies.{IsStatusReply, refused, IsClosedReply};
 ghost use Rattle.session_machine.specs.Session.{Lines, Reading, lines_in};
@@ -11,7 +11,7 @@ ghost use Rattle.executor.specs.CommandBatches.{TakesCommands};
 ghost use Rattle.executor.specs.Commands.{Serves};
 ghost use Rattle.exec_session.specs.Waits.{PollsSource};
 ghost use Rattle.exec_session.specs.declared.flow.Flow.TheVariants.{GoesOn};
-ghost use Rattle.ocf_types.specs.declared.refusal.Refusal.TheVariants as refusal;
+ghost use Rattle.ocf_model.specs.declared.refusal.Refusal.TheVariants as refusal;
 ghost use Rattle.exec_commands.specs.declared.line.Line.TheVariants as line;
 ghost use Rattle.exec_replies.specs.declared.reply.LineReply.TheVariants as answer;
 
@@ -25,7 +25,8 @@ use exec_client::Message;
 use exec_commands::Line;
 use exec_replies::{DrainEnd, LineReply};
 use executor::On;
-use ocf_types::{AgentType, Provider, Refusal, Reply, Request, TidyEnd, TurnEnd};
+use ocf_model::{Refusal, Reply, TidyEnd, TurnEnd};
+use ocf_types::{AgentType, Provider, Request};
 use resource_status::{RunReason, statuses_of};
 use session_machine::{Edge, Failed, Mode};
 use std::alloc::Global;

@@ -1,6 +1,6 @@
 //! Drains, watches and the orderly end of a session in `serve`: turns one after another.
 ghost use Rattle.std.specs.Prelude.{◌≡◌, ◌≢◌, ◌≤◌, ◌+◌, [], ◌∷◌, length, IfOk, Ok, OnOk, true};
-ghost use Rattle.ocf_types.specs.declared.reply.TurnEnd.TheVariants.{Disk};
+ghost use Rattle.ocf_model.specs.declared.reply.TurnEnd.TheVariants.{Disk};
 ghost use Rattle.exec_turn.specs.Actives.{any_running};
 ghost use Rattle.session_machine.specs.After.{after_drain_turn};
 ghost use Rattle.session_machine.specs.Drains.{end_after};
@@ -11,7 +11,8 @@ ghost use Rattle.exec_session.specs.Steps.{HasFinished, HasPaused, IsDrained, Is
 use crate::pause::Pause;
 use crate::session::Session;
 use exec_replies::{DrainEnd, LineReply};
-use ocf_types::{NUM_MAX, TurnEnd};
+use ocf_model::TurnEnd;
+use ocf_types::NUM_MAX;
 use session_machine::{Edge, Failed, Terms};
 
 // How a drain ends after this number of turns, the last of which ended like this, with the executor idle or not, at this time.

@@ -1,14 +1,15 @@
 //! Commands that wait to be answered together.
 ghost use Rattle.std.specs.Prelude.{◌≡◌, ◌≤◌, ◌<◌, ◌==◌, [], ◌∷◌, ◌++◌, length, replicate, vec_len, vec_capacity, IfOk};
-ghost use Rattle.ocf_types.specs.declared.refusal.Refusal.TheVariants.{Disk};
-ghost use Rattle.ocf_types.specs.declared.reply.ReplyOf.TheVariants.{Refused};
+ghost use Rattle.ocf_model.specs.declared.refusal.Refusal.TheVariants.{Disk};
+ghost use Rattle.ocf_model.specs.declared.reply.ReplyOf.TheVariants.{Refused};
 ghost use Rattle.executor.specs.CommandBatches.{TakesCommands};
 ghost use Rattle.session_machine.specs.Limits.{most_together};
 
 use child_model::Children;
 use executor::On;
 use growth::with_capacity;
-use ocf_types::{Command, Refusal, Reply};
+use ocf_model::{Refusal, Reply};
+use ocf_types::Command;
 use std::alloc::Global;
 use store_model::Store;
 

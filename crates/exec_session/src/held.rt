@@ -3,7 +3,8 @@ ghost use Rattle.std.specs.Prelude.{◌≡◌, Ok, IfErr, IfOk};
 ghost use Rattle.exec_session.specs.Held.{MayAnswerAtOnce, asks};
 
 use exec_commands::Line;
-use ocf_types::{AgentType, Provider, Refusal};
+use ocf_model::Refusal;
+use ocf_types::{AgentType, Provider};
 use session_machine::Mode;
 
 /// A line that is not answered as soon as it is read.

@@ -15,7 +15,8 @@ use crate::held::{Held, held_in};
 use crate::reading::Got;
 use crate::session::Session;
 use exec_commands::Line;
-use ocf_types::{Command, Refusal, Request};
+use ocf_model::Refusal;
+use ocf_types::{Command, Request};
 use session_machine::{Edge, Failed, Mode};
 
 // The most reads between two turns.

@@ -11,7 +11,7 @@ use crate::session::Session;
 use exec_commands::{Line, Tag, read_command, read_strictly};
 use exec_lines::{LineBuffer, Next};
 use growth::Refused;
-use ocf_types::Refusal;
+use ocf_model::Refusal;
 use session_machine::{Edge, Failed, Mode};
 use std::alloc::Global;
 

@@ -7,7 +7,8 @@ ghost use Rattle.session_machine.specs.Room.{MakesRoom, is_at_leisure, is_monito
 use crate::pace::Pace;
 use child_model::Children;
 use executor::On;
-use ocf_types::{EVENT_LIMIT, PART_LIMIT, RESERVE, TidyEnd};
+use ocf_model::TidyEnd;
+use ocf_types::{EVENT_LIMIT, PART_LIMIT, RESERVE};
 use session_machine::{Edge, Rules};
 use store_model::Store;
 

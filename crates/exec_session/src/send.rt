@@ -13,7 +13,7 @@ use crate::session::Session;
 use exec_client::Message;
 use exec_replies::{Counts, LineReply};
 use executor::Report;
-use ocf_types::{StateView, TurnEnd};
+use ocf_model::{StateView, TurnEnd};
 use session_machine::{Edge, Failed, Mode};
 
 impl<E: Edge + Drop> Session<E> {

@@ -1,6 +1,6 @@
 //! Turns of a session.
 ghost use Rattle.std.specs.Prelude.{◌≡◌, ◌≢◌, [], ◌∷◌, if◌then◌else◌, false, MatchOption, OnOk, Some, true};
-ghost use Rattle.ocf_types.specs.declared.reply.TurnEnd.TheVariants.{Disk};
+ghost use Rattle.ocf_model.specs.declared.reply.TurnEnd.TheVariants.{Disk};
 ghost use Rattle.session_machine.specs.After.{news_of, notices_of, reading};
 ghost use Rattle.session_machine.specs.May.{IsDue, IsOwnTurn, IsTurnDue};
 ghost use Rattle.session_machine.specs.Session.{ReadsOn, Sending, ended_by};
@@ -13,7 +13,7 @@ use crate::flow::Flow;
 use crate::room::make_room;
 use crate::session::Session;
 use exec_client::{Message, TurnNotices};
-use ocf_types::TurnEnd;
+use ocf_model::TurnEnd;
 use session_machine::{Edge, Failed};
 
 // Whether the end of an own turn is news.

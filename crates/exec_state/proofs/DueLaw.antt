@@ -11,13 +11,13 @@ use Rattle.std.proofs.lemmas.Slice.Eq.{bytes_eq-Decides}
 use Rattle.ocf_types.specs.declared.operation.Recur.{Recur}
 use Rattle.ocf_types.specs.declared.event.Change.TheVariants as change
 use Rattle.ocf_types.specs.Kinds.{Step, Change, Event}
-use Rattle.ocf_types.specs.Resource.{Resource, of_call, booted}
-use Rattle.ocf_types.specs.State.{State, Registry, empty, at_id, stepped, registered, on_history}
-use Rattle.ocf_types.specs.Due.{due_after, due_at}
-use Rattle.ocf_types.specs.Applies.{Applies, StepApplies, ChangeApplies}
-use Rattle.ocf_types.specs.LawfulState.{IsLawfulResource, IsLawfulState}
+use Rattle.ocf_model.specs.Resource.{Resource, of_call, booted}
+use Rattle.ocf_model.specs.State.{State, Registry, empty, at_id, stepped, registered, on_history}
+use Rattle.ocf_model.specs.Due.{due_after, due_at}
+use Rattle.ocf_model.specs.Applies.{Applies, StepApplies, ChangeApplies}
+use Rattle.ocf_model.specs.LawfulState.{IsLawfulResource, IsLawfulState}
 use Rattle.ocf_types.specs.Lawful.{IsLawfulRecur}
-use Rattle.ocf_types.specs.RegistryLemmas.{same_id, apart, lookup-push_other, lookup-at_id_here, lookup-at_id_other, found}
+use Rattle.ocf_model.specs.RegistryLemmas.{same_id, apart, lookup-push_other, lookup-at_id_here, lookup-at_id_other, found}
 use Rattle.recurring.specs.declared.monitor.Monitor.{Monitor}
 use Rattle.recurring.specs.Monitors.{recurs, all_due_at}
 use Rattle.exec_state.specs.StateValue.{StateValue, Monitors, monitors_at, due_of, dues, monitors_due_at}

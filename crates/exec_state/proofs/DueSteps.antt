@@ -9,11 +9,11 @@ use Rattle.ocf_types.specs.declared.operation.Recur.{Recur}
 use Rattle.ocf_types.specs.declared.operation.Running.{Running}
 use Rattle.ocf_types.specs.declared.event.Step.TheVariants as step
 use Rattle.ocf_types.specs.Kinds.{Step}
-use Rattle.ocf_types.specs.Resource.{Resource, of_call, without_interval}
-use Rattle.ocf_types.specs.State.{stepped}
-use Rattle.ocf_types.specs.Due.{is_run_of, step_sets, or_else}
-use Rattle.ocf_types.specs.Applies.{StepApplies}
-use Rattle.ocf_types.specs.LawfulState.{IsAscending}
+use Rattle.ocf_model.specs.Resource.{Resource, of_call, without_interval}
+use Rattle.ocf_model.specs.State.{stepped}
+use Rattle.ocf_model.specs.Due.{is_run_of, step_sets, or_else}
+use Rattle.ocf_model.specs.Applies.{StepApplies}
+use Rattle.ocf_types.specs.Numbers.{IsAscending}
 use Rattle.ocf_types.specs.Lemmas.{same_number}
 use Rattle.recurring.specs.declared.monitor.Monitor.{Monitor}
 use Rattle.recurring.specs.Monitors.{recurs, cancelled, settled, due_at, monitor_due_at}

@@ -9,8 +9,9 @@ use Rattle.std.proofs.lemmas.List.{map-append}
 use Rattle.std.proofs.lemmas.Map.Keys.{IsDistinct-head, IsDistinct-tail}
 use Rattle.std.proofs.lemmas.Map.Made.{lookup-map_values}
 use Rattle.indexmap.specs.IndexMap.{set_value_at}
-use Rattle.ocf_types.specs.RegistryLemmas.{other_way, same_id}
-use Rattle.ocf_types.specs.State.{at_id}
+use Rattle.ocf_types.specs.Lemmas.{other_way}
+use Rattle.ocf_model.specs.RegistryLemmas.{same_id}
+use Rattle.ocf_model.specs.State.{at_id}
 use Rattle.recurring.specs.declared.monitor.Monitor.{Monitor}
 use Rattle.recurring.specs.DueIndex.{Dues, pairs_at, pairs_of_all}
 use Rattle.recurring.specs.Monitors.{pairs}

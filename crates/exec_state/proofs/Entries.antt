@@ -13,8 +13,8 @@ use Rattle.std.proofs.lemmas.Map.Keys.{IsDistinct-head, IsDistinct-tail}
 use Rattle.std.proofs.lemmas.Slice.Eq.{bytes_eq-Decides}
 use Rattle.indexmap.specs.IndexMap.{set_value_at}
 use Rattle.ocf_types.specs.declared.operation.Recur.{Recur}
-use Rattle.ocf_types.specs.Resource.{Resource}
-use Rattle.ocf_types.specs.State.{at_id}
+use Rattle.ocf_model.specs.Resource.{Resource}
+use Rattle.ocf_model.specs.State.{at_id}
 use Rattle.exec_state.specs.declared.registered.Registered.{Registered}
 use Rattle.recurring.specs.declared.monitor.Monitor.{Monitor}
 use Rattle.recurring.specs.Monitors.{recurs, all_due_at}

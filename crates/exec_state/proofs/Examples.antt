@@ -4,10 +4,10 @@ use Rattle.std.specs.Prelude.{codes}
 use Rattle.ocf_types.specs.Actions.{plain}
 use Rattle.ocf_types.specs.declared.operation.Recur.{Recur}
 use Rattle.ocf_types.specs.declared.command.Question.TheVariants as question
-use Rattle.ocf_types.specs.declared.refusal.Refusal.TheVariants.{UnknownResource, Memory}
-use Rattle.ocf_types.specs.declared.reply.ReplyOf.TheVariants.{Refused}
-use Rattle.ocf_types.specs.Resource.{no_history}
-use Rattle.ocf_types.specs.Answer.{reply_to}
+use Rattle.ocf_model.specs.declared.refusal.Refusal.TheVariants.{UnknownResource, Memory}
+use Rattle.ocf_model.specs.declared.reply.ReplyOf.TheVariants.{Refused}
+use Rattle.ocf_model.specs.Resource.{no_history}
+use Rattle.ocf_model.specs.Answer.{reply_to}
 use Rattle.exec_state.specs.StateValue.{StateValue, dues}
 use Rattle.exec_state.specs.Answers.{IsReplyOrMemory}
 

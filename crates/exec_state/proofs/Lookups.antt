@@ -5,7 +5,8 @@ use Rattle.std.specs.List.{AllByRecursion, IsDistinct}
 use Rattle.std.specs.Map.{keys_of, lookup}
 use Rattle.std.specs.Str.{bytes_eq}
 use Rattle.std.proofs.lemmas.Map.Keys.{IsDistinct-head, IsDistinct-tail}
-use Rattle.ocf_types.specs.RegistryLemmas.{other_way, same_id}
+use Rattle.ocf_types.specs.Lemmas.{other_way}
+use Rattle.ocf_model.specs.RegistryLemmas.{same_id}
 
 -- a property of an option's value implies a weaker one
 pub some_weaken : {A : Type 0} (o : Option A) (P Q : A → Type 0) → ((x : A) → P x → Q x) → IsSomeAnd o P → IsSomeAnd o Q

@@ -11,10 +11,11 @@ use Rattle.std.proofs.lemmas.Map.Made.{lookup-map_values}
 use Rattle.ocf_types.specs.declared.operation.Op.{Op}
 use Rattle.ocf_types.specs.declared.operation.Recur.{Recur}
 use Rattle.ocf_types.specs.declared.operation.Running.{Running}
-use Rattle.ocf_types.specs.Resource.{History, Resource, is_busy}
-use Rattle.ocf_types.specs.State.{Registry, resource_at}
-use Rattle.ocf_types.specs.Due.{due_pairs, IsLeastDue, IsPickOf, IsPick}
-use Rattle.ocf_types.specs.LawfulState.{IsAscending, IsLawfulResource}
+use Rattle.ocf_model.specs.Resource.{History, Resource, is_busy}
+use Rattle.ocf_model.specs.State.{Registry, resource_at}
+use Rattle.ocf_model.specs.Due.{due_pairs, IsLeastDue, IsPickOf, IsPick}
+use Rattle.ocf_types.specs.Numbers.{IsAscending}
+use Rattle.ocf_model.specs.LawfulState.{IsLawfulResource}
 use Rattle.recurring.specs.declared.monitor.Monitor.{Monitor}
 use Rattle.recurring.specs.Monitors.{recurs, pairs}
 use Rattle.exec_state.specs.StateValue.{StateValue, Monitors, monitors_at, due_of, IsChoice}

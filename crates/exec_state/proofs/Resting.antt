@@ -9,9 +9,9 @@ use Rattle.std.specs.Str.{bytes_eq}
 use Rattle.std.proofs.lemmas.Map.Made.{lookup-map_values}
 use Rattle.ocf_types.specs.declared.operation.Op.{Op}
 use Rattle.ocf_types.specs.declared.operation.Running.{Running}
-use Rattle.ocf_types.specs.Resource.{Resource}
-use Rattle.ocf_types.specs.State.{Registry}
-use Rattle.ocf_types.specs.Due.{IsPickOf}
+use Rattle.ocf_model.specs.Resource.{Resource}
+use Rattle.ocf_model.specs.State.{Registry}
+use Rattle.ocf_model.specs.Due.{IsPickOf}
 use Rattle.recurring.specs.Monitors.{pairs, IsFirstMoment}
 use Rattle.exec_state.specs.declared.registered.Registered.{Registered}
 use Rattle.exec_state.specs.Seen.{seen, seen_all, monitors_of, monitors_all}

@@ -5,8 +5,8 @@ use Rattle.std.specs.Map.{keys_of, lookup}
 use Rattle.std.specs.Str.{bytes_eq}
 use Rattle.std.proofs.lemmas.List.{map-append}
 use Rattle.std.proofs.lemmas.Map.Keys.{IsDistinct-head, IsDistinct-tail}
-use Rattle.ocf_types.specs.Resource.{Resource}
-use Rattle.ocf_types.specs.RegistryLemmas.{other_way}
+use Rattle.ocf_model.specs.Resource.{Resource}
+use Rattle.ocf_types.specs.Lemmas.{other_way}
 use Rattle.recurring.specs.declared.monitor.Monitor.{Monitor}
 use Rattle.recurring.specs.Monitors.{all_due_at}
 

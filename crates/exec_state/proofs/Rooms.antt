@@ -8,9 +8,9 @@ use Rattle.ocf_types.specs.declared.operation.Recur.{Recur}
 use Rattle.ocf_types.specs.declared.operation.Ended.{Ended}
 use Rattle.ocf_types.specs.Names.{is_rsc_id}
 use Rattle.ocf_types.specs.Layouts.{kept_in}
-use Rattle.ocf_types.specs.Resource.{history_in, kept, last_in}
-use Rattle.ocf_types.specs.State.{State, Registry, empty, in_first, on_history}
-use Rattle.ocf_types.specs.LawfulState.{IsLawfulEnded, IsLawfulResource, IsLawfulState}
+use Rattle.ocf_model.specs.Resource.{history_in, kept, last_in}
+use Rattle.ocf_model.specs.State.{State, Registry, empty, in_first, on_history}
+use Rattle.ocf_model.specs.LawfulState.{IsLawfulEnded, IsLawfulResource, IsLawfulState}
 use Rattle.ocf_types.specs.declared.layout.Layout.TheVariants.{First}
 use Rattle.recurring.specs.Monitors.{recurs, all_due_at}
 use Rattle.exec_state.specs.Seen.{FitsRoom}

@@ -1,7 +1,7 @@
 -- The invariant of the state machine.
 use Rattle.std.specs.Prelude.{◌≡◌, ℕ, List, map}
-use Rattle.ocf_types.specs.State.{State, Registry}
-use Rattle.ocf_types.specs.LawfulState.{IsLawfulState}
+use Rattle.ocf_model.specs.State.{State, Registry}
+use Rattle.ocf_model.specs.LawfulState.{IsLawfulState}
 use Rattle.ocf_types.specs.declared.operation.Recur.{Recur}
 use Rattle.recurring.specs.Monitors.{recurs}
 use Rattle.exec_state.specs.StateValue.{StateValue, Monitors}

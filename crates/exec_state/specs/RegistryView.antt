@@ -1,6 +1,6 @@
 -- The view of the registry.
 use Rattle.std.specs.Prelude.{ℕ, Bool}
-use Rattle.ocf_types.specs.State.{Registry}
+use Rattle.ocf_model.specs.State.{Registry}
 use Rattle.exec_state.specs.StateValue.{StateValue, Monitors}
 
 -- the resources and their recurring monitors, by id and in order of registration, and whether one more resource can be

@@ -2,8 +2,8 @@
 use Rattle.std.specs.Prelude.{ℕ, ◌<◌, List, None, MatchOption, ⊤}
 use Rattle.std.specs.Map.{lookup}
 use Rattle.std.specs.Str.{bytes_eq}
-use Rattle.ocf_types.specs.Due.{IsPickOf}
-use Rattle.ocf_types.specs.State.{Registry}
+use Rattle.ocf_model.specs.Due.{IsPickOf}
+use Rattle.ocf_model.specs.State.{Registry}
 use Rattle.recurring.specs.Monitors.{pairs}
 use Rattle.exec_state.specs.StateValue.{StateValue, Monitors, IsChoice, monitors_at}
 

@@ -2,8 +2,8 @@
 use Rattle.std.specs.Prelude.{ℕ, ◌≤◌, List, map, length}
 use Rattle.ocf_types.specs.Limits.{queue_limit, recurring_limit}
 use Rattle.ocf_types.specs.Kinds.{Step}
-use Rattle.ocf_types.specs.Resource.{Resource, kept}
-use Rattle.ocf_types.specs.Applies.{StepApplies}
+use Rattle.ocf_model.specs.Resource.{Resource, kept}
+use Rattle.ocf_model.specs.Applies.{StepApplies}
 use Rattle.recurring.specs.declared.monitor.Monitor.{Monitor}
 use Rattle.recurring.specs.Monitors.{recurs}
 use Rattle.exec_state.specs.declared.registered.Registered.{Registered}

@@ -1,6 +1,6 @@
 //! Replies to questions.
 ghost use Rattle.std.specs.Prelude.{IsTrue, ◌≡◌, map, IfOk};
-ghost use Rattle.ocf_types.specs.Answer.{info_of, reply_to};
+ghost use Rattle.ocf_model.specs.Answer.{info_of, reply_to};
 ghost use Rattle.recurring.specs.Monitors.{recurs};
 ghost use Rattle.exec_state.specs.Seen.{seen};
 ghost use Rattle.exec_state.specs.Answers.{IsReplyOrMemory};
@@ -9,10 +9,8 @@ use crate::registered::Registered;
 use crate::state::State;
 use arrayvec::ArrayVec;
 use growth::{Grows, Refused, push};
-use ocf_types::{
-    CallId, Ended, Info, InfoOf, Items, QUEUE_LIMIT, Question, RECURRING_LIMIT, Recur, Refusal,
-    Reply, ReplyOf, RscId,
-};
+use ocf_model::{Info, InfoOf, Items, Refusal, Reply, ReplyOf};
+use ocf_types::{CallId, Ended, QUEUE_LIMIT, Question, RECURRING_LIMIT, Recur, RscId};
 use op_history::Ops;
 use recurring::Recurrings;
 

@@ -1,8 +1,8 @@
 //! The changes of a state by an opening: the boot that it records, and the due moments.
 ghost use Rattle.std.specs.Prelude.{◌≡◌};
-ghost use Rattle.ocf_types.specs.Due.{due_at};
-ghost use Rattle.ocf_types.specs.Boot.{any_busy, boot_event};
-ghost use Rattle.ocf_types.specs.Answer.{moment};
+ghost use Rattle.ocf_model.specs.Due.{due_at};
+ghost use Rattle.ocf_model.specs.Boot.{any_busy, boot_event};
+ghost use Rattle.ocf_model.specs.Answer.{moment};
 ghost use Rattle.exec_state.specs.StateValue.{dues, monitors_due_at};
 
 use crate::state::State;

@@ -1,14 +1,15 @@
 //! The event of a command, or its refusal.
 ghost use Rattle.std.specs.Prelude.{◌≡◌, length, nat_lt, Ok, Err, if◌then◌else◌};
 ghost use Rattle.ocf_types.specs.Encoding.{encoded_event};
-ghost use Rattle.ocf_types.specs.Answer.{event_of};
+ghost use Rattle.ocf_model.specs.Answer.{event_of};
 ghost use Rattle.ocf_types.specs.declared.command.CommandOf.TheVariants as command;
 
 use crate::state::State;
 use growth::Grows;
+use ocf_model::Refusal;
 use ocf_types::{
     CallId, Change, Check, Command, CommandOf, EVENT_LIMIT, Event, EventOf, Millis, NUM_MAX, Op,
-    Params, QUEUE_LIMIT, Recur, Refusal, Registration, RscId, Step, Task,
+    Params, QUEUE_LIMIT, Recur, Registration, RscId, Step, Task,
 };
 
 /// The event, unless it is too large to be recorded.

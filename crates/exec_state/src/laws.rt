@@ -1,9 +1,9 @@
 //! Laws of the definitions, each the contract of a function that does nothing.
 ghost use Rattle.std.specs.Prelude.{◌≡◌, ℕ, List};
 ghost use Rattle.ocf_types.specs.Kinds.{Event};
-ghost use Rattle.ocf_types.specs.Applies.{Applies};
-ghost use Rattle.ocf_types.specs.Due.{due_after, due_at};
-ghost use Rattle.ocf_types.specs.State.{State};
+ghost use Rattle.ocf_model.specs.Applies.{Applies};
+ghost use Rattle.ocf_model.specs.Due.{due_after, due_at};
+ghost use Rattle.ocf_model.specs.State.{State};
 ghost use Rattle.exec_state.specs.StateValue.{StateValue, due_of, monitors_due_at};
 ghost use Rattle.exec_state.specs.MonitorsAfter.{monitors_after};
 ghost use Rattle.exec_state.specs.Lawful.{IsLawfulValue};

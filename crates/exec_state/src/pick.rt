@@ -1,7 +1,7 @@
 //! The pick: the action that a resource begins now.
 ghost use Rattle.std.specs.Prelude.{◌≡◌, ◌<◌, ℕ, None, IsTrue, Option, length};
-ghost use Rattle.ocf_types.specs.Due.{IsPickOf};
-ghost use Rattle.ocf_types.specs.Indexes.{entry_at};
+ghost use Rattle.ocf_model.specs.Due.{IsPickOf};
+ghost use Rattle.ocf_model.specs.Indexes.{entry_at};
 ghost use Rattle.recurring.specs.Monitors.{pairs, IsFirstMoment};
 ghost use Rattle.exec_state.specs.Seen.{seen};
 ghost use Rattle.exec_state.specs.StateValue.{Chooses, IsChoice, all_pairs, dues, run_of_pick};
@@ -10,7 +10,8 @@ ghost use Rattle.exec_state.specs.Resting.{Rests};
 use crate::registered::Registered;
 use crate::state::State;
 use growth::Grows;
-use ocf_types::{CallId, Moment, RscId, RunId, Running, StateView};
+use ocf_model::StateView;
+use ocf_types::{CallId, Moment, RscId, RunId, Running};
 
 impl<A: Grows> State<A> {
     /// The action that the resource at an index begins at that moment, as it will run under that run number: the first queued

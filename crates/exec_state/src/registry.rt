@@ -5,10 +5,10 @@ ghost use Rattle.std.specs.Map.{keys_of, lookup};
 ghost use Rattle.std.specs.List.{flat_map, list_any, position, AllByRecursion, IsDistinct};
 ghost use Rattle.std.specs.Str.{bytes_eq};
 ghost use Rattle.indexmap.specs.IndexMap.{values, spare};
-ghost use Rattle.ocf_types.specs.Resource.{booted, history_in, is_busy};
-ghost use Rattle.ocf_types.specs.State.{at_id, others, on_history, stepped, registered};
-ghost use Rattle.ocf_types.specs.Due.{IsLeastDue};
-ghost use Rattle.ocf_types.specs.Indexes.{no_entry};
+ghost use Rattle.ocf_model.specs.Resource.{booted, history_in, is_busy};
+ghost use Rattle.ocf_model.specs.State.{at_id, others, on_history, stepped, registered};
+ghost use Rattle.ocf_model.specs.Due.{IsLeastDue};
+ghost use Rattle.ocf_model.specs.Indexes.{no_entry};
 ghost use Rattle.ocf_types.specs.declared.layout.Layout.TheVariants.{First};
 ghost use Rattle.recurring.specs.Monitors.{all_due_at, pairs, IsFirstMoment};
 ghost use Rattle.exec_state.specs.Seen.{seen, seen_all, monitors_of, monitors_all, CanTake, FitsRoom};
@@ -20,9 +20,8 @@ ghost use Rattle.exec_state.specs.StateValue.{all_pairs, dues_by_id, monitors_at
 use crate::registered::Registered;
 use growth::{Grows, Refused, push};
 use indexmap::IndexMap;
-use ocf_types::{
-    CallId, Moment, Params, RESOURCES_LIMIT, Registration, ResourceParts, RscId, Step,
-};
+use ocf_model::ResourceParts;
+use ocf_types::{CallId, Moment, Params, RESOURCES_LIMIT, Registration, RscId, Step};
 use op_history::Ops;
 use recurring::{DueIndex, INDEX_LIMIT, Recurrings};
 use std::alloc::{AllocError, Allocator, Global};
@@ -46,7 +45,7 @@ pub(crate) struct Registry<A: Allocator + Copy = Global> {
 impl<A: Allocator + Copy> Model for Registry<A> {
     ghost use Rattle.std.specs.Prelude.{◌≡◌, ◌&&◌, is_some, nat_lt, IfSome};
     ghost use Rattle.indexmap.specs.IndexMap.{spare};
-    ghost use Rattle.ocf_types.specs.Resource.{no_history};
+    ghost use Rattle.ocf_model.specs.Resource.{no_history};
     ghost use Rattle.exec_state.specs.Seen.{seen_all, monitors_all};
     ghost use Rattle.exec_state.specs.RegistryView.{RegistryView};
     ghost use Rattle.exec_state.specs.Resting.{RestBefore};

@@ -1,8 +1,9 @@
 //! A state, read number by number and item by item: a snapshot is written from it without a copy.
 use crate::state::State;
 use growth::Grows;
+use ocf_model::StateView;
 use ocf_types::{
-    AgentType, CallId, Ended, Moment, Op, Params, Provider, Recur, RscId, RunId, Running, StateView,
+    AgentType, CallId, Ended, Moment, Op, Params, Provider, Recur, RscId, RunId, Running,
 };
 
 impl<A: Grows> StateView for State<A> {

@@ -7,13 +7,14 @@ use Rattle.std.proofs.lemmas.Bool.{cases_lt}
 use Rattle.std.proofs.lemmas.List.{append-nil, append_assoc, length-append, take-append-drop, take_more}
 use Rattle.std.proofs.lemmas.List.Elements.{All-from_recursion}
 use Rattle.std.proofs.lemmas.Map.Keys.{IsDistinct-head, IsDistinct-tail}
-use Rattle.ocf_types.specs.Due.{Due, IsBefore, IsLeastDue, IsPick, IsPickOf, due_pairs}
-use Rattle.ocf_types.specs.Resource.{History, Resource, begun_from, run_of_monitor, run_of_op}
-use Rattle.ocf_types.specs.State.{Registry, State, resource_at}
-use Rattle.ocf_types.specs.LawfulState.{IsLawfulState}
-use Rattle.ocf_types.specs.Lemmas.{IsBefore-trans}
-use Rattle.ocf_types.specs.RegistryLemmas.{other_way, same_id}
-use Rattle.ocf_types.specs.Indexes.{at_index, id_at, no_entry}
+use Rattle.ocf_model.specs.Due.{Due, IsBefore, IsLeastDue, IsPick, IsPickOf, due_pairs}
+use Rattle.ocf_model.specs.Resource.{History, Resource, begun_from, run_of_monitor, run_of_op}
+use Rattle.ocf_model.specs.State.{Registry, State, resource_at}
+use Rattle.ocf_model.specs.LawfulState.{IsLawfulState}
+use Rattle.ocf_model.specs.StateLemmas.{IsBefore-trans}
+use Rattle.ocf_types.specs.Lemmas.{other_way}
+use Rattle.ocf_model.specs.RegistryLemmas.{same_id}
+use Rattle.ocf_model.specs.Indexes.{at_index, id_at, no_entry}
 use Rattle.ocf_types.specs.declared.operation.Op.{Op}
 use Rattle.ocf_types.specs.declared.operation.Recur.{Recur}
 use Rattle.ocf_types.specs.declared.operation.Running.{Running}

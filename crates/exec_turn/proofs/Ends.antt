@@ -1,12 +1,12 @@
 -- The ends of a turn.
 use Rattle.std.proofs.Common.{◌≡◌, inl, inr, ℕ, Bool, List, [], ◌++◌, Result, Ok, Err, IsErr, map, refl, sym, ◌∙◌, ap, subst, append_assoc, append-nil, arith, length, length-append, ◌-◌}
-use Rattle.ocf_types.specs.Due.{Due}
+use Rattle.ocf_model.specs.Due.{Due}
 use Rattle.ocf_types.specs.Kinds.{Event}
-use Rattle.ocf_types.specs.Lemmas.{after_all-append}
-use Rattle.ocf_types.specs.State.{State, after_all}
-use Rattle.ocf_types.specs.declared.reply.Notice.{Notice}
-use Rattle.ocf_types.specs.declared.reply.TurnEnd.{TurnEnd}
-use Rattle.ocf_types.specs.declared.reply.TurnEnd.TheVariants as turn_end
+use Rattle.ocf_model.specs.StateLemmas.{after_all-append}
+use Rattle.ocf_model.specs.State.{State, after_all}
+use Rattle.ocf_types.specs.declared.notice.Notice.{Notice}
+use Rattle.ocf_model.specs.declared.reply.TurnEnd.{TurnEnd}
+use Rattle.ocf_model.specs.declared.reply.TurnEnd.TheVariants as turn_end
 use Rattle.store_model.specs.StoreView.{StoreView}
 use Rattle.exec_ledger.specs.declared.fault.StoreFault.{StoreFault}
 use Rattle.child_model.specs.Children.{ChildrenView}

@@ -3,16 +3,16 @@ use Rattle.std.proofs.Common.{◌≡◌, ◌⊎◌, inl, inr, ℕ, ◌+◌, ◌<
 use Rattle.std.specs.List.{AllByRecursion}
 use Rattle.std.proofs.lemmas.Bool.{cases_lt}
 use Rattle.std.proofs.lemmas.List.{append-nil, length-append, map-append}
-use Rattle.ocf_types.specs.Due.{Due}
+use Rattle.ocf_model.specs.Due.{Due}
 use Rattle.ocf_types.specs.Kinds.{Event, Registration}
 use Rattle.ocf_types.specs.Limits.{num_max}
 use Rattle.ocf_types.specs.Params.{ParamList}
-use Rattle.ocf_types.specs.Indexes.{entry_at, id_at}
-use Rattle.ocf_types.specs.Resource.{Resource}
+use Rattle.ocf_model.specs.Indexes.{entry_at, id_at}
+use Rattle.ocf_model.specs.Resource.{Resource}
 use Rattle.ocf_types.specs.Encoding.{encoded_event}
-use Rattle.ocf_types.specs.State.{State}
+use Rattle.ocf_model.specs.State.{State}
 use Rattle.ocf_types.specs.declared.operation.Running.{Running}
-use Rattle.ocf_types.specs.declared.reply.TurnEnd.TheVariants as turn_end
+use Rattle.ocf_model.specs.declared.reply.TurnEnd.TheVariants as turn_end
 use Rattle.ocf_env.specs.Locations.{Call, SiteView}
 use Rattle.store_model.specs.Batches.{encoded_batch, IsTooLong, kept_free}
 use Rattle.child_model.specs.Children.{is_held}

@@ -6,12 +6,12 @@ use Rattle.std.proofs.lemmas.List.{drop_more, length-map, map-append, take_more}
 use Rattle.std.proofs.lemmas.Map.Keys.{IsDistinct-head, IsDistinct-tail}
 use Rattle.ocf_types.specs.Lemmas.{each_append}
 use Rattle.ocf_types.specs.Kinds.{Event}
-use Rattle.ocf_types.specs.Indexes.{entry_at, no_entry}
-use Rattle.ocf_types.specs.State.{State, after, after_all}
+use Rattle.ocf_model.specs.Indexes.{entry_at, no_entry}
+use Rattle.ocf_model.specs.State.{State, after, after_all}
 use Rattle.ocf_types.specs.declared.operation.Running.{Running}
 use Rattle.ocf_types.specs.declared.outcome.RunEnd.{RunEnd}
 use Rattle.ocf_types.specs.declared.outcome.RunEnd.TheVariants as run_end
-use Rattle.ocf_types.specs.declared.reply.Notice.{Notice}
+use Rattle.ocf_types.specs.declared.notice.Notice.{Notice}
 use Rattle.child_model.specs.Children.{ChildrenView, after_kill, after_poll, without_run, Asked, IsOfStart, kill_answer, poll_answer}
 use Rattle.child_model.specs.declared.answer.KillFault.{KillFault}
 use Rattle.child_model.specs.declared.answer.Poll.{Poll}
@@ -23,7 +23,7 @@ use Rattle.std.specs.Map.{keys_of}
 use Rattle.std.specs.Str.{bytes_eq}
 use Rattle.std.proofs.lemmas.List.Elements.{All-from_recursion}
 use Rattle.ocf_types.specs.Lawful.{IsRunEnd}
-use Rattle.ocf_types.specs.LawfulState.{IsLawfulState}
+use Rattle.ocf_model.specs.LawfulState.{IsLawfulState}
 use Rattle.ocf_types.specs.Numbers.{IsMoment}
 use Rattle.child_model.specs.Lemmas.{asked_polls, fewer, kept}
 use Rattle.child_model.specs.declared.answer.Entry.{Entry}

@@ -3,11 +3,11 @@ use Rattle.std.proofs.Common.{◌≡◌, ℕ, ◌+◌, Bool, true, false, List, 
 use Rattle.std.specs.List.{AllByRecursion}
 use Rattle.std.specs.Map.{lookup}
 use Rattle.std.specs.Str.{bytes_eq}
-use Rattle.ocf_types.specs.Due.{Due, IsPick}
-use Rattle.ocf_types.specs.LawfulState.{IsLawfulState}
-use Rattle.ocf_types.specs.Resource.{Resource}
-use Rattle.ocf_types.specs.State.{Registry}
-use Rattle.ocf_types.specs.declared.reply.TurnEnd.TheVariants as turn_end
+use Rattle.ocf_model.specs.Due.{Due, IsPick}
+use Rattle.ocf_model.specs.LawfulState.{IsLawfulState}
+use Rattle.ocf_model.specs.Resource.{Resource}
+use Rattle.ocf_model.specs.State.{Registry}
+use Rattle.ocf_model.specs.declared.reply.TurnEnd.TheVariants as turn_end
 use Rattle.exec_state.specs.Resting.{Rests}
 use Rattle.exec_state.specs.StateValue.{StateValue, dues}
 use Rattle.child_model.specs.Children.{is_held}

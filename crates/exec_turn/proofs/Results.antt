@@ -5,10 +5,10 @@ use Rattle.std.specs.Map.{keys_of, lookup}
 use Rattle.std.specs.Str.{bytes_eq}
 use Rattle.std.proofs.lemmas.Map.Keys.{IsDistinct-head, IsDistinct-tail, IsDistinct-IsPermutation}
 use Rattle.ocf_types.specs.Lawful.{IsId, IsRunEnd}
-use Rattle.ocf_types.specs.LawfulState.{IsLawfulResource, IsLawfulRunning, IsLawfulState}
+use Rattle.ocf_model.specs.LawfulState.{IsLawfulResource, IsLawfulRunning, IsLawfulState}
 use Rattle.ocf_types.specs.Numbers.{IsDrawn, IsMoment}
-use Rattle.ocf_types.specs.Resource.{Resource}
-use Rattle.ocf_types.specs.State.{Registry, State, after, at_id, stepped, resource_at, IsRegistration}
+use Rattle.ocf_model.specs.Resource.{Resource}
+use Rattle.ocf_model.specs.State.{Registry, State, after, at_id, stepped, resource_at, IsRegistration}
 use Rattle.ocf_types.specs.declared.event.Step.TheVariants as step
 use Rattle.ocf_types.specs.declared.operation.Running.{Running}
 use Rattle.ocf_types.specs.declared.outcome.RunEnd.{RunEnd}
@@ -21,7 +21,7 @@ use Rattle.std.proofs.lemmas.Slice.Eq.{bytes_eq-Decides}
 use Rattle.exec_turn.specs.Starts.{RunsUnder, AllRun}
 use Rattle.std.proofs.lemmas.Bool.Decides.{nat_tests, Decides-eqb}
 use Rattle.std.proofs.lemmas.List.Elements.{All-from_recursion, recursion_from_All}
-use Rattle.ocf_types.specs.Applies.{Applies, StepApplies}
+use Rattle.ocf_model.specs.Applies.{Applies, StepApplies}
 use Rattle.ocf_types.specs.Kinds.{Event, Step}
 use Rattle.ocf_types.specs.Limits.{longest_result, resources_limit}
 use Rattle.ocf_types.specs.Encoding.{encoded_event}
@@ -34,7 +34,7 @@ use Rattle.exec_turn.proofs.Choosing.{own_found}
 use Rattle.std.proofs.lemmas.List.Sorted.{All-permutation, IsPermutation-append_comm, IsPermutation-append_left, IsPermutation-sym, length_permutation}
 use Rattle.std.specs.Prelude.{IsPermutation, ⊤}
 use Rattle.std.proofs.lemmas.Bool.{false_from_ne_true}
-use Rattle.ocf_types.specs.RegistryLemmas.{keys-at_id, lookup-at_id_other}
+use Rattle.ocf_model.specs.RegistryLemmas.{keys-at_id, lookup-at_id_other}
 use Rattle.ocf_types.specs.Lemmas.{each_weaken}
 
 module _ {A : Type 0} (P : A → Type 0) where

@@ -9,13 +9,13 @@ use Rattle.std.proofs.lemmas.List.Elements.{All-from_recursion}
 use Rattle.std.proofs.lemmas.List.Sums.{fold-append}
 use Rattle.std.proofs.lemmas.Map.Keys.{IsDistinct-cons, IsDistinct-head, IsDistinct-tail}
 use Rattle.ocf_types.specs.Kinds.{Event}
-use Rattle.ocf_types.specs.LawfulState.{IsLawfulState}
+use Rattle.ocf_model.specs.LawfulState.{IsLawfulState}
 use Rattle.ocf_types.specs.Limits.{resources_limit}
 use Rattle.ocf_types.specs.Numbers.{IsMoment}
-use Rattle.ocf_types.specs.State.{State, after, after_all}
+use Rattle.ocf_model.specs.State.{State, after, after_all}
 use Rattle.ocf_types.specs.declared.outcome.RunEnd.TheVariants.{NotStarted}
 use Rattle.ocf_types.specs.declared.outcome.StartFault.{StartFault}
-use Rattle.ocf_types.specs.declared.reply.Notice.{Notice}
+use Rattle.ocf_types.specs.declared.notice.Notice.{Notice}
 use Rattle.child_model.specs.Children.{ChildrenView, after_start, live_started, start_answer}
 use Rattle.exec_ledger.specs.Actives.{Active, runs_of}
 use Rattle.exec_turn.specs.Actives.{notice_of, result_of}

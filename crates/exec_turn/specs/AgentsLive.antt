@@ -1,7 +1,7 @@
 -- Agent processes and running actions.
 use Rattle.std.specs.Prelude.{ℕ, ◌+◌, ◌≤◌, nat_eq, List, ◌++◌, length, Contains}
 use Rattle.std.specs.List.{AllByRecursion, IsDistinct}
-use Rattle.ocf_types.specs.State.{State}
+use Rattle.ocf_model.specs.State.{State}
 use Rattle.exec_ledger.specs.Actives.{Active, active, runs_of}
 
 -- The agent process of each running action lives, runs differ, and no more agent processes live than actions run.

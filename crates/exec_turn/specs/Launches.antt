@@ -1,8 +1,8 @@
 -- Starts: the invocation of an agent, as the registry and the site give it. OCF Resource Agent API 1.1, invocation.
 use Rattle.std.specs.Prelude.{◌≡◌, List, Option, Some, map}
 use Rattle.std.specs.List.{AllByRecursion}
-use Rattle.ocf_types.specs.Resource.{Resource}
-use Rattle.ocf_types.specs.State.{State, resource_at}
+use Rattle.ocf_model.specs.Resource.{Resource}
+use Rattle.ocf_model.specs.State.{State, resource_at}
 use Rattle.ocf_env.specs.Instances.{registration_of}
 use Rattle.ocf_env.specs.Invocations.{IsInvocation}
 use Rattle.ocf_env.specs.Locations.{Call, SiteView}

@@ -6,7 +6,7 @@ use Rattle.std.proofs.lemmas.Bool.{or_left, or_right}
 use Rattle.std.proofs.lemmas.List.{append-nil}
 use Rattle.ocf_types.specs.Kinds.{Event}
 use Rattle.ocf_types.specs.Lemmas.{same_number}
-use Rattle.ocf_types.specs.State.{State, after_all}
+use Rattle.ocf_model.specs.State.{State, after_all}
 use Rattle.store_model.specs.Lemmas.{started}
 use Rattle.store_model.specs.Crashes.{CrashesTo}
 use Rattle.store_model.specs.StoreView.{StoreView}

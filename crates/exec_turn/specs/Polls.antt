@@ -6,7 +6,7 @@ use Rattle.ocf_types.specs.Kinds.{Event}
 use Rattle.ocf_types.specs.declared.operation.Running.{Running}
 use Rattle.ocf_types.specs.declared.outcome.RunEnd.{RunEnd}
 use Rattle.ocf_types.specs.declared.outcome.RunEnd.TheVariants as run_end
-use Rattle.ocf_types.specs.declared.reply.Notice.{Notice}
+use Rattle.ocf_types.specs.declared.notice.Notice.{Notice}
 use Rattle.child_model.specs.Children.{ChildrenView, after_kill, after_poll, kill_answer, poll_answer}
 use Rattle.child_model.specs.declared.answer.Answer.{Answer}
 use Rattle.child_model.specs.declared.answer.Entry.{Entry}

@@ -2,12 +2,12 @@
 use Rattle.std.specs.Prelude.{◌≡◌, ℕ, ◌<◌, List, [], ◌∷◌, map, fold, option_and_then, Result, Ok, Err, Some, ⊤}
 use Rattle.std.specs.List.{flat_map, AllByRecursion}
 use Rattle.ocf_types.specs.Kinds.{Event}
-use Rattle.ocf_types.specs.State.{State, resource_at}
+use Rattle.ocf_model.specs.State.{State, resource_at}
 use Rattle.ocf_types.specs.declared.operation.Running.{Running}
 use Rattle.ocf_types.specs.declared.outcome.RunEnd.{RunEnd}
 use Rattle.ocf_types.specs.declared.outcome.RunEnd.TheVariants.{NotStarted}
 use Rattle.ocf_types.specs.declared.outcome.StartFault.{StartFault}
-use Rattle.ocf_types.specs.declared.reply.Notice.{Notice}
+use Rattle.ocf_types.specs.declared.notice.Notice.{Notice}
 use Rattle.child_model.specs.Children.{ChildrenView, after_start, start_answer}
 use Rattle.child_model.specs.declared.answer.Entry.{Entry}
 use Rattle.exec_ledger.specs.Actives.{Active}

@@ -1,9 +1,9 @@
 -- A turn, and one that begins nothing: its effects and notices as functions of what the children answered.
 use Rattle.std.specs.Prelude.{◌≡◌, ◌⊎◌, ℕ, List, [], ◌++◌, map, IsTrue}
 use Rattle.std.specs.List.{AllByRecursion}
-use Rattle.ocf_types.specs.declared.reply.TurnEnd.{TurnEnd}
-use Rattle.ocf_types.specs.declared.reply.TurnEnd.TheVariants as turn_end
-use Rattle.ocf_types.specs.declared.reply.Notice.{Notice}
+use Rattle.ocf_model.specs.declared.reply.TurnEnd.{TurnEnd}
+use Rattle.ocf_model.specs.declared.reply.TurnEnd.TheVariants as turn_end
+use Rattle.ocf_types.specs.declared.notice.Notice.{Notice}
 use Rattle.exec_ledger.specs.Pieces.{Effects, no_effects}
 use Rattle.exec_ledger.specs.BatchStarts.{BatchStart, following}
 use Rattle.exec_ledger.specs.Actives.{Active, active}

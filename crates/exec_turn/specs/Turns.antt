@@ -1,11 +1,11 @@
 -- The contracts of a turn and of its three batches.
 use Rattle.std.specs.Prelude.{◌≡◌, ◌≢◌, ◌*◌, ◌+◌, ◌-◌, ◌<◌, ◌≤◌, ℕ, List, [], ◌++◌, length, map, Result, Ok, Err, IfOk, OnErr, is_ok, if◌then◌else◌}
 use Rattle.std.specs.List.{AllByRecursion}
-use Rattle.ocf_types.specs.Due.{Due}
-use Rattle.ocf_types.specs.State.{State}
-use Rattle.ocf_types.specs.declared.reply.Notice.{Notice}
-use Rattle.ocf_types.specs.declared.reply.TurnEnd.{TurnEnd}
-use Rattle.ocf_types.specs.declared.reply.TurnEnd.TheVariants as turn_end
+use Rattle.ocf_model.specs.Due.{Due}
+use Rattle.ocf_model.specs.State.{State}
+use Rattle.ocf_types.specs.declared.notice.Notice.{Notice}
+use Rattle.ocf_model.specs.declared.reply.TurnEnd.{TurnEnd}
+use Rattle.ocf_model.specs.declared.reply.TurnEnd.TheVariants as turn_end
 use Rattle.store_model.specs.StoreView.{Increased, StoreView}
 use Rattle.exec_ledger.specs.declared.fault.StoreFault.{StoreFault}
 use Rattle.ocf_env.specs.Locations.{Call}

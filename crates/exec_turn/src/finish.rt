@@ -1,6 +1,6 @@
 //! A turn that begins nothing.
 ghost use Rattle.std.specs.Prelude.{◌≡◌, ◌≢◌, ◌↔◌, ◌<◌, ◌*◌, true, false, length};
-ghost use Rattle.ocf_types.specs.Answer.{moment};
+ghost use Rattle.ocf_model.specs.Answer.{moment};
 ghost use Rattle.exec_ledger.specs.LedgerView.{due_in};
 ghost use Rattle.exec_ledger.specs.BatchStarts.{batch_start_of};
 ghost use Rattle.exec_turn.specs.Actives.{any_running};
@@ -12,7 +12,7 @@ use child_model::Children;
 use exec_ledger::{Ledger, StoreFault};
 use exec_state::State;
 use growth::Grows;
-use ocf_types::{StateView, TurnEnd};
+use ocf_model::{StateView, TurnEnd};
 use store_model::Store;
 
 /// Whether an action of any resource runs.

@@ -3,8 +3,8 @@ ghost use Rattle.std.specs.Prelude.{◌≡◌, ◌<◌, ◌≤◌, ◌+◌, ◌*
 ghost use Rattle.std.specs.List.{AllByRecursion};
 ghost use Rattle.std.specs.Vec.{vec_capacity};
 ghost use Rattle.ocf_types.specs.Kinds.{Event};
-ghost use Rattle.ocf_types.specs.Indexes.{entry_at};
-ghost use Rattle.ocf_types.specs.declared.reply.Notice.{Notice};
+ghost use Rattle.ocf_model.specs.Indexes.{entry_at};
+ghost use Rattle.ocf_types.specs.declared.notice.Notice.{Notice};
 ghost use Rattle.child_model.specs.declared.answer.KillFault.{KillFault};
 ghost use Rattle.child_model.specs.declared.answer.Poll.{Poll};
 ghost use Rattle.exec_turn.specs.Buffers.{GrowsInRoom};
@@ -15,9 +15,8 @@ ghost use Rattle.exec_turn.specs.Polls.{IsPoll, Polls, ending, is_late, polled_o
 use child_model::{Children, Poll};
 use exec_state::State;
 use growth::Grows;
-use ocf_types::{
-    Change, Event, EventOf, Moment, Notice, Outcome, RunEnd, Running, StateView, Step,
-};
+use ocf_model::StateView;
+use ocf_types::{Change, Event, EventOf, Moment, Notice, Outcome, RunEnd, Running, Step};
 use op_history::run_notice;
 
 // Whether the timeout of an action has passed.

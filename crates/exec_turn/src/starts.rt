@@ -3,7 +3,7 @@ ghost use Rattle.std.specs.Prelude.{◌≡◌, ◌<◌, ◌≤◌, ◌+◌, ◌+
 ghost use Rattle.std.specs.List.{AllByRecursion};
 ghost use Rattle.std.specs.Vec.{vec_capacity};
 ghost use Rattle.ocf_types.specs.declared.outcome.StartFault.{StartFault};
-ghost use Rattle.ocf_types.specs.declared.reply.Notice.{Notice};
+ghost use Rattle.ocf_types.specs.declared.notice.Notice.{Notice};
 ghost use Rattle.child_model.specs.Children.{after_start, live_limit};
 ghost use Rattle.child_model.specs.MayStart.{IsLaunch};
 ghost use Rattle.store_model.specs.Calls.{IsSettled};

@@ -2,13 +2,13 @@
 use Rattle.std.proofs.Common.{◌≡◌, ◌<◌, ◌≤◌, ℕ, Bool, true, false, ◌||◌, List, [], ◌∷◌, ◌++◌, Some, None, Option, is_some, length, nat_eq, nat_lt, Contains, refl, sym, ◌∙◌, ap, subst, arith}
 use Rattle.std.specs.List.{AllByRecursion, IsDistinct, list_any}
 use Rattle.std.proofs.lemmas.Bool.{or_parts}
-use Rattle.ocf_types.specs.Resource.{is_busy}
-use Rattle.ocf_types.specs.State.{Registry, State}
+use Rattle.ocf_model.specs.Resource.{is_busy}
+use Rattle.ocf_model.specs.State.{Registry, State}
 use Rattle.ocf_types.specs.declared.operation.Running.{Running}
-use Rattle.ocf_types.specs.Boot.{any_busy}
+use Rattle.ocf_model.specs.Boot.{any_busy}
 use Rattle.child_model.specs.Children.{ChildrenView, all_ended}
 use Rattle.exec_ledger.specs.Actives.{KeepsRuns, Active, active_of, all_in, runs_of}
-use Rattle.ocf_types.specs.declared.reply.Notice.{Notice}
+use Rattle.ocf_types.specs.declared.notice.Notice.{Notice}
 use Rattle.ocf_env.specs.Locations.{SiteView}
 use Rattle.exec_ledger.specs.LedgerView.{LedgerView}
 use Rattle.exec_turn.specs.Turns.{ChildrenMatch}

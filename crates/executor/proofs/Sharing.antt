@@ -1,16 +1,17 @@
 -- Calls of a ledger are calls of its executor.
 use Rattle.std.proofs.Common.{◌≡◌, inl, inr, ℕ, Bool, true, false, true≢false, List, [], ◌∷◌, Option, Some, None, refl, sym, ap, ◌∙◌}
 use Rattle.std.specs.Option.{option_map_or}
-use Rattle.ocf_types.specs.Answer.{reply_to}
-use Rattle.ocf_types.specs.Kinds.{Command, Reply}
-use Rattle.ocf_types.specs.Resource.{Resource}
-use Rattle.ocf_types.specs.State.{State, resource_at}
+use Rattle.ocf_model.specs.Answer.{reply_to}
+use Rattle.ocf_types.specs.Kinds.{Command}
+use Rattle.ocf_model.specs.Answer.{Reply}
+use Rattle.ocf_model.specs.Resource.{Resource}
+use Rattle.ocf_model.specs.State.{State, resource_at}
 use Rattle.ocf_types.specs.declared.command.Question.{Question}
 use Rattle.ocf_types.specs.declared.command.Question.TheVariants as question
-use Rattle.ocf_types.specs.declared.refusal.Refusal.TheVariants.{Disk, Memory, UnknownResource}
-use Rattle.ocf_types.specs.declared.reply.ReplyOf.TheVariants.{Refused}
-use Rattle.ocf_types.specs.declared.reply.TidyEnd.{TidyEnd}
-use Rattle.ocf_types.specs.declared.reply.TidyEnd.TheVariants.{Closed}
+use Rattle.ocf_model.specs.declared.refusal.Refusal.TheVariants.{Disk, Memory, UnknownResource}
+use Rattle.ocf_model.specs.declared.reply.ReplyOf.TheVariants.{Refused}
+use Rattle.ocf_model.specs.declared.reply.TidyEnd.{TidyEnd}
+use Rattle.ocf_model.specs.declared.reply.TidyEnd.TheVariants.{Closed}
 use Rattle.exec_state.specs.Answers.{IsReplyOrMemory}
 use Rattle.exec_ledger.specs.Commands.{TakesCommand}
 use Rattle.exec_ledger.specs.LedgerView.{LedgerView, While}

@@ -2,10 +2,11 @@
 use Rattle.std.specs.Prelude.{◌≡◌, ◌↔◌, ℕ, Bool, true, false, List, [], ◌++◌}
 use Rattle.std.proofs.Common.{append_assoc, refl, sym, ap, ◌∙◌}
 use Rattle.std.proofs.lemmas.List.{append-nil}
-use Rattle.ocf_types.specs.Kinds.{Event, Reply, Request}
-use Rattle.ocf_types.specs.declared.refusal.Refusal.TheVariants.{Disk}
-use Rattle.ocf_types.specs.declared.reply.ReplyOf.TheVariants.{Refused, Turn}
-use Rattle.ocf_types.specs.declared.reply.TurnEnd.{TurnEnd}
+use Rattle.ocf_types.specs.Kinds.{Event, Request}
+use Rattle.ocf_model.specs.Answer.{Reply}
+use Rattle.ocf_model.specs.declared.refusal.Refusal.TheVariants.{Disk}
+use Rattle.ocf_model.specs.declared.reply.ReplyOf.TheVariants.{Refused, Turn}
+use Rattle.ocf_model.specs.declared.reply.TurnEnd.{TurnEnd}
 use Rattle.child_model.specs.declared.answer.Entry.{Entry}
 use Rattle.executor.specs.Commands.{ServesWhile}
 use Rattle.exec_ledger.specs.Pieces.{Effects, followed_by, no_effects}

@@ -1,6 +1,7 @@
 -- Group commit: commands that arrived together.
 use Rattle.std.specs.Prelude.{ℕ, List}
-use Rattle.ocf_types.specs.Kinds.{Command, Reply}
+use Rattle.ocf_types.specs.Kinds.{Command}
+use Rattle.ocf_model.specs.Answer.{Reply}
 use Rattle.exec_ledger.specs.CommitGroups.{TakesCommands as LedgerTakesCommands}
 use Rattle.executor.specs.ExecutorView.{OnlyLedgerChanges, ExecutorView, ledger_of}
 use Rattle.store_model.specs.StoreView.{StoreView}

@@ -1,10 +1,11 @@
 -- Requests to an executor.
 use Rattle.std.specs.Prelude.{◌≡◌, ℕ, Bool}
-use Rattle.ocf_types.specs.Answer.{event_of, reply_to}
-use Rattle.ocf_types.specs.Kinds.{Reply, Request}
+use Rattle.ocf_model.specs.Answer.{event_of, reply_to}
+use Rattle.ocf_model.specs.Answer.{Reply}
+use Rattle.ocf_types.specs.Kinds.{Request}
 use Rattle.ocf_types.specs.declared.command.RequestOf.TheVariants as asked
-use Rattle.ocf_types.specs.declared.refusal.Refusal.TheVariants.{Closed}
-use Rattle.ocf_types.specs.declared.reply.ReplyOf.TheVariants.{Refused}
+use Rattle.ocf_model.specs.declared.refusal.Refusal.TheVariants.{Closed}
+use Rattle.ocf_model.specs.declared.reply.ReplyOf.TheVariants.{Refused}
 use Rattle.exec_state.specs.Answers.{IsReplyOrMemory}
 use Rattle.exec_ledger.specs.Commands.{Obeys}
 use Rattle.exec_ledger.specs.LedgerView.{While}

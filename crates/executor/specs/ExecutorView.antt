@@ -1,8 +1,8 @@
 -- The view of an executor, and its invariant.
 use Rattle.std.specs.Prelude.{◌≡◌, Bool, List, true}
-use Rattle.ocf_types.specs.Due.{Due}
-use Rattle.ocf_types.specs.State.{State}
-use Rattle.ocf_types.specs.declared.reply.Notice.{Notice}
+use Rattle.ocf_model.specs.Due.{Due}
+use Rattle.ocf_model.specs.State.{State}
+use Rattle.ocf_types.specs.declared.notice.Notice.{Notice}
 use Rattle.ocf_env.specs.Locations.{SiteView}
 use Rattle.child_model.specs.Children.{Admits, ChildrenView}
 use Rattle.exec_state.specs.StateValue.{Monitors, due_of}

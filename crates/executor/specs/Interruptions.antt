@@ -1,12 +1,12 @@
 -- The notices of an opening: of the actions that the executor before this opening left running or queued.
 use Rattle.std.specs.Prelude.{ℕ, List, map, option_to_list}
 use Rattle.std.specs.List.{flat_map}
-use Rattle.ocf_types.specs.Notices.{drop_notice, run_notice}
-use Rattle.ocf_types.specs.Resource.{Resource}
-use Rattle.ocf_types.specs.State.{State}
+use Rattle.ocf_model.specs.Notices.{drop_notice, run_notice}
+use Rattle.ocf_model.specs.Resource.{Resource}
+use Rattle.ocf_model.specs.State.{State}
 use Rattle.ocf_types.specs.declared.operation.Running.{Running}
 use Rattle.ocf_types.specs.declared.outcome.Outcome.TheVariants.{Interrupted}
-use Rattle.ocf_types.specs.declared.reply.Notice.{Notice}
+use Rattle.ocf_types.specs.declared.notice.Notice.{Notice}
 
 -- a resource's running action is interrupted
 abbrev pub interruption : List ℕ → ℕ → Running → Notice

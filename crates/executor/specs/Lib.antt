@@ -10,3 +10,9 @@ pub mod Sessions
 pub mod CommandBatches
 pub mod CallLemmas
 pub mod BatchLemmas
+pub mod BatchCalls
+pub mod FinishCalls
+pub mod Exchanges
+pub mod CommandExchanges
+pub mod ExchangeLemmas
+pub mod CommandExchangeLemmas

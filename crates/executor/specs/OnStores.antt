@@ -1,10 +1,10 @@
 -- Openings over a store: the state, the report, and what a crash leaves.
 use Rattle.std.specs.Prelude.{◌≡◌, ◌⊎◌, ◌↔◌, ℕ, ◌<◌, ◌≤◌, true, false, List, []}
-use Rattle.ocf_types.specs.Answer.{moment}
-use Rattle.ocf_types.specs.Boot.{any_busy}
-use Rattle.ocf_types.specs.Due.{Due, due_at}
-use Rattle.ocf_types.specs.State.{State}
-use Rattle.ocf_types.specs.declared.reply.Notice.{Notice}
+use Rattle.ocf_model.specs.Answer.{moment}
+use Rattle.ocf_model.specs.Boot.{any_busy}
+use Rattle.ocf_model.specs.Due.{Due, due_at}
+use Rattle.ocf_model.specs.State.{State}
+use Rattle.ocf_types.specs.declared.notice.Notice.{Notice}
 use Rattle.two_parts.specs.declared.damage.Damage.{Damage}
 use Rattle.store_model.specs.Crashes.{CrashesTo}
 use Rattle.store_model.specs.StoreView.{Increased, StoreView}

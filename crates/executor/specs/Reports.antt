@@ -1,6 +1,11 @@
--- The view of a report.
-use Rattle.std.specs.Prelude.{List}
-use Rattle.ocf_types.specs.declared.reply.Notice.{Notice}
+-- The view of a report, and the events that results are.
+use Rattle.std.specs.Prelude.{◌≡◌, List}
+use Rattle.ocf_types.specs.Kinds.{Event}
+use Rattle.ocf_types.specs.declared.event.Change.TheVariants as change
+use Rattle.ocf_types.specs.declared.event.Step.TheVariants as step
+use Rattle.ocf_types.specs.declared.notice.Notice.{Notice}
+use Rattle.ocf_types.specs.declared.outcome.Outcome.TheVariants.{Run}
+use Rattle.ocf_types.specs.declared.outcome.RunEnd.{RunEnd}
 use Rattle.executor.specs.declared.report.Report.{Report}
 use Rattle.executor.specs.declared.report.Reported.{Reported}
 
@@ -15,3 +20,9 @@ report_of r = record { interrupted = r.interrupted.items; dropped = r.dropped.it
 
 abbrev pub remembered_report : Reported → ReportView
 remembered_report r = record { interrupted = r.interrupted.items; dropped = r.dropped.items }
+
+-- the notice is of the result that this event is: of that resource's run, which ended so at that moment
+pub record IsOfResult (n : Notice) (e : Event) : Type 0 where
+  pub end : RunEnd
+  pub is : e ≡ record { at = n.result.at; change = change.Step n.id (step.Result n.result.run end) }
+  pub ended : n.result.outcome ≡ Run end

@@ -1,15 +1,16 @@
 -- Sessions: an executor takes inputs, one after the other.
 use Rattle.std.specs.Prelude.{◌≡◌, ◌↔◌, ℕ, Bool, true, false, List, [], ◌∷◌, ◌++◌, Result, Ok, Err}
-use Rattle.ocf_types.specs.Answer.{event_of}
-use Rattle.ocf_types.specs.Kinds.{Event, Reply, Request}
+use Rattle.ocf_model.specs.Answer.{event_of}
+use Rattle.ocf_types.specs.Kinds.{Event, Request}
+use Rattle.ocf_model.specs.Answer.{Reply}
 use Rattle.ocf_types.specs.Params.{ParamList}
-use Rattle.ocf_types.specs.State.{State}
+use Rattle.ocf_model.specs.State.{State}
 use Rattle.ocf_types.specs.declared.command.RequestOf.TheVariants as asked
-use Rattle.ocf_types.specs.declared.refusal.Refusal.{Refusal}
-use Rattle.ocf_types.specs.declared.refusal.Refusal.TheVariants.{Closed, Disk}
-use Rattle.ocf_types.specs.declared.reply.ReplyOf.TheVariants.{Refused, Turn}
-use Rattle.ocf_types.specs.declared.reply.TurnEnd.{TurnEnd}
-use Rattle.ocf_types.specs.declared.reply.TurnEnd.TheVariants as turn_end
+use Rattle.ocf_model.specs.declared.refusal.Refusal.{Refusal}
+use Rattle.ocf_model.specs.declared.refusal.Refusal.TheVariants.{Closed, Disk}
+use Rattle.ocf_model.specs.declared.reply.ReplyOf.TheVariants.{Refused, Turn}
+use Rattle.ocf_model.specs.declared.reply.TurnEnd.{TurnEnd}
+use Rattle.ocf_model.specs.declared.reply.TurnEnd.TheVariants as turn_end
 use Rattle.exec_ledger.specs.LedgerView.{While}
 use Rattle.exec_ledger.specs.Pieces.{CrashCondition}
 pub use Rattle.exec_ledger.specs.Pieces.{Effects, followed_by, no_effects}

@@ -1,7 +1,7 @@
 -- Tidies of an executor.
 use Rattle.std.specs.Prelude.{◌≡◌, Bool}
-use Rattle.ocf_types.specs.declared.reply.TidyEnd.{TidyEnd}
-use Rattle.ocf_types.specs.declared.reply.TidyEnd.TheVariants.{Closed}
+use Rattle.ocf_model.specs.declared.reply.TidyEnd.{TidyEnd}
+use Rattle.ocf_model.specs.declared.reply.TidyEnd.TheVariants.{Closed}
 use Rattle.exec_ledger.specs.LedgerView.{While}
 use Rattle.exec_ledger.specs.Tidying.{Tidies as LedgerTidies}
 use Rattle.executor.specs.ExecutorView.{OnlyLedgerChanges, ExecutorView, ledger_of}

@@ -1,8 +1,8 @@
 -- Turns of an executor, turns that begin nothing, and the calls on its children.
 use Rattle.std.specs.Prelude.{◌≡◌, ◌↔◌, ◌*◌, ◌<◌, ℕ, Bool, false, [], length}
-use Rattle.ocf_types.specs.Answer.{moment}
-use Rattle.ocf_types.specs.declared.reply.TurnEnd.{TurnEnd}
-use Rattle.ocf_types.specs.declared.reply.TurnEnd.TheVariants.{BookFull, Closed, Disk}
+use Rattle.ocf_model.specs.Answer.{moment}
+use Rattle.ocf_model.specs.declared.reply.TurnEnd.{TurnEnd}
+use Rattle.ocf_model.specs.declared.reply.TurnEnd.TheVariants.{BookFull, Closed, Disk}
 use Rattle.child_model.specs.Children.{AllEnded, ChildrenView, emptied}
 use Rattle.exec_ledger.specs.LedgerView.{While}
 use Rattle.exec_ledger.specs.BatchStarts.{batch_start}

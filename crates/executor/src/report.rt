@@ -1,11 +1,12 @@
 //! The report of an opening: the actions that the executor before this opening left running or queued.
 ghost use Rattle.std.specs.Prelude.{◌≡◌, ◌++◌, ◌<◌, IfOk, OnOk, length};
-ghost use Rattle.ocf_types.specs.Indexes.{entry_at};
+ghost use Rattle.ocf_model.specs.Indexes.{entry_at};
 ghost use Rattle.executor.specs.Interruptions.{dropped, dropped_in, interrupted, interrupted_in};
 
 use exec_state::State;
 use growth::{Grows, Refused, push};
-use ocf_types::{Moment, Notice, Outcome, StateView};
+use ocf_model::StateView;
+use ocf_types::{Moment, Notice, Outcome};
 use op_history::{drop_notice, run_notice};
 use past::Past;
 use std::alloc::{Allocator, Global};

@@ -1,13 +1,14 @@
 //! Sessions: many inputs in one call.
 ghost use Rattle.std.specs.Prelude.{◌≡◌, ◌++◌, IfErr, IsTrue, OnErr, OnOk, List};
-ghost use Rattle.ocf_types.specs.Kinds.{Reply};
+ghost use Rattle.ocf_model.specs.Answer.{Reply};
 ghost use Rattle.exec_ledger.specs.Pieces.{Effects};
 ghost use Rattle.executor.specs.Sessions.{TakesInputs, TakesWhile};
 
 use crate::On;
 use child_model::Children;
 use growth::Grows;
-use ocf_types::{Params, Reply, ReplyOf, RequestOf};
+use ocf_model::{Reply, ReplyOf};
+use ocf_types::{Params, RequestOf};
 use std::alloc::Global;
 use store_model::Store;
 

@@ -7,7 +7,8 @@ use crate::On;
 use child_model::{Children, Entry};
 use exec_turn::{finish_turn, runs_any, take_turn};
 use growth::Grows;
-use ocf_types::{Notice, TurnEnd};
+use ocf_model::TurnEnd;
+use ocf_types::Notice;
 use store_model::Store;
 
 impl<S: Store + Drop, C: Children + Drop, A: Grows> On<S, C, A> {

@@ -2,14 +2,15 @@
 use Rattle.std.proofs.Common.{◌≡◌, ℕ, Bool, true, false, List, [], ◌∷◌, Result, Ok, Err, Contains, IsTrue, refl, sym, ap, subst, ◌∙◌}
 use Rattle.std.specs.List.{AllByRecursion}
 use Rattle.std.proofs.lemmas.List.Elements.{All-from_recursion}
-use Rattle.ocf_types.specs.Answer.{event_of, moment}
-use Rattle.ocf_types.specs.Kinds.{Command, Event, Reply, Request}
+use Rattle.ocf_model.specs.Answer.{event_of, moment}
+use Rattle.ocf_types.specs.Kinds.{Command, Event, Request}
+use Rattle.ocf_model.specs.Answer.{Reply}
 use Rattle.ocf_types.specs.declared.command.RequestOf.TheVariants as asked
-use Rattle.ocf_types.specs.declared.refusal.Refusal.{Refusal}
-use Rattle.ocf_types.specs.declared.refusal.Refusal.TheVariants.{Closed, Memory}
-use Rattle.ocf_types.specs.declared.reply.ReplyOf.TheVariants as reply
-use Rattle.ocf_types.specs.declared.reply.TurnEnd.{TurnEnd}
-use Rattle.ocf_types.specs.declared.reply.TurnEnd.TheVariants as turn_end
+use Rattle.ocf_model.specs.declared.refusal.Refusal.{Refusal}
+use Rattle.ocf_model.specs.declared.refusal.Refusal.TheVariants.{Closed, Memory}
+use Rattle.ocf_model.specs.declared.reply.ReplyOf.TheVariants as reply
+use Rattle.ocf_model.specs.declared.reply.TurnEnd.{TurnEnd}
+use Rattle.ocf_model.specs.declared.reply.TurnEnd.TheVariants as turn_end
 use Rattle.exec_ledger.specs.Commands.{Obeys}
 use Rattle.exec_ledger.specs.Replies.{MemoryOnlyIf}
 use Rattle.exec_ledger.specs.BatchStarts.{batch_start}
@@ -17,7 +18,7 @@ use Rattle.exec_ledger.specs.Together.{disk_each, failed, batch_replies}
 use Rattle.exec_ledger.proofs.Recording.{no_memory}
 use Rattle.exec_turn.specs.Turn.{IsTurn}
 use Rattle.executor.specs.Commands.{ServesOpen}
-use Rattle.executor_laws.specs.Incarnations.{Abandoned, Calls, Cleared, Does, Exchange, Finished, Batch, Tidied, Took}
+use Rattle.executor.specs.Exchanges.{Abandoned, Calls, Cleared, Does, Exchange, Finished, Batch, Tidied, Took}
 use Rattle.executor_laws.specs.Machine.{LacksMemory}
 use Rattle.exec_ledger.specs.Pieces.{Effects}
 use Rattle.executor.specs.Sessions.{Input, TakesATurn, TakesWhile}

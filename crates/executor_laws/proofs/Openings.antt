@@ -1,7 +1,7 @@
 -- An opening of a store, and then that of an executor over it.
 use Rattle.std.proofs.Common.{◌≡◌, ℕ, List, Some, sym, subst, arith}
-use Rattle.ocf_types.specs.State.{State}
-use Rattle.ocf_types.specs.declared.reply.Notice.{Notice}
+use Rattle.ocf_model.specs.State.{State}
+use Rattle.ocf_types.specs.declared.notice.Notice.{Notice}
 use Rattle.child_model.specs.Children.{ChildrenView}
 use Rattle.store_model.specs.Calls.{OpensStore}
 use Rattle.exec_ledger.specs.Boots.{BootsFrom}

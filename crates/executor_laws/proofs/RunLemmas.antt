@@ -1,7 +1,7 @@
 -- A run of an executor is an incarnation, at whatever moment it is stopped, and keeps the promise.
 use Rattle.std.proofs.Common.{◌≡◌, ℕ, List, [], ◌∷◌, ◌++◌, refl, sym, ap, subst, ◌∙◌}
-use Rattle.ocf_types.specs.State.{State}
-use Rattle.ocf_types.specs.declared.reply.Notice.{Notice}
+use Rattle.ocf_model.specs.State.{State}
+use Rattle.ocf_types.specs.declared.notice.Notice.{Notice}
 use Rattle.disk_model.specs.Disk.{DiskView, Lawful}
 use Rattle.disk_model.specs.Image.{Image}
 use Rattle.child_model.specs.Children.{ChildrenView}
@@ -13,7 +13,8 @@ use Rattle.executor.specs.ExecutorView.{ExecutorView}
 use Rattle.executor.specs.Openings.{NotOpened, Opened, closed_pair}
 use Rattle.executor.specs.declared.opening.OpenError.{OpenError}
 use Rattle.executor_laws.proofs.Incarnations.Files.{opening_on, refused_lasts}
-use Rattle.executor_laws.specs.Incarnations.{AreIncarnations, Calls, Exchange, Incarnation, Lasted}
+use Rattle.executor_laws.specs.Incarnations.{AreIncarnations, Incarnation, Lasted}
+use Rattle.executor.specs.Exchanges.{Calls, Exchange}
 use Rattle.executor_laws.specs.KeepsPromise.{IsPromised, KeepsPromise, KeepsPromiseNext, RefusalKeepsPromise, refused}
 use Rattle.executor_laws.specs.OnFiles.{FilesGoOn, FilesLeave}
 use Rattle.executor_laws.specs.Runs.{IsRun, Returned, Run, in_opening, stopped, stopped_lasts}

@@ -1,8 +1,8 @@
 -- A session is the calls of its inputs.
 use Rattle.std.proofs.Common.{ℕ, List, [], ◌∷◌}
-use Rattle.ocf_types.specs.Kinds.{Reply}
+use Rattle.ocf_model.specs.Answer.{Reply}
 use Rattle.executor_laws.specs.Joins.{as_calls}
-use Rattle.executor_laws.specs.Incarnations.{Calls}
+use Rattle.executor.specs.Exchanges.{Calls}
 use Rattle.exec_ledger.specs.Pieces.{Effects}
 use Rattle.executor_laws.specs.Projections.{IsFree, IsFreeSession}
 use Rattle.executor.specs.Sessions.{Input, Session}

@@ -1,11 +1,11 @@
 -- Behaviours of the machine: openings, calls and crashes, one incarnation after another.
 use Rattle.std.specs.Prelude.{◌≡◌, ◌⊎◌, ◌≤◌, ℕ, Bool, true, List, [], ◌∷◌, ◌++◌, Option}
 use Rattle.std.specs.List.{flat_map}
-use Rattle.ocf_types.specs.Answer.{moment}
-use Rattle.ocf_types.specs.Due.{due_at}
+use Rattle.ocf_model.specs.Answer.{moment}
+use Rattle.ocf_model.specs.Due.{due_at}
 use Rattle.ocf_types.specs.Kinds.{Event}
-use Rattle.ocf_types.specs.State.{State, after_all}
-use Rattle.ocf_types.specs.declared.reply.Notice.{Notice}
+use Rattle.ocf_model.specs.State.{State, after_all}
+use Rattle.ocf_types.specs.declared.notice.Notice.{Notice}
 use Rattle.child_model.specs.Children.{Asked}
 use Rattle.child_model.specs.declared.answer.Entry.{Entry}
 use Rattle.exec_ledger.specs.Boots.{booted}

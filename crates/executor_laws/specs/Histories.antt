@@ -3,14 +3,14 @@ use Rattle.std.specs.Prelude.{◌≡◌, ◌⊎◌, ℕ, ◌≤◌, ◌==◌, �
 use Rattle.std.specs.List.{AllByRecursion, flat_map, list_any}
 use Rattle.std.specs.Option.{option_map_or}
 use Rattle.std.specs.Str.{bytes_eq}
-use Rattle.ocf_types.specs.Applies.{ChangeApplies}
+use Rattle.ocf_model.specs.Applies.{ChangeApplies}
 use Rattle.ocf_types.specs.Kinds.{Change, Event}
-use Rattle.ocf_types.specs.LawfulState.{IsAscending}
-use Rattle.ocf_types.specs.State.{State, after, resource_at}
+use Rattle.ocf_types.specs.Numbers.{IsAscending}
+use Rattle.ocf_model.specs.State.{State, after, resource_at}
 use Rattle.ocf_types.specs.declared.event.Change.TheVariants as change
 use Rattle.ocf_types.specs.declared.event.Step.TheVariants as step
 use Rattle.ocf_types.specs.declared.operation.Running.{Running}
-use Rattle.ocf_types.specs.declared.reply.Notice.{Notice}
+use Rattle.ocf_types.specs.declared.notice.Notice.{Notice}
 use Rattle.executor.specs.Interruptions.{interrupted, interruption}
 
 -- each change applies after those before it

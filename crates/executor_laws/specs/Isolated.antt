@@ -2,13 +2,14 @@
 -- knows.
 use Rattle.std.specs.Prelude.{◌≡◌, ◌⊎◌, ℕ, ◌+◌, ◌≤◌, Bool, false, List, [], ◌∷◌, ◌++◌, map, min, length, nat_lt, nat_le, is_some, is_none, Option, Some, None, option_map, option_and_then, option_to_list, Result, Ok, Err, if◌then◌else◌}
 use Rattle.std.specs.Option.{option_map_or}
-use Rattle.ocf_types.specs.Answer.{change_of, first_of, info_of}
-use Rattle.ocf_types.specs.Due.{IsPick, or_else, step_sets}
-use Rattle.ocf_types.specs.Kinds.{Change, Command, Event, Reply}
+use Rattle.ocf_model.specs.Answer.{change_of, first_of, info_of}
+use Rattle.ocf_model.specs.Due.{IsPick, or_else, step_sets}
+use Rattle.ocf_types.specs.Kinds.{Change, Command, Event}
+use Rattle.ocf_model.specs.Answer.{Reply}
 use Rattle.ocf_types.specs.Limits.{event_limit, num_max, queue_limit, recurring_limit}
-use Rattle.ocf_types.specs.Resource.{Resource, is_busy, of_call, of_interval, queued_of}
+use Rattle.ocf_model.specs.Resource.{Resource, is_busy, of_call, of_interval, queued_of}
 use Rattle.ocf_types.specs.Encoding.{encoded_event}
-use Rattle.ocf_types.specs.State.{registered, resource_at, stepped}
+use Rattle.ocf_model.specs.State.{registered, resource_at, stepped}
 use Rattle.ocf_types.specs.declared.command.CommandOf.TheVariants as command
 use Rattle.ocf_types.specs.declared.command.Question.{Question}
 use Rattle.ocf_types.specs.declared.command.Question.TheVariants as question
@@ -17,10 +18,10 @@ use Rattle.ocf_types.specs.declared.event.Change.TheVariants as change
 use Rattle.ocf_types.specs.declared.event.Step.TheVariants as step
 use Rattle.ocf_types.specs.declared.operation.Running.{Running}
 use Rattle.ocf_types.specs.declared.outcome.StartFault.{StartFault}
-use Rattle.ocf_types.specs.declared.refusal.Refusal.{Refusal}
-use Rattle.ocf_types.specs.declared.refusal.Refusal.TheVariants.{Busy, Exists, Recurs, NoSuchRecurring, NotQueued, QueueFull, RecurringFull, TooLarge, UnknownResource}
-use Rattle.ocf_types.specs.declared.reply.ReplyOf.TheVariants as reply
-use Rattle.ocf_types.specs.declared.reply.TurnEnd.TheVariants.{Done}
+use Rattle.ocf_model.specs.declared.refusal.Refusal.{Refusal}
+use Rattle.ocf_model.specs.declared.refusal.Refusal.TheVariants.{Busy, Exists, Recurs, NoSuchRecurring, NotQueued, QueueFull, RecurringFull, TooLarge, UnknownResource}
+use Rattle.ocf_model.specs.declared.reply.ReplyOf.TheVariants as reply
+use Rattle.ocf_model.specs.declared.reply.TurnEnd.TheVariants.{Done}
 use Rattle.child_model.specs.Children.{start_answer}
 use Rattle.child_model.specs.declared.answer.Entry.{Entry}
 use Rattle.child_model.specs.declared.answer.KillFault.{KillFault}
@@ -29,7 +30,7 @@ use Rattle.exec_turn.specs.Actives.{result_of}
 use Rattle.exec_turn.specs.Polls.{IsPoll, ending, entries_of}
 use Rattle.exec_turn.specs.Starts.{refused_end}
 use Rattle.exec_ledger.specs.Replies.{acknowledged}
-use Rattle.executor_laws.specs.Incarnations.{Exchange, Finished, Took}
+use Rattle.executor.specs.Exchanges.{Exchange, Finished, Took}
 use Rattle.executor.specs.ExecutorView.{ExecutorView, due_in}
 use Rattle.executor.specs.declared.session.InputOf.TheVariants as input
 

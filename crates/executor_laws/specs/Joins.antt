@@ -1,7 +1,7 @@
 -- Sessions as calls, and machines of one resource that agree.
 use Rattle.std.specs.Prelude.{◌≡◌, ℕ, ◌≤◌, true, List, [], ◌∷◌}
-use Rattle.ocf_types.specs.Kinds.{Reply}
-use Rattle.executor_laws.specs.Incarnations.{Exchange, Took}
+use Rattle.ocf_model.specs.Answer.{Reply}
+use Rattle.executor.specs.Exchanges.{Exchange, Took}
 use Rattle.executor.specs.Sessions.{Input}
 use Rattle.executor_laws.specs.Isolated.{Isolated, has_monitor}
 

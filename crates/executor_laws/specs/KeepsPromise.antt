@@ -1,7 +1,7 @@
 -- The promise of one run over a pair of files, whatever was before it, and at whatever moment it was stopped.
 use Rattle.std.specs.Prelude.{◌≡◌, ◌≤◌, ℕ, List, ◌∷◌, ◌++◌, Some}
 use Rattle.ocf_types.specs.Kinds.{Event}
-use Rattle.ocf_types.specs.State.{State, after_all}
+use Rattle.ocf_model.specs.State.{State, after_all}
 use Rattle.disk_model.specs.Disk.{DiskView}
 use Rattle.disk_model.specs.Image.{Image}
 use Rattle.exec_journal.specs.Found.{FoundAs}
@@ -10,7 +10,8 @@ use Rattle.exec_journal.specs.StoreViews.{store_view}
 use Rattle.executor.specs.Openings.{closed_pair}
 use Rattle.executor.specs.declared.opening.OpenError.{OpenError}
 use Rattle.executor_laws.specs.Behaves.{Behaves}
-use Rattle.executor_laws.specs.Incarnations.{AreIncarnations, Exchange, InOpening, Incarnation, Lasted, SurvivingEvents, first_store, last_store}
+use Rattle.executor_laws.specs.Incarnations.{AreIncarnations, InOpening, Incarnation, Lasted, SurvivingEvents, first_store, last_store}
+use Rattle.executor.specs.Exchanges.{Exchange}
 use Rattle.executor_laws.specs.OnFiles.{FilesGoOn, FilesLeave}
 use Rattle.executor_laws.specs.Promise.{IsKept}
 use Rattle.executor_laws.specs.Runs.{IsRun, Returned, Run, in_opening, stopped, stopped_lasts}

@@ -1,11 +1,6 @@
-pub mod BatchCalls
-pub mod FinishCalls
 pub mod Incarnations
 pub mod Isolated
 pub mod Projections
-pub mod CommandBatches
-pub mod CallLemmas
-pub mod BatchLemmas
 pub mod Histories
 pub mod Joins
 pub mod Machine

@@ -1,18 +1,19 @@
 -- The machine of an executor, a labelled transition system: each call is a step, whose label has the call with its answer, the answers
 -- of agent processes in it, and the notices of a turn. It knows no store. `Behaves` adds crashes and openings.
 use Rattle.std.specs.Prelude.{◌≡◌, ◌≢◌, ◌⊎◌, ◌↔◌, ◌+◌, ◌-◌, ◌*◌, ◌<◌, ℕ, Bool, true, false, List, [], ◌∷◌, length, Ok, Contains, IsTrue, ⊤}
-use Rattle.ocf_types.specs.Answer.{event_of, moment, reply_to}
-use Rattle.ocf_types.specs.Due.{Due}
-use Rattle.ocf_types.specs.Kinds.{Command, Event, Reply}
-use Rattle.ocf_types.specs.State.{State, after_all}
+use Rattle.ocf_model.specs.Answer.{event_of, moment, reply_to}
+use Rattle.ocf_model.specs.Due.{Due}
+use Rattle.ocf_types.specs.Kinds.{Command, Event}
+use Rattle.ocf_model.specs.Answer.{Reply}
+use Rattle.ocf_model.specs.State.{State, after_all}
 use Rattle.ocf_types.specs.declared.command.RequestOf.TheVariants as asked
-use Rattle.ocf_types.specs.declared.refusal.Refusal.TheVariants.{JournalFull, Memory}
-use Rattle.ocf_types.specs.declared.reply.Notice.{Notice}
-use Rattle.ocf_types.specs.declared.reply.ReplyOf.TheVariants.{Refused, Turn}
-use Rattle.ocf_types.specs.declared.reply.TidyEnd.{TidyEnd}
-use Rattle.ocf_types.specs.declared.reply.TidyEnd.TheVariants as tidy
-use Rattle.ocf_types.specs.declared.reply.TurnEnd.{TurnEnd}
-use Rattle.ocf_types.specs.declared.reply.TurnEnd.TheVariants as turn_end
+use Rattle.ocf_model.specs.declared.refusal.Refusal.TheVariants.{JournalFull, Memory}
+use Rattle.ocf_types.specs.declared.notice.Notice.{Notice}
+use Rattle.ocf_model.specs.declared.reply.ReplyOf.TheVariants.{Refused, Turn}
+use Rattle.ocf_model.specs.declared.reply.TidyEnd.{TidyEnd}
+use Rattle.ocf_model.specs.declared.reply.TidyEnd.TheVariants as tidy
+use Rattle.ocf_model.specs.declared.reply.TurnEnd.{TurnEnd}
+use Rattle.ocf_model.specs.declared.reply.TurnEnd.TheVariants as turn_end
 use Rattle.child_model.specs.declared.answer.Entry.{Entry}
 use Rattle.exec_state.specs.Answers.{IsReplyOrMemory}
 use Rattle.exec_ledger.specs.LedgerView.{While}
@@ -20,7 +21,7 @@ use Rattle.exec_ledger.specs.Pieces.{Effects, followed_by, no_effects, batch_eff
 use Rattle.exec_ledger.specs.BatchStarts.{due_after_all, batch_start}
 use Rattle.exec_ledger.specs.Together.{Answered, failed}
 use Rattle.exec_turn.specs.Turn.{IsFinish, IsTurn, TurnKind}
-use Rattle.executor_laws.specs.Incarnations.{Abandoned, Cleared, Exchange, Finished, Batch, Tidied, Took}
+use Rattle.executor.specs.Exchanges.{Abandoned, Cleared, Exchange, Finished, Batch, Tidied, Took}
 use Rattle.executor.specs.Sessions.{closed_reply}
 use Rattle.executor.specs.declared.session.InputOf.TheVariants as input
 use Rattle.store_model.specs.Batches.{IsTooLong}

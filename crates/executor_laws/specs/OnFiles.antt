@@ -1,6 +1,6 @@
 -- Histories of incarnations over a pair of files: the same histories, in which each incarnation goes on from a pair of files.
 use Rattle.std.specs.Prelude.{List, [], ◌∷◌}
-use Rattle.ocf_types.specs.State.{State}
+use Rattle.ocf_model.specs.State.{State}
 use Rattle.disk_model.specs.Image.{Image}
 use Rattle.disk_model.specs.Disk.{DiskView}
 use Rattle.exec_journal.specs.Found.{FoundAs}

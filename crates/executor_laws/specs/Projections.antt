@@ -4,21 +4,22 @@ use Rattle.std.specs.List.{AllByRecursion, IsDistinct, flat_map, list_any}
 use Rattle.std.specs.Option.{option_map_or}
 use Rattle.std.specs.Map.{keys_of}
 use Rattle.std.specs.Str.{bytes_eq}
-use Rattle.ocf_types.specs.Kinds.{Change, Command, Event, Reply, Request}
-use Rattle.ocf_types.specs.State.{State, named}
+use Rattle.ocf_types.specs.Kinds.{Change, Command, Event, Request}
+use Rattle.ocf_model.specs.Answer.{Reply}
+use Rattle.ocf_model.specs.State.{State, named}
 use Rattle.ocf_types.specs.declared.command.CommandOf.TheVariants as command
 use Rattle.ocf_types.specs.declared.command.Question.TheVariants as question
 use Rattle.ocf_types.specs.declared.command.RequestOf.TheVariants as asked
 use Rattle.ocf_types.specs.declared.event.Change.TheVariants as change
 use Rattle.ocf_types.specs.declared.event.Step.TheVariants as step
-use Rattle.ocf_types.specs.declared.refusal.Refusal.TheVariants.{CallsSpent, Closed, Disk, JournalFull, Memory, TooManyResources}
-use Rattle.ocf_types.specs.declared.reply.ReplyOf.TheVariants as reply
-use Rattle.ocf_types.specs.declared.reply.TurnEnd.TheVariants.{Done}
+use Rattle.ocf_model.specs.declared.refusal.Refusal.TheVariants.{CallsSpent, Closed, Disk, JournalFull, Memory, TooManyResources}
+use Rattle.ocf_model.specs.declared.reply.ReplyOf.TheVariants as reply
+use Rattle.ocf_model.specs.declared.reply.TurnEnd.TheVariants.{Done}
 use Rattle.child_model.specs.Children.{is_held}
 use Rattle.child_model.specs.declared.answer.Entry.{Entry}
 use Rattle.exec_ledger.specs.Actives.{active, runs_of}
 use Rattle.exec_ledger.specs.Pieces.{Effects}
-use Rattle.executor_laws.specs.Incarnations.{Calls, Exchange, Finished, Batch, Took}
+use Rattle.executor.specs.Exchanges.{Calls, Exchange, Finished, Batch, Took}
 use Rattle.executor.specs.ExecutorView.{ExecutorView}
 use Rattle.executor_laws.specs.Isolated.{cut}
 use Rattle.executor.specs.Sessions.{Input, Session}

@@ -1,19 +1,17 @@
 -- The promise: a history of incarnations, and the events that it left.
 use Rattle.std.specs.Prelude.{◌≡◌, ◌⊎◌, ℕ, List, [], ◌∷◌, ◌++◌, map, Ok, if◌then◌else◌, ⊤}
 use Rattle.std.specs.List.{flat_map}
-use Rattle.ocf_types.specs.Answer.{event_of}
-use Rattle.ocf_types.specs.Kinds.{Command, Event, Reply}
-use Rattle.ocf_types.specs.State.{State, after}
+use Rattle.ocf_model.specs.Answer.{event_of}
+use Rattle.ocf_types.specs.Kinds.{Command, Event}
+use Rattle.ocf_model.specs.Answer.{Reply}
+use Rattle.ocf_model.specs.State.{State, after}
 use Rattle.ocf_types.specs.declared.command.RequestOf.TheVariants as asked
-use Rattle.ocf_types.specs.declared.event.Change.TheVariants as change
-use Rattle.ocf_types.specs.declared.event.Step.TheVariants as step
-use Rattle.ocf_types.specs.declared.outcome.Outcome.TheVariants.{Run}
-use Rattle.ocf_types.specs.declared.outcome.RunEnd.{RunEnd}
-use Rattle.ocf_types.specs.declared.reply.Notice.{Notice}
+use Rattle.ocf_types.specs.declared.notice.Notice.{Notice}
 use Rattle.exec_ledger.specs.Replies.{acknowledged}
 use Rattle.exec_ledger.specs.Together.{is_no_refusal}
+use Rattle.executor.specs.Reports.{IsOfResult}
 use Rattle.executor_laws.specs.Histories.{IsInOrder, IsWithin, interruptions}
-use Rattle.executor_laws.specs.Incarnations.{Exchange, Batch, Took}
+use Rattle.executor.specs.Exchanges.{Exchange, Batch, Took}
 use Rattle.executor_laws.specs.Machine.{Label}
 use Rattle.executor_laws.specs.Behaves.{HasBegins, Opening, Seen, Serving}
 use Rattle.executor_laws.specs.SeenIncarnations.{reports}
@@ -44,12 +42,6 @@ abbrev pub claimed : List Seen → List Claim
 claimed [] = []
 claimed (Opening now end ∷ older) = claimed older
 claimed (Serving x ∷ older) = claimed older ++ flat_map claims_of x.calls
-
--- the notice is of the result that this event is: of that resource's run, which ended so at that moment
-pub record IsOfResult (n : Notice) (e : Event) : Type 0 where
-  pub end : RunEnd
-  pub is : e ≡ record { at = n.result.at; change = change.Step n.id (step.Result n.result.run end) }
-  pub ended : n.result.outcome ≡ Run end
 
 -- this event is the one of a claim: the event that its own command is in this state, or the result of its notice
 abbrev pub IsClaimed : State → Claim → Event → Type 0

@@ -1,11 +1,12 @@
 -- Runs of an executor, and the incarnations that a run was, at whatever moment it was stopped.
 use Rattle.std.specs.Prelude.{◌≡◌, ◌≤◌, ℕ, List, ◌++◌, None}
-use Rattle.ocf_types.specs.declared.reply.Notice.{Notice}
+use Rattle.ocf_types.specs.declared.notice.Notice.{Notice}
 use Rattle.child_model.specs.Children.{ChildrenView}
 use Rattle.exec_ledger.specs.Pieces.{Effects, followed_by}
 use Rattle.executor.specs.ExecutorView.{ExecutorView}
 use Rattle.executor.specs.OnStores.{OpensOn}
-use Rattle.executor_laws.specs.Incarnations.{Calls, Exchange, InOpening, Incarnation, Lasted, Up}
+use Rattle.executor.specs.Exchanges.{Calls, Exchange}
+use Rattle.executor_laws.specs.Incarnations.{InOpening, Incarnation, Lasted, Up}
 use Rattle.store_model.specs.StoreView.{StoreView}
 
 -- A run: the store that its opening was handed, and when; the executor as it was opened; its calls, one after the other, each with its

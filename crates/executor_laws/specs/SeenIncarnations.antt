@@ -1,7 +1,8 @@
 -- The observations of a history of incarnations.
 use Rattle.std.specs.Prelude.{Bool, true, List, [], ◌∷◌, ◌++◌, length}
-use Rattle.ocf_types.specs.declared.reply.Notice.{Notice}
-use Rattle.executor_laws.specs.Incarnations.{Calls, Exchange, Finished, InOpening, Up, AreIncarnations, Incarnation, Took}
+use Rattle.ocf_types.specs.declared.notice.Notice.{Notice}
+use Rattle.executor.specs.Exchanges.{Calls, Exchange, Finished, Took}
+use Rattle.executor_laws.specs.Incarnations.{InOpening, Up, AreIncarnations, Incarnation}
 use Rattle.executor_laws.specs.Machine.{Label}
 use Rattle.executor_laws.specs.Behaves.{Opening, Seen, Serving}
 use Rattle.exec_ledger.specs.Pieces.{Effects}

@@ -2,8 +2,8 @@
 //! an administrator relies on in the events that a history of incarnations left.
 ghost use Rattle.std.specs.Prelude.{ℕ, List};
 ghost use Rattle.ocf_types.specs.Kinds.{Event};
-ghost use Rattle.ocf_types.specs.LawfulState.{IsLawfulState};
-ghost use Rattle.ocf_types.specs.State.{State};
+ghost use Rattle.ocf_model.specs.LawfulState.{IsLawfulState};
+ghost use Rattle.ocf_model.specs.State.{State};
 ghost use Rattle.executor_laws.specs.Histories.{BeginInOrder, EndsBetween, Follow, InterruptedOnce, RunsAscend};
 
 /// No run number is begun twice: each is above all that began before it, also after an opening.

@@ -1,10 +1,11 @@
 //! Laws of calls, sessions and histories of incarnations, each the contract of a function that does nothing.
 ghost use Rattle.std.specs.Prelude.{◌≡◌, ◌≢◌, ◌≤◌, ◌++◌, ℕ, List, Option, IsTrue, [], Some, false};
 ghost use Rattle.std.specs.List.{AllByRecursion};
-ghost use Rattle.ocf_types.specs.Kinds.{Command, Event, Reply};
-ghost use Rattle.ocf_types.specs.LawfulState.{IsLawfulState};
-ghost use Rattle.ocf_types.specs.State.{State, after_all, empty};
-ghost use Rattle.ocf_types.specs.declared.reply.Notice.{Notice};
+ghost use Rattle.ocf_types.specs.Kinds.{Command, Event};
+ghost use Rattle.ocf_model.specs.Answer.{Reply};
+ghost use Rattle.ocf_model.specs.LawfulState.{IsLawfulState};
+ghost use Rattle.ocf_model.specs.State.{State, after_all, empty};
+ghost use Rattle.ocf_types.specs.declared.notice.Notice.{Notice};
 ghost use Rattle.disk_model.specs.Image.{Image};
 ghost use Rattle.two_parts.specs.declared.damage.Damage.{Damage};
 ghost use Rattle.child_model.specs.Children.{ChildrenView};
@@ -17,14 +18,15 @@ ghost use Rattle.exec_journal.specs.StoreViews.{store_view};
 ghost use Rattle.store_model.specs.Calls.{OpensStore};
 ghost use Rattle.exec_turn.specs.AgentsLive.{AgentsLive};
 ghost use Rattle.executor_laws.specs.Joins.{SameIsolated, as_calls};
-ghost use Rattle.executor_laws.specs.Incarnations.{Calls, Does, Exchange, GoesOnFrom, InOpening, AreIncarnations, IncarnationsLeave, IncarnationsOpen, SurvivingEvents, OpensAfter, Batch, Lasted, Incarnation};
+ghost use Rattle.executor.specs.Exchanges.{Calls, Does, Exchange, Batch};
+ghost use Rattle.executor_laws.specs.Incarnations.{GoesOnFrom, InOpening, AreIncarnations, IncarnationsLeave, IncarnationsOpen, SurvivingEvents, OpensAfter, Lasted, Incarnation};
 ghost use Rattle.executor_laws.specs.Machine.{LacksMemory};
 ghost use Rattle.executor_laws.specs.OnFiles.{BeginsAs, FilesGoOn, FilesLeave};
 ghost use Rattle.executor.specs.OnStores.{NotOpenedOn, OpensFrom, OpensOn};
 ghost use Rattle.executor.specs.Openings.{NotOpened, Opened, closed_pair};
 ghost use Rattle.executor_laws.specs.Promise.{IsKept};
 ghost use Rattle.executor.specs.CommandBatches.{TakesCommands};
-ghost use Rattle.executor_laws.specs.CommandBatches.{CallsCommands};
+ghost use Rattle.executor.specs.CommandExchanges.{CallsCommands};
 ghost use Rattle.executor_laws.specs.Behaves.{Behaves};
 ghost use Rattle.executor_laws.specs.SeenIncarnations.{seen};
 ghost use Rattle.executor_laws.specs.Projections.{AreRising, DistinctKeys, IsAnswered, IsFree, IsFreeSession, entries_of_runs, events_of, own_runs, part, projection_of};
@@ -38,7 +40,7 @@ ghost use Rattle.executor.specs.declared.opening.OpenError.TheVariants as why;
 
 use disk_model::Disk;
 use exec_journal::laws::{lemma_found_once, lemma_journal_holds};
-use ocf_types::laws::{layouts, lemma_lawful_states};
+use ocf_model::laws::{layouts, lemma_lawful_states};
 use store_model::Store;
 
 /// Each resource's part of any calls is a behaviour of the machine that has this resource alone, whatever the children answered

@@ -1,8 +1,8 @@
 //! Laws of the machine, which knows no disk and no journal, each the contract of a function that does nothing.
 ghost use Rattle.std.specs.Prelude.{List};
 ghost use Rattle.ocf_types.specs.Kinds.{Event};
-ghost use Rattle.ocf_types.specs.LawfulState.{IsLawfulState};
-ghost use Rattle.ocf_types.specs.State.{State};
+ghost use Rattle.ocf_model.specs.LawfulState.{IsLawfulState};
+ghost use Rattle.ocf_model.specs.State.{State};
 ghost use Rattle.executor_laws.specs.Histories.{Follow};
 ghost use Rattle.executor_laws.specs.Promise.{IsKept};
 ghost use Rattle.executor_laws.specs.Behaves.{Behaves, Seen};

@@ -1,7 +1,7 @@
 //! The law of one run of an executor: whatever was before it, and at whatever moment it is stopped. Each is the contract of a function that
 //! does nothing.
 ghost use Rattle.std.specs.Prelude.{◌≡◌, ◌≤◌, ◌++◌, ℕ, List};
-ghost use Rattle.ocf_types.specs.declared.reply.Notice.{Notice};
+ghost use Rattle.ocf_types.specs.declared.notice.Notice.{Notice};
 ghost use Rattle.child_model.specs.Children.{ChildrenView};
 ghost use Rattle.exec_journal.specs.Journal.{JournalView};
 ghost use Rattle.exec_journal.specs.StoreViews.{store_view};
@@ -9,7 +9,8 @@ ghost use Rattle.exec_ledger.specs.Pieces.{Effects};
 ghost use Rattle.executor.specs.ExecutorView.{ExecutorView};
 ghost use Rattle.executor.specs.Openings.{NotOpened, Opened, closed_pair};
 ghost use Rattle.executor.specs.declared.opening.OpenError.{OpenError};
-ghost use Rattle.executor_laws.specs.Incarnations.{Calls, Exchange, Lasted};
+ghost use Rattle.executor.specs.Exchanges.{Calls, Exchange};
+ghost use Rattle.executor_laws.specs.Incarnations.{Lasted};
 ghost use Rattle.executor_laws.specs.KeepsPromise.{KeepsPromise, RefusalKeepsPromise};
 ghost use Rattle.executor_laws.specs.Runs.{IsRun, Returned, Run, in_opening};
 

@@ -2,8 +2,8 @@
 use Rattle.std.specs.Prelude.{◌≡◌, ◌≢◌, ◌⊎◌, ℕ, ◌==◌, ◌&&◌, not, nat_lt, Bool, false, List}
 use Rattle.std.specs.List.{Any, list_any}
 use Rattle.std.specs.Option.{option_map_or}
-use Rattle.ocf_types.specs.Resource.{Resource}
-use Rattle.ocf_types.specs.State.{State}
+use Rattle.ocf_model.specs.Resource.{Resource}
+use Rattle.ocf_model.specs.State.{State}
 use Rattle.agents_file.specs.declared.entry.AgentEntry.{AgentEntry}
 use Rattle.proc_files.specs.declared.process.Process.{Process}
 

@@ -9,7 +9,8 @@ use exec_faults::Fault;
 use exec_journal::Journal;
 use exec_state::State;
 use file_disk::RamDisk;
-use ocf_types::{AgentType, Params, Part, Provider, RscId, StateView};
+use ocf_model::StateView;
+use ocf_types::{AgentType, Params, Part, Provider, RscId};
 use process_ends::System;
 
 // How often the files are read before a journal is reported as damaged: another program may be writing them.

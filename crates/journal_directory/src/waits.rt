@@ -1,6 +1,6 @@
 //! What resources wait for, by the record of the agents that an executor of this boot runs or looks for.
 ghost use Rattle.std.specs.Prelude.{◌≡◌, ◌<◌, ◌↔◌, Any, IsTrue, length};
-ghost use Rattle.ocf_types.specs.Indexes.{at_index};
+ghost use Rattle.ocf_model.specs.Indexes.{at_index};
 ghost use Rattle.journal_directory.specs.Waits.{GoesOnIn, IsAlive, IsReused, is_past, is_run, is_run_in};
 
 use agents_file::{AgentEntry, monotonic_now, read_agents};
@@ -10,7 +10,8 @@ use exec_options::JournalLocation;
 use exec_state::State;
 use growth::Refused;
 use line_text::LineText;
-use ocf_types::{RscId, RunId, StateView};
+use ocf_model::StateView;
+use ocf_types::{RscId, RunId};
 use proc_files::{ProcFiles, Process};
 use status_report::Remark;
 use std::alloc::{AllocError, Global};

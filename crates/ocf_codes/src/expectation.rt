@@ -1,7 +1,7 @@
 //! Expected exit codes, and outcomes that are failures.
 ghost use Rattle.std.specs.Prelude.{◌≡◌};
 ghost use Rattle.ocf_types.specs.Expected.{has_failed, is_expected};
-ghost use Rattle.ocf_types.specs.Notices.{is_failure};
+ghost use Rattle.ocf_types.specs.Expected.{is_failure};
 
 use ocf_types::{Action, Expect, Notice, Outcome};
 

@@ -2,7 +2,7 @@
 use Rattle.std.specs.Prelude.{ℕ, List}
 use Rattle.ocf_types.specs.Params.{ParamList}
 use Rattle.ocf_types.specs.Kinds.{Registration}
-use Rattle.ocf_types.specs.Resource.{Resource}
+use Rattle.ocf_model.specs.Resource.{Resource}
 use Rattle.ocf_env.specs.declared.launches.Instance.{Instance}
 
 -- the registration that an instance borrows

@@ -13,7 +13,7 @@ use Rattle.ocf_types.specs.Names.{is_param_name}
 use Rattle.ocf_types.specs.Values.{is_param_value}
 use Rattle.ocf_types.specs.Params.{ParamList, is_before, is_after, are_params_after, has_param}
 use Rattle.ocf_types.specs.Lemmas.{before_differs, before_trans, both, less_is, not_before_itself}
-use Rattle.ocf_types.specs.RegistryLemmas.{other_way}
+use Rattle.ocf_types.specs.Lemmas.{other_way}
 
 -- one name is before another, the same, or after it
 pub before_cases : (a b : List ℕ) → (is_before a b ≡ true) ⊎ ((a ≡ b) ⊎ (is_before b a ≡ true))

@@ -7,6 +7,7 @@ use Rattle.ocf_types.specs.declared.expect.Expect.{Expect}
 use Rattle.ocf_types.specs.declared.expect.Expect.TheVariants.{Success, NotRunning, RunningPromoted}
 use Rattle.ocf_types.specs.Outcomes.{outcome_row}
 use Rattle.ocf_types.specs.declared.outcome.Outcome.{Outcome}
+use Rattle.ocf_types.specs.declared.notice.Notice.{Notice}
 
 -- OCF Resource Agent API 1.1, exit codes: OCF_SUCCESS, OCF_NOT_RUNNING, OCF_RUNNING_PROMOTED
 abbrev pub expect_code : Expect → ℕ
@@ -32,3 +33,7 @@ is_expected _ x code = code == 0
 -- the outcome is a failure: as its row says, or by an exit code that is not expected
 abbrev pub has_failed : Action → Expect → Outcome → Bool
 has_failed action x o = unwrap_or (outcome_row o).failed (not (is_expected action x (outcome_row o).code))
+
+-- the result is a failure, by what was expected of its action
+abbrev pub is_failure : Notice → Bool
+is_failure n = has_failed n.result.action n.expect n.result.outcome

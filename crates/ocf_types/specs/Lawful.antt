@@ -12,6 +12,8 @@ use Rattle.ocf_types.specs.Encoding.{encoded_event_in}
 use Rattle.ocf_types.specs.declared.layout.Layout.{Layout}
 use Rattle.ocf_types.specs.declared.operation.Op.{Op}
 use Rattle.ocf_types.specs.declared.operation.Recur.{Recur}
+use Rattle.ocf_types.specs.declared.outcome.Outcome.{Outcome}
+use Rattle.ocf_types.specs.declared.outcome.Outcome.TheVariants.{Run}
 use Rattle.ocf_types.specs.declared.outcome.RunEnd.{RunEnd}
 use Rattle.ocf_types.specs.declared.outcome.RunEnd.TheVariants.{Done}
 use Rattle.ocf_types.specs.declared.event.Step.TheVariants as step
@@ -47,6 +49,11 @@ IsLawfulRecur m = IsLawfulRecurIn current m
 abbrev pub IsRunEnd : RunEnd → Type 0
 IsRunEnd (Done code) = code < 256
 IsRunEnd _ = ⊤
+
+-- an outcome whose exit code, if it has one, is a byte
+abbrev pub IsOutcome : Outcome → Type 0
+IsOutcome (Run end) = IsRunEnd end
+IsOutcome _ = ⊤
 
 -- a step has lawful numbers and parameters, and the layout can encode it
 abbrev pub IsLawfulStepIn : Layout → Step → Type 0

@@ -1,26 +1,21 @@
--- Lemmas on tests, lists, orders, events and boots, for proofs here and in the crates above.
+-- Lemmas on tests, lists and orders, for proofs here and in the crates above.
 use Rattle.std.specs.Prelude.{◌≡◌, ℕ, ◌+◌, ◌<◌, ◌==◌, Bool, true, false, ◌&&◌, List, [], ◌∷◌, ◌++◌, length, take, Some}
-use Rattle.std.specs.List.{AllByRecursion, IsDistinct, flat_map, list_any}
+use Rattle.std.specs.List.{AllByRecursion, IsDistinct, flat_map}
 use Rattle.std.specs.Ordering.{is_lt, ordering_reverse}
 use Rattle.std.specs.Str.{bytes_eq}
 use Rattle.std.specs.declared.cmp.Ordering.{Ordering}
 use Rattle.std.specs.declared.cmp.Ordering.TheVariants.{Less, Equal, Greater}
 use Rattle.std.proofs.Common.{get_or, inl, inr, arith, refl, sym, ap, subst, ◌∙◌}
+use Rattle.std.proofs.lemmas.Bool.{false_from_ne_true}
 use Rattle.std.proofs.lemmas.Bool.Decides.{nat_tests}
 use Rattle.std.proofs.lemmas.Cmp.{nat_list_cmp_total}
 use Rattle.std.proofs.lemmas.List.{append-nil, take_more}
 use Rattle.std.proofs.lemmas.List.Concat.{flat_map-append, flat_map-cons}
-use Rattle.std.proofs.lemmas.List.Sums.{fold-append}
 use Rattle.std.proofs.lemmas.Slice.Eq.{bytes_eq-Decides}
 use Rattle.ocf_types.specs.declared.action.Action.{Action}
 use Rattle.ocf_types.specs.declared.action.Action.TheVariants.{Monitor}
-use Rattle.ocf_types.specs.declared.event.Change.TheVariants as change
 use Rattle.ocf_types.specs.Actions.{is_monitor}
-use Rattle.ocf_types.specs.Due.{IsBefore}
 use Rattle.ocf_types.specs.Params.{is_before}
-use Rattle.ocf_types.specs.Resource.{is_busy}
-use Rattle.ocf_types.specs.Kinds.{Event}
-use Rattle.ocf_types.specs.State.{Registry, State, after, after_all, changed}
 
 -- both sides hold of a conjunction that holds
 pub both : (a b : Bool) → (a && b) ≡ true → (a ≡ true) × (b ≡ true)
@@ -68,10 +63,6 @@ flat_more f xs i x lt is =
     let one : flat_map f (x ∷ []) ≡ f x = flat_map-cons f x [] ∙ append-nil (f x) in
     ap (flat_map f) more ∙ flat_map-append f (take i xs) (x ∷ []) ∙ ap (λ t. flat_map f (take i xs) ++ t) one
 
--- the state after two lists of events, one after the other
-pub after_all-append : (s : State) (es fs : List Event) → after_all s (es ++ fs) ≡ after_all (after_all s es) fs
-after_all-append s es fs = fold-append after s es fs
-
 module _ {A : Type 0} where
   -- a property of each element implies a weaker one of each
   pub each_weaken : (P Q : A → Type 0) → ((x : A) → P x → Q x) → (xs : List A) → AllByRecursion P xs → AllByRecursion Q xs
@@ -118,14 +109,7 @@ before_differs a b h = by (bytes_eq b a) refl
 pub before_trans : (a b c : List ℕ) → is_before a b ≡ true → is_before b c ≡ true → is_before a c ≡ true
 before_trans a b c h k = ap is_lt (nat_list_cmp_total.trans a b c (less_is _ h) (less_is _ k))
 
--- the order of due monitors is transitive
-pub IsBefore-trans : (x y z : ℕ × ℕ) → IsBefore x y → IsBefore y z → IsBefore x z
-IsBefore-trans x y z (inl h) (inl k) = inl (omega (arith, h, k))
-IsBefore-trans x y z (inl h) (inr k) = inl (omega (arith, h, k.0))
-IsBefore-trans x y z (inr h) (inl k) = inl (omega (arith, h.0, k))
-IsBefore-trans x y z (inr h) (inr k) = inr (omega (arith, h.0, k.0), omega (arith, h.1, k.1))
-
--- after a boot nothing is queued or running
-pub quiet : (at : ℕ) (rs : Registry) → list_any (λ e. is_busy e.1.history) (changed at change.Boot rs) ≡ false
-quiet at [] = refl
-quiet at (e ∷ es) = quiet at es
+-- a failing test of ids also fails the other way round
+pub other_way : (a b : List ℕ) → bytes_eq a b ≡ false → bytes_eq b a ≡ false
+other_way a b h = false_from_ne_true _ (λ e. let same : bytes_eq a b ≡ true = (bytes_eq-Decides a b).1 (sym ((bytes_eq-Decides b a).0 e)) in
+    let no : true ≡ false = sym same ∙ h in cc)

@@ -1,4 +1,4 @@
-//! Names, values, operations, events, commands and limits of an executor of OCF resource agents.
+//! Names, values, operations, events, commands, limits and encodings of an executor of OCF resource agents.
 #![tactic(auto)]
 
 mod action;
@@ -7,13 +7,12 @@ mod command;
 mod encoded;
 mod event;
 mod expect;
-mod items;
 mod key;
-pub mod laws;
 mod layout;
 mod lemma_known;
 mod limits;
 mod names;
+mod notice;
 mod numbers;
 mod operation;
 mod orphan;
@@ -21,13 +20,8 @@ mod outcome;
 mod param_name;
 mod params;
 mod part;
-mod refusal;
-mod reply;
-mod resource_parts;
 mod rsc_id;
 mod snapshot_sync;
-mod state_parts;
-mod state_view;
 mod values;
 
 pub use action::{Action, Check, Level, Task};
@@ -35,7 +29,6 @@ pub use agent::{AgentType, Provider};
 pub use command::{Command, CommandOf, Question, Request, RequestOf};
 pub use event::{Change, Event, EventOf, Registration, Step};
 pub use expect::Expect;
-pub use items::Items;
 pub use key::OpKey;
 pub use layout::Layout;
 pub use limits::{
@@ -45,6 +38,7 @@ pub use limits::{
     RECURRING_LIMIT, RESERVE, RESOURCES_LIMIT, RUNNING_LEN, SLOT_FRAME, VALUE_LIMIT,
 };
 pub use names::BadName;
+pub use notice::Notice;
 pub use numbers::{CallId, Millis, Moment, RunId};
 pub use operation::{Ended, Op, Recur, Running};
 pub use orphan::Orphan;
@@ -52,11 +46,6 @@ pub use outcome::{MetaFault, Outcome, OutcomeRow, RunEnd, StartFault};
 pub use param_name::ParamName;
 pub use params::Params;
 pub use part::Part;
-pub use refusal::Refusal;
-pub use reply::{Info, InfoOf, Notice, Reply, ReplyOf, TidyEnd, TurnEnd};
-pub use resource_parts::{HistoryParts, ResourceParts};
 pub use rsc_id::RscId;
 pub use snapshot_sync::SnapshotSync;
-pub use state_parts::StateParts;
-pub use state_view::StateView;
 pub use values::{ParamValue, ValueError};

@@ -1,7 +1,7 @@
 //! The runs, results and notices of operations.
 ghost use Rattle.std.specs.Prelude.{◌≡◌};
-ghost use Rattle.ocf_types.specs.Notices.{drop_notice, run_notice};
-ghost use Rattle.ocf_types.specs.Resource.{run_of_op, run_of_monitor, ended_of, dropped_of, cancelled_of, failed_of};
+ghost use Rattle.ocf_model.specs.Notices.{drop_notice, run_notice};
+ghost use Rattle.ocf_model.specs.Resource.{run_of_op, run_of_monitor, ended_of, dropped_of, cancelled_of, failed_of};
 
 use ocf_codes::failed;
 use ocf_types::{Ended, Moment, Notice, Op, Outcome, Recur, RscId, RunId, Running, Task};

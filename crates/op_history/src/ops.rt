@@ -1,7 +1,7 @@
 //! The operations of one resource.
 ghost use Rattle.std.specs.Prelude.{◌≡◌, ◌↔◌, ◌<◌, ◌≤◌, length, slice_get, IfOk, IsErr, OnOk, OnErr};
-ghost use Rattle.ocf_types.specs.Resource.{kept, no_history, is_busy, accepted, begun, ended, booted, forgotten};
-ghost use Rattle.ocf_types.specs.Resource.{failed_after, history_in, queued_of, withdrawn};
+ghost use Rattle.ocf_model.specs.Resource.{kept, no_history, is_busy, accepted, begun, ended, booted, forgotten};
+ghost use Rattle.ocf_model.specs.Resource.{failed_after, history_in, queued_of, withdrawn};
 ghost use Rattle.ocf_types.specs.declared.layout.Layout.TheVariants.{First};
 
 use crate::entries::{cancelled_of, failed_of, run_of_monitor, run_of_op};
@@ -9,9 +9,9 @@ use crate::queued::{Queued, queue_of};
 use crate::results::Results;
 use arrayvec::ArrayVec;
 use growth::{Grows, Refused};
+use ocf_model::HistoryParts;
 use ocf_types::{
-    CallId, Ended, HistoryParts, Layout, Moment, Op, Outcome, QUEUE_LIMIT, Recur, RunEnd, RunId,
-    Running,
+    CallId, Ended, Layout, Moment, Op, Outcome, QUEUE_LIMIT, Recur, RunEnd, RunId, Running,
 };
 use std::alloc::{Allocator, Global};
 use std::marker::Model;
@@ -39,7 +39,7 @@ pub struct Ops<A: Allocator = Global> {
 }
 
 impl<A: Allocator> Model for Ops<A> {
-    ghost use Rattle.ocf_types.specs.Resource.{History};
+    ghost use Rattle.ocf_model.specs.Resource.{History};
 
     ghost Value = { History };
 

@@ -1,7 +1,7 @@
 //! The results that are kept.
 ghost use Rattle.std.specs.Prelude.{◌≡◌, ◌<◌, ◌≤◌, [], ◌∷◌, ◌++◌, length, map, slice_get, IfOk};
 ghost use Rattle.std.specs.Prelude.{option_to_list};
-ghost use Rattle.ocf_types.specs.Resource.{kept, last_in, last_ended, ended_of, dropped_of};
+ghost use Rattle.ocf_model.specs.Resource.{kept, last_in, last_ended, ended_of, dropped_of};
 
 use crate::entries::{dropped_of, ended_of};
 use crate::queued::Queued;
@@ -19,7 +19,7 @@ pub(crate) struct Results<A: Allocator = Global> {
 
 impl<A: Allocator> Model for Results<A> {
     ghost use Rattle.std.specs.Prelude.{◌≡◌, ◌≤◌, List, length};
-    ghost use Rattle.ocf_types.specs.Resource.{kept};
+    ghost use Rattle.ocf_model.specs.Resource.{kept};
     ghost use Rattle.ocf_types.specs.declared.operation.Ended.{Ended};
 
     ghost Value = { List Ended };

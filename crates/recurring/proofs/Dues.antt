@@ -8,7 +8,7 @@ use Rattle.std.proofs.lemmas.List.Quantifiers.{position-Some}
 use Rattle.std.proofs.lemmas.Map.Keys.{IsDistinct-head, IsDistinct-tail}
 use Rattle.std.proofs.lemmas.Slice.Eq.{bytes_eq-Decides}
 use Rattle.indexmap.specs.IndexMap.{set_value_at}
-use Rattle.ocf_types.specs.State.{at_id}
+use Rattle.ocf_model.specs.State.{at_id}
 use Rattle.recurring.specs.DueIndex.{Dues}
 
 -- no key equals the id

@@ -3,8 +3,8 @@ use Rattle.std.proofs.Common.{◌≡◌, ℕ, ◌<◌, ◌≤◌, min, List, [],
 use Rattle.std.proofs.lemmas.Bool.{cases_lt}
 use Rattle.std.specs.Option.{option_map}
 use Rattle.std.proofs.lemmas.List.Elements.{All-push, Contains-append_left, Contains-push}
-use Rattle.ocf_types.specs.Due.{IsBefore, IsLeastDue}
-use Rattle.ocf_types.specs.Lemmas.{IsBefore-trans}
+use Rattle.ocf_model.specs.Due.{IsBefore, IsLeastDue}
+use Rattle.ocf_model.specs.StateLemmas.{IsBefore-trans}
 use Rattle.recurring.specs.declared.due_call.DueCall.{DueCall}
 use Rattle.recurring.specs.DueCalls.{pair_of, IsFirstDue}
 use Rattle.recurring.specs.Monitors.{IsFirstMoment}

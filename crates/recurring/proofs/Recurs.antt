@@ -1,6 +1,6 @@
 -- Lemmas on the monitors without their due moments.
 use Rattle.std.proofs.Common.{◌≡◌, ℕ, ◌+◌, ◌==◌, Bool, true, false, cond, not, List, [], ◌∷◌, map, filter, refl, sym, ap, ◌∙◌}
-use Rattle.ocf_types.specs.Resource.{without_interval}
+use Rattle.ocf_model.specs.Resource.{without_interval}
 use Rattle.recurring.specs.declared.monitor.Monitor.{Monitor}
 use Rattle.recurring.specs.Monitors.{recurs, cancelled, settled, settled_one, restarted, due_at}
 

@@ -1,6 +1,6 @@
 -- The calls of a resource's recurring monitors with their due moments.
 use Rattle.std.specs.Prelude.{ℕ, ◌<◌, ◌≤◌, ◌==◌, List, map, if◌then◌else◌, Option, Some, None, All, Contains}
-use Rattle.ocf_types.specs.Due.{IsBefore}
+use Rattle.ocf_model.specs.Due.{IsBefore}
 use Rattle.recurring.specs.declared.due_call.DueCall.{DueCall}
 use Rattle.recurring.specs.declared.monitor.Monitor.{Monitor}
 

@@ -1,7 +1,7 @@
 -- The recurring monitors of a resource, with their due moments.
 use Rattle.std.specs.Prelude.{◌≡◌, [], ℕ, ◌+◌, ◌≤◌, ◌==◌, List, map, filter, not, if◌then◌else◌, Option, Some, None, All, Contains, length, nat_le, is_some}
 use Rattle.ocf_types.specs.Limits.{recurring_limit}
-use Rattle.ocf_types.specs.Resource.{of_interval}
+use Rattle.ocf_model.specs.Resource.{of_interval}
 use Rattle.ocf_types.specs.declared.operation.Recur.{Recur}
 use Rattle.recurring.specs.declared.monitor.Monitor.{Monitor}
 use Rattle.recurring.specs.declared.recurrings.NotAdded.{NotAdded}

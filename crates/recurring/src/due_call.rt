@@ -1,6 +1,6 @@
 //! The call of a recurring monitor with its due moment.
 ghost use Rattle.std.specs.Prelude.{◌≡◌, ◌≤◌, ◌↔◌, ◌⊎◌, ℕ, List, [], ◌∷◌, ◌++◌, IsTrue};
-ghost use Rattle.ocf_types.specs.Due.{IsBefore};
+ghost use Rattle.ocf_model.specs.Due.{IsBefore};
 ghost use Rattle.recurring.specs.Monitors.{IsFirstMoment};
 ghost use Rattle.recurring.specs.DueCalls.{pair_of, due_call_of, settled_call, IsFirstDue};
 

@@ -1,6 +1,6 @@
 //! The calls of one resource's recurring monitors with their due moments.
 ghost use Rattle.std.specs.Prelude.{◌≡◌, ◌+◌, ◌<◌, ◌≤◌, ◌++◌, ◌∷◌, [], length, take, drop};
-ghost use Rattle.ocf_types.specs.Due.{IsLeastDue};
+ghost use Rattle.ocf_model.specs.Due.{IsLeastDue};
 ghost use Rattle.recurring.specs.Monitors.{pairs, IsFirstMoment};
 ghost use Rattle.recurring.specs.DueIndex.{pairs_without, pairs_settled};
 

@@ -3,8 +3,8 @@ ghost use Rattle.std.specs.Prelude.{◌≡◌, ◌+◌, ◌<◌, ◌≤◌, ◌�
 ghost use Rattle.std.specs.Map.{lookup};
 ghost use Rattle.std.specs.Str.{bytes_eq};
 ghost use Rattle.indexmap.specs.IndexMap.{set_value_at};
-ghost use Rattle.ocf_types.specs.Due.{IsLeastDue};
-ghost use Rattle.ocf_types.specs.State.{at_id};
+ghost use Rattle.ocf_model.specs.Due.{IsLeastDue};
+ghost use Rattle.ocf_model.specs.State.{at_id};
 ghost use Rattle.recurring.specs.Monitors.{pairs, IsFirstMoment};
 ghost use Rattle.recurring.specs.DueIndex.{pairs_at, pairs_of_all, pairs_settled, pairs_without};
 

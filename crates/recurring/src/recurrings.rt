@@ -1,8 +1,8 @@
 //! The recurring monitors of one resource.
 ghost use Rattle.std.specs.Prelude.{◌≡◌, ◌↔◌, ◌<◌, ◌≤◌, [], ◌∷◌, ◌++◌, length, slice_get, nat_le, is_some, None, IsErr, OnOk, OnErr};
 ghost use Rattle.std.specs.Result.{result_err};
-ghost use Rattle.ocf_types.specs.Resource.{of_call, of_interval, without_interval};
-ghost use Rattle.ocf_types.specs.Due.{IsLeastDue};
+ghost use Rattle.ocf_model.specs.Resource.{of_call, of_interval, without_interval};
+ghost use Rattle.ocf_model.specs.Due.{IsLeastDue};
 ghost use Rattle.recurring.specs.Monitors.{recurs, pairs, monitor_due_at, all_due_at, cancelled, refusal_of, settled, restarted, IsFirstMoment};
 
 use crate::due_call::DueCall;

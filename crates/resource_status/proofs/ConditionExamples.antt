@@ -1,7 +1,7 @@
 -- Conditions of resources, computed on examples.
 use Rattle.std.proofs.Common.{◌≡◌, ℕ, ◌*◌, true, false, List, [], ◌∷◌, ◌++◌, Option, Some, None, refl}
 use Rattle.std.specs.Prelude.{replicate}
-use Rattle.ocf_types.specs.Resource.{History}
+use Rattle.ocf_model.specs.Resource.{History}
 use Rattle.ocf_types.specs.declared.action.Action.{Action}
 use Rattle.ocf_types.specs.declared.action.Action.TheVariants as action
 use Rattle.ocf_types.specs.declared.operation.Ended.{Ended}

@@ -2,8 +2,8 @@
 use Rattle.std.proofs.Common.{◌≡◌, ℕ, List, [], ◌∷◌, true, false, Some, refl}
 use Rattle.std.specs.Prelude.{codes}
 use Rattle.ocf_types.specs.Kinds.{Change, Event, Step}
-use Rattle.ocf_types.specs.Resource.{Resource, no_history}
-use Rattle.ocf_types.specs.State.{State, state_of}
+use Rattle.ocf_model.specs.Resource.{Resource, no_history}
+use Rattle.ocf_model.specs.State.{State, state_of}
 use Rattle.ocf_types.specs.declared.action.Level.TheVariants.{Zero}
 use Rattle.ocf_types.specs.declared.action.Task.{Task}
 use Rattle.ocf_types.specs.Actions.{plain, task}

@@ -11,9 +11,9 @@ use Rattle.std.proofs.lemmas.Map.Keys.{apart_from_distinct}
 use Rattle.std.proofs.lemmas.Slice.Eq.{bytes_eq-Decides}
 use Rattle.ocf_types.specs.Expected.{has_failed}
 use Rattle.ocf_types.specs.Kinds.{Change, Event}
-use Rattle.ocf_types.specs.Indexes.{entry_at, id_at, no_entry}
-use Rattle.ocf_types.specs.Resource.{Resource}
-use Rattle.ocf_types.specs.State.{State, after, after_all}
+use Rattle.ocf_model.specs.Indexes.{entry_at, id_at, no_entry}
+use Rattle.ocf_model.specs.Resource.{Resource}
+use Rattle.ocf_model.specs.State.{State, after, after_all}
 use Rattle.ocf_types.specs.declared.operation.Running.{Running}
 use Rattle.ocf_types.specs.declared.outcome.Outcome.{Outcome}
 use Rattle.resource_status.specs.Runs.{Ran, EndsWithin, IsAlone, end_of, ended_by, ran, ran_after, ran_as, runs_since}

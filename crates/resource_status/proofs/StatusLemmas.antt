@@ -5,7 +5,7 @@ use Rattle.serde_json.specs.Data.{Data}
 use Rattle.serde_json.specs.View.{view}
 use Rattle.serde_json.specs.declared.value.Value.{Value}
 use Rattle.serde_json.specs.Written.{has_float}
-use Rattle.ocf_types.specs.Resource.{Resource}
+use Rattle.ocf_model.specs.Resource.{Resource}
 use Rattle.ocf_types.specs.declared.operation.Ended.{Ended}
 use Rattle.ocf_types.specs.declared.operation.Running.{Running}
 use Rattle.resource_status.specs.Conditions.{since_of}

@@ -4,7 +4,7 @@ use Rattle.std.specs.Prelude.{codes, option_map}
 use Rattle.std.specs.Option.{option_map_or}
 use Rattle.std.specs.Str.{bytes_eq}
 use Rattle.ocf_types.specs.Layouts.{kept_in}
-use Rattle.ocf_types.specs.Resource.{History}
+use Rattle.ocf_model.specs.Resource.{History}
 use Rattle.ocf_types.specs.declared.action.Action.{Action}
 use Rattle.ocf_types.specs.declared.action.Action.TheVariants as action
 use Rattle.ocf_types.specs.declared.layout.Layout.TheVariants.{First}

@@ -5,8 +5,8 @@ use Rattle.std.specs.List.{flat_map}
 use Rattle.std.specs.Map.{lookup}
 use Rattle.std.specs.Str.{bytes_eq}
 use Rattle.ocf_types.specs.Kinds.{Change, Event}
-use Rattle.ocf_types.specs.Resource.{Resource, ended_of}
-use Rattle.ocf_types.specs.State.{State, after}
+use Rattle.ocf_model.specs.Resource.{Resource, ended_of}
+use Rattle.ocf_model.specs.State.{State, after}
 use Rattle.ocf_types.specs.declared.event.Change.TheVariants as change
 use Rattle.ocf_types.specs.declared.event.Step.TheVariants as step
 use Rattle.resource_status.specs.Runs.{end_of}

@@ -4,10 +4,10 @@ use Rattle.std.specs.Prelude.{Option, Some, None, option_and_then, option_map, o
 use Rattle.std.specs.List.{flat_map}
 use Rattle.std.specs.Str.{bytes_eq}
 use Rattle.ocf_types.specs.Expected.{has_failed}
-use Rattle.ocf_types.specs.Indexes.{id_at}
+use Rattle.ocf_model.specs.Indexes.{id_at}
 use Rattle.ocf_types.specs.Kinds.{Change, Event}
-use Rattle.ocf_types.specs.Resource.{Resource}
-use Rattle.ocf_types.specs.State.{State, after}
+use Rattle.ocf_model.specs.Resource.{Resource}
+use Rattle.ocf_model.specs.State.{State, after}
 use Rattle.ocf_types.specs.declared.event.Change.TheVariants as change
 use Rattle.ocf_types.specs.declared.event.Step.TheVariants as step
 use Rattle.ocf_types.specs.declared.operation.Running.{Running}

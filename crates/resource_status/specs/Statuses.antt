@@ -3,8 +3,8 @@ use Rattle.std.specs.Prelude.{ℕ, List, [], ◌∷◌, length, map, Option, Som
 use Rattle.serde_json.specs.Data.{Data, null, string}
 use Rattle.ocf_types.specs.Actions.{action_word}
 use Rattle.ocf_types.specs.Outcomes.{outcome_code, outcome_word}
-use Rattle.ocf_types.specs.Resource.{Resource}
-use Rattle.ocf_types.specs.State.{State}
+use Rattle.ocf_model.specs.Resource.{Resource}
+use Rattle.ocf_model.specs.State.{State}
 use Rattle.ocf_types.specs.declared.operation.Ended.{Ended}
 use Rattle.ocf_types.specs.declared.operation.Running.{Running}
 use Rattle.ocf_codes.specs.ExitCodes.{name_read}

@@ -1,13 +1,14 @@
 //! The condition of a resource, by its last results.
 ghost use Rattle.std.specs.Prelude.{◌≡◌, ◌<◌, length, min};
-ghost use Rattle.ocf_types.specs.Indexes.{at_index};
+ghost use Rattle.ocf_model.specs.Indexes.{at_index};
 ghost use Rattle.resource_status.specs.Conditions.{after, changed_in, condition_by, condition_of, condition_without_result, condition_word, given_up};
 ghost use Rattle.resource_status.specs.Conditions.{found_by, held_in, is_bad, is_given_up, is_same, judged, known_of, lasts, left_by, since_by, since_in, since_judged, since_of, up_in, written_by};
 ghost use Rattle.resource_status.specs.Conditions.{written_by_code, worsened};
 
 use exec_state::State;
 use ocf_codes::{Code, read_code};
-use ocf_types::{Action, Ended, Layout, Moment, Outcome, RunEnd, StateView};
+use ocf_model::StateView;
+use ocf_types::{Action, Ended, Layout, Moment, Outcome, RunEnd};
 
 /// The condition of a resource.
 #[derive(Clone, Copy, PartialEq, Eq)]

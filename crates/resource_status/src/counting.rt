@@ -1,7 +1,7 @@
 //! The counts of all resources.
 ghost use Rattle.std.specs.Prelude.{◌≡◌, ◌<◌, ◌++◌, ◌∷◌, [], List, length, OnOk};
 ghost use Rattle.std.specs.List.{flat_map};
-ghost use Rattle.ocf_types.specs.Indexes.{entry_at};
+ghost use Rattle.ocf_model.specs.Indexes.{entry_at};
 ghost use Rattle.resource_status.specs.Counts.{Tallies, count_at};
 ghost use Rattle.resource_status.specs.Runs.{Ran, ended_by, left_by, ran_after, ran_as, without};
 
@@ -11,7 +11,8 @@ use exec_state::State;
 use growth::{Grows, Refused};
 use indexmap::IndexMap;
 use ocf_codes::failed;
-use ocf_types::{Change, Event, Params, RscId, StateView};
+use ocf_model::StateView;
+use ocf_types::{Change, Event, Params, RscId};
 use std::alloc::Global;
 
 /// The counts by id of the resources that have had a run end.

@@ -3,7 +3,8 @@ ghost use Rattle.std.specs.Prelude.{◌≡◌, ◌≤◌, length};
 ghost use Rattle.resource_status.specs.Runs.{end_of, EndsWithin, IsAlone};
 
 use exec_state::State;
-use ocf_types::{Change, Outcome, Params, RscId, StateView, Step};
+use ocf_model::StateView;
+use ocf_types::{Change, Outcome, Params, RscId, Step};
 
 /// The outcome by which a change ends the running action of a resource; `None` if it does not end it.
 pub fn end_of(change: &Change<Params>, id: &RscId) -> Option<Outcome>

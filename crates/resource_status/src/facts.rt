@@ -1,8 +1,8 @@
 //! What the events of a journal's records hold of each resource.
 ghost use Rattle.std.specs.Prelude.{◌≡◌, ◌<◌, ◌++◌, ◌∷◌, [], List, length, IfOk, OnOk};
 ghost use Rattle.std.specs.List.{flat_map};
-ghost use Rattle.ocf_types.specs.Indexes.{entry_at};
-ghost use Rattle.ocf_types.specs.Resource.{ended_of};
+ghost use Rattle.ocf_model.specs.Indexes.{entry_at};
+ghost use Rattle.ocf_model.specs.Resource.{ended_of};
 ghost use Rattle.resource_status.specs.Conditions.{held_in};
 ghost use Rattle.resource_status.specs.Facts.{FactOf, IsRecordOf, ended_facts, facts_by, facts_of, fact_of, forgotten, named_facts, none_recorded, recorded_at, taken};
 
@@ -11,7 +11,8 @@ use crate::ends::{end_of, ending};
 use exec_state::State;
 use growth::{Grows, Refused};
 use indexmap::IndexMap;
-use ocf_types::{Change, Ended, Event, Moment, Outcome, Params, RscId, Running, StateView, Step};
+use ocf_model::StateView;
+use ocf_types::{Change, Ended, Event, Moment, Outcome, Params, RscId, Running, Step};
 use std::alloc::Global;
 
 /// What the records hold of each resource, by its id.

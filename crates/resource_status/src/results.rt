@@ -1,10 +1,11 @@
 //! The last result of a recurring monitor.
 ghost use Rattle.std.specs.Prelude.{◌≡◌, ◌<◌, length};
-ghost use Rattle.ocf_types.specs.Indexes.{at_index};
+ghost use Rattle.ocf_model.specs.Indexes.{at_index};
 ghost use Rattle.resource_status.specs.Results.{is_run, last_of};
 
 use exec_state::State;
-use ocf_types::{CallId, Ended, StateView};
+use ocf_model::StateView;
+use ocf_types::{CallId, Ended};
 
 // Whether a result is of the recurring monitor of this call.
 fn is_run(call: CallId, ended: &Ended) -> bool

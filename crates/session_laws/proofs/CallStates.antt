@@ -1,20 +1,22 @@
 -- The states that calls of an executor lead to: small ones to small ones.
 use Rattle.std.proofs.Common.{◌≡◌, ◌↔◌, inl, inr, ℕ, Bool, true, false, List, [], ◌∷◌, ◌++◌, map, Option, Some, None, option_to_list, Result, Ok, Err, refl, sym, ap, subst, ◌∙◌}
 use Rattle.std.specs.List.{AllByRecursion, flat_map}
-use Rattle.ocf_types.specs.Answer.{event_of}
-use Rattle.ocf_types.specs.Kinds.{Command, Event, Reply, Step}
-use Rattle.ocf_types.specs.Lemmas.{after_all-append, each_append}
-use Rattle.ocf_types.specs.State.{State, after, after_all}
+use Rattle.ocf_model.specs.Answer.{event_of}
+use Rattle.ocf_types.specs.Kinds.{Command, Event, Step}
+use Rattle.ocf_model.specs.Answer.{Reply}
+use Rattle.ocf_model.specs.StateLemmas.{after_all-append}
+use Rattle.ocf_types.specs.Lemmas.{each_append}
+use Rattle.ocf_model.specs.State.{State, after, after_all}
 use Rattle.ocf_types.specs.declared.event.Change.TheVariants as change
 use Rattle.ocf_types.specs.declared.event.Step.TheVariants as step
 use Rattle.ocf_types.specs.declared.outcome.RunEnd.{RunEnd}
 use Rattle.ocf_types.specs.declared.outcome.StartFault.{StartFault}
-use Rattle.ocf_types.specs.declared.refusal.Refusal.{Refusal}
-use Rattle.ocf_types.specs.declared.refusal.Refusal.TheVariants.{Closed, Disk}
-use Rattle.ocf_types.specs.declared.reply.Notice.{Notice}
-use Rattle.ocf_types.specs.declared.reply.ReplyOf.TheVariants as reply
-use Rattle.ocf_types.specs.declared.reply.TurnEnd.{TurnEnd}
-use Rattle.ocf_types.specs.declared.reply.TurnEnd.TheVariants as turn_end
+use Rattle.ocf_model.specs.declared.refusal.Refusal.{Refusal}
+use Rattle.ocf_model.specs.declared.refusal.Refusal.TheVariants.{Closed, Disk}
+use Rattle.ocf_types.specs.declared.notice.Notice.{Notice}
+use Rattle.ocf_model.specs.declared.reply.ReplyOf.TheVariants as reply
+use Rattle.ocf_model.specs.declared.reply.TurnEnd.{TurnEnd}
+use Rattle.ocf_model.specs.declared.reply.TurnEnd.TheVariants as turn_end
 use Rattle.store_model.specs.StoreView.{StoreView}
 use Rattle.exec_ledger.specs.Actives.{Active}
 use Rattle.exec_ledger.specs.BatchStarts.{BatchStart}

@@ -1,9 +1,9 @@
 -- The numbers, computed.
 use Rattle.std.proofs.Common.{◌≡◌, ◌≤◌, ◌<◌, ◌+◌, ◌*◌, true, false, [], ◌∷◌, refl, arith}
 use Rattle.ocf_types.specs.Limits.{event_limit, head_len, longest_begin, longest_result, longest_state, part_limit, reserve, resources_limit, slot_frame}
-use Rattle.ocf_types.specs.declared.refusal.Refusal.TheVariants.{Disk, JournalFull}
-use Rattle.ocf_types.specs.declared.reply.ReplyOf.TheVariants.{Done, Refused}
-use Rattle.ocf_types.specs.declared.reply.TurnEnd.TheVariants.{BookFull, Full}
+use Rattle.ocf_model.specs.declared.refusal.Refusal.TheVariants.{Disk, JournalFull}
+use Rattle.ocf_model.specs.declared.reply.ReplyOf.TheVariants.{Done, Refused}
+use Rattle.ocf_model.specs.declared.reply.TurnEnd.TheVariants.{BookFull, Full}
 use Rattle.executor.specs.ExecutorView.{ExecutorView}
 use Rattle.session_machine.specs.Events as event
 use Rattle.session_machine.specs.Room.{second_mark, worthwhile}

@@ -3,16 +3,16 @@ use Rattle.std.proofs.Common.{◌≡◌, ℕ, suc, ◌+◌, ◌*◌, ◌≤◌, 
 use Rattle.std.specs.List.{AllByRecursion}
 use Rattle.std.proofs.lemmas.Bool.{ltb-false}
 use Rattle.std.proofs.lemmas.List.Concat.{flat_map-cons}
-use Rattle.ocf_types.specs.Answer.{asked_event, event_of, moment, tests}
-use Rattle.ocf_types.specs.Due.{Due}
+use Rattle.ocf_model.specs.Answer.{asked_event, event_of, moment, tests}
+use Rattle.ocf_model.specs.Due.{Due}
 use Rattle.ocf_types.specs.Encoding.{HasNoParams, encoded_event}
 use Rattle.ocf_types.specs.Kinds.{Command, Event, Step}
 use Rattle.ocf_types.specs.Lawful.{IsId}
 use Rattle.ocf_types.specs.Layouts.{current}
 use Rattle.ocf_types.specs.LengthLemmas.{id_short}
 use Rattle.ocf_types.specs.Limits.{event_limit, longest_begin, longest_result}
-use Rattle.ocf_types.specs.RegistryLemmas.{passed}
-use Rattle.ocf_types.specs.State.{Registry, State}
+use Rattle.ocf_model.specs.RegistryLemmas.{passed}
+use Rattle.ocf_model.specs.State.{Registry, State}
 use Rattle.ocf_types.specs.declared.command.CommandOf.TheVariants as command
 use Rattle.ocf_types.specs.declared.event.Change.TheVariants as change
 use Rattle.ocf_types.specs.declared.event.Step.TheVariants as step
@@ -20,7 +20,7 @@ use Rattle.ocf_types.specs.declared.operation.Op.{Op}
 use Rattle.ocf_types.specs.declared.operation.Recur.{Recur}
 use Rattle.ocf_types.specs.declared.operation.Running.{Running}
 use Rattle.ocf_types.specs.declared.outcome.RunEnd.{RunEnd}
-use Rattle.ocf_types.proofs.Lengths.{length-begin, length-event, length-result, length-step, step_short}
+use Rattle.ocf_model.proofs.Lengths.{length-begin, length-event, length-result, length-step, step_short}
 use Rattle.store_model.specs.Batches.{encoded_batch}
 use Rattle.exec_ledger.specs.Actives.{Active, active_of, all_in}
 use Rattle.exec_turn.specs.Actives.{result_of}

@@ -7,3 +7,4 @@ pub mod Lengths
 pub mod Tails
 pub mod Journals
 pub mod Examples
+pub mod SentOver

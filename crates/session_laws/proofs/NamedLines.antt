@@ -9,8 +9,8 @@ use Rattle.ocf_types.specs.Names.{is_agent_type, is_provider, is_rsc_id}
 use Rattle.ocf_types.specs.declared.command.CommandOf.TheVariants as command
 use Rattle.ocf_types.specs.declared.command.Question.{Question}
 use Rattle.ocf_types.specs.declared.command.Question.TheVariants as question
-use Rattle.ocf_types.specs.declared.refusal.Refusal.{Refusal}
-use Rattle.ocf_types.specs.declared.refusal.Refusal.TheVariants.{BadName, BadValue, Syntax, UnknownOp}
+use Rattle.ocf_model.specs.declared.refusal.Refusal.{Refusal}
+use Rattle.ocf_model.specs.declared.refusal.Refusal.TheVariants.{BadName, BadValue, Syntax, UnknownOp}
 use Rattle.exec_commands.specs.declared.key.Key.TheVariants.{Tag}
 use Rattle.exec_commands.specs.declared.refused.About.TheVariants as about
 use Rattle.exec_commands.specs.Blame.{unknown_key}

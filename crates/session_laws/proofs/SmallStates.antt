@@ -8,20 +8,21 @@ use Rattle.std.proofs.lemmas.Bool.{leb-false, ltb-false}
 use Rattle.std.proofs.lemmas.Cmp.{nat_list_eq_equiv}
 use Rattle.std.proofs.lemmas.List.{length-map, map-append}
 use Rattle.std.proofs.lemmas.Map.Keys.{IsDistinct-push}
-use Rattle.ocf_types.specs.Answer.{asked_event, event_of, moment, tests}
+use Rattle.ocf_model.specs.Answer.{asked_event, event_of, moment, tests}
 use Rattle.ocf_types.specs.Encoding.{encoded_event, encoded_params}
 use Rattle.ocf_types.specs.Kinds.{Command, Event, Registration, Step}
-use Rattle.ocf_types.specs.LawfulState.{IsLawfulResource, IsLawfulState}
+use Rattle.ocf_model.specs.LawfulState.{IsLawfulResource, IsLawfulState}
 use Rattle.ocf_types.specs.Layouts.{current}
-use Rattle.ocf_types.specs.LengthLemmas.{failed_short, id_short, length_resource, length_running, length_state, name_short}
+use Rattle.ocf_model.specs.LengthLemmas.{failed_short, length_resource, length_running, length_state}
+use Rattle.ocf_types.specs.LengthLemmas.{id_short, name_short}
 use Rattle.ocf_types.specs.Lemmas.{each_append}
 use Rattle.ocf_types.specs.Limits.{event_limit, longest_resource, longest_state, queue_limit, recurring_limit, running_len}
 use Rattle.ocf_types.specs.Names.{is_name_byte, is_rsc_id}
 use Rattle.ocf_types.specs.Params.{ParamList}
-use Rattle.ocf_types.specs.RegistryLemmas.{distinct_filter, each_filter, found, keys-at_id, none_is, absent_any, passed}
-use Rattle.ocf_types.specs.Resource.{History, Resource, accepted, begun_from, cancelled_of, ended_in, ended_of, forgotten, of_call, queued_of, withdrawn, without_interval}
-use Rattle.ocf_types.specs.State.{Registry, State, after, at_id, registered, resource_at, stepped}
-use Rattle.ocf_types.specs.StateEncoding.{encoded_resource, encoded_running, encoded_state}
+use Rattle.ocf_model.specs.RegistryLemmas.{distinct_filter, each_filter, found, keys-at_id, none_is, absent_any, passed}
+use Rattle.ocf_model.specs.Resource.{History, Resource, accepted, begun_from, cancelled_of, ended_in, ended_of, forgotten, of_call, queued_of, withdrawn, without_interval}
+use Rattle.ocf_model.specs.State.{Registry, State, after, at_id, registered, resource_at, stepped}
+use Rattle.ocf_model.specs.StateEncoding.{encoded_resource, encoded_running, encoded_state}
 use Rattle.ocf_types.specs.declared.command.CommandOf.TheVariants as command
 use Rattle.ocf_types.specs.declared.event.Change.TheVariants as change
 use Rattle.ocf_types.specs.declared.event.Step.TheVariants as step
@@ -29,12 +30,12 @@ use Rattle.ocf_types.specs.declared.operation.Op.{Op}
 use Rattle.ocf_types.specs.declared.operation.Recur.{Recur}
 use Rattle.ocf_types.specs.declared.operation.Running.{Running}
 use Rattle.ocf_types.specs.declared.outcome.Outcome.TheVariants.{Run}
-use Rattle.ocf_types.proofs.AskedLemmas.{fails_at}
-use Rattle.ocf_types.proofs.LawfulParts.{length-last}
-use Rattle.ocf_types.proofs.Lengths.{length-event, length-step, params_shorter}
-use Rattle.ocf_types.proofs.Lists.{filter_shorter}
-use Rattle.ocf_types.proofs.Registries.{ids-at_id, values-at_id}
-use Rattle.ocf_types.proofs.StateLengths.{pieces}
+use Rattle.ocf_model.proofs.AskedLemmas.{fails_at}
+use Rattle.ocf_model.proofs.LawfulParts.{length-last}
+use Rattle.ocf_model.proofs.Lengths.{length-event, length-step, params_shorter}
+use Rattle.ocf_model.proofs.Lists.{filter_shorter}
+use Rattle.ocf_model.proofs.Registries.{ids-at_id, values-at_id}
+use Rattle.ocf_model.proofs.StateLengths.{pieces}
 use Rattle.session_laws.specs.Named.{IsNamed}
 use Rattle.session_laws.specs.Small.{IsRunStep, IsSmall, IsSmallState}
 

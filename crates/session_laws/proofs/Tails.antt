@@ -5,27 +5,28 @@ use Rattle.std.specs.List.{AllByRecursion, flat_map, list_any}
 use Rattle.std.specs.Option.{option_map_or}
 use Rattle.std.proofs.lemmas.Bool.{cases_lt, false≢true, le-leb, lt-ltb, or_left}
 use Rattle.std.proofs.lemmas.List.{length-map}
-use Rattle.ocf_types.specs.Answer.{event_of, first_of, asked_event, moment, reply_to, tests}
+use Rattle.ocf_model.specs.Answer.{event_of, first_of, asked_event, moment, reply_to, tests}
 use Rattle.ocf_types.specs.Encoding.{encoded_event}
-use Rattle.ocf_types.specs.Kinds.{Change, Command, Event, Reply, Request}
+use Rattle.ocf_types.specs.Kinds.{Change, Command, Event, Request}
+use Rattle.ocf_model.specs.Answer.{Reply}
 use Rattle.ocf_types.specs.Lawful.{IsId}
 use Rattle.ocf_types.specs.Lemmas.{and_true, each_append}
 use Rattle.ocf_types.specs.Limits.{event_limit, part_limit, reserve}
-use Rattle.ocf_types.specs.Resource.{Resource}
-use Rattle.ocf_types.specs.State.{State, after_all, resource_at}
+use Rattle.ocf_model.specs.Resource.{Resource}
+use Rattle.ocf_model.specs.State.{State, after_all, resource_at}
 use Rattle.ocf_types.specs.declared.command.CommandOf.TheVariants as command
 use Rattle.ocf_types.specs.declared.command.Question.{Question}
 use Rattle.ocf_types.specs.declared.command.Question.TheVariants as question
 use Rattle.ocf_types.specs.declared.command.RequestOf.TheVariants as asked
 use Rattle.ocf_types.specs.declared.event.Change.TheVariants as change
 use Rattle.ocf_types.specs.declared.event.Step.TheVariants as step
-use Rattle.ocf_types.specs.declared.refusal.Refusal.{Refusal}
-use Rattle.ocf_types.specs.declared.refusal.Refusal.TheVariants.{Closed, Disk, Memory, UnknownResource}
-use Rattle.ocf_types.specs.declared.reply.ReplyOf.TheVariants as reply
-use Rattle.ocf_types.specs.declared.reply.TidyEnd.{TidyEnd}
-use Rattle.ocf_types.specs.declared.reply.TidyEnd.TheVariants as tidy_end
-use Rattle.ocf_types.specs.declared.reply.TurnEnd.TheVariants as turn_end
-use Rattle.ocf_types.proofs.StateLengths.{pieces}
+use Rattle.ocf_model.specs.declared.refusal.Refusal.{Refusal}
+use Rattle.ocf_model.specs.declared.refusal.Refusal.TheVariants.{Closed, Disk, Memory, UnknownResource}
+use Rattle.ocf_model.specs.declared.reply.ReplyOf.TheVariants as reply
+use Rattle.ocf_model.specs.declared.reply.TidyEnd.{TidyEnd}
+use Rattle.ocf_model.specs.declared.reply.TidyEnd.TheVariants as tidy_end
+use Rattle.ocf_model.specs.declared.reply.TurnEnd.TheVariants as turn_end
+use Rattle.ocf_model.proofs.StateLengths.{pieces}
 use Rattle.store_model.specs.Batches.{IsTooLong, are_results, encoded_batch, is_boot_alone, kept_free}
 use Rattle.store_model.specs.Calls.{tail_after}
 use Rattle.store_model.specs.Lemmas.{batch_of_one}

@@ -1,3 +1,4 @@
 pub mod Named
 pub mod Small
 pub mod Numbers
+pub mod SentOver

@@ -5,7 +5,7 @@ use Rattle.ocf_types.specs.Lawful.{IsId}
 use Rattle.ocf_types.specs.Names.{is_agent_type, is_provider}
 use Rattle.ocf_types.specs.declared.command.CommandOf.TheVariants as command
 use Rattle.ocf_types.specs.declared.command.RequestOf.TheVariants as request
-use Rattle.ocf_types.specs.declared.refusal.Refusal.{Refusal}
+use Rattle.ocf_model.specs.declared.refusal.Refusal.{Refusal}
 use Rattle.exec_commands.specs.declared.line.Line.{Line}
 use Rattle.exec_commands.specs.declared.line.Line.TheVariants as line
 

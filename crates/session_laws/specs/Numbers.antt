@@ -1,11 +1,11 @@
 -- What the laws of numbers speak of: a book with room for each turn, and commands and turns that found the journal full.
 use Rattle.std.specs.Prelude.{◌≤◌, ℕ, ◌+◌, ◌*◌, Bool, true, false, length}
 use Rattle.std.specs.List.{list_any}
-use Rattle.ocf_types.specs.Kinds.{Reply}
+use Rattle.ocf_model.specs.Answer.{Reply}
 use Rattle.ocf_types.specs.Limits.{resources_limit}
-use Rattle.ocf_types.specs.declared.refusal.Refusal.TheVariants.{JournalFull}
-use Rattle.ocf_types.specs.declared.reply.ReplyOf.TheVariants.{Refused}
-use Rattle.ocf_types.specs.declared.reply.TurnEnd.TheVariants.{BookFull, Full}
+use Rattle.ocf_model.specs.declared.refusal.Refusal.TheVariants.{JournalFull}
+use Rattle.ocf_model.specs.declared.reply.ReplyOf.TheVariants.{Refused}
+use Rattle.ocf_model.specs.declared.reply.TurnEnd.TheVariants.{BookFull, Full}
 use Rattle.child_model.specs.Children.{ChildrenView}
 use Rattle.session_machine.specs.Events.{Event}
 use Rattle.session_machine.specs.Events as event

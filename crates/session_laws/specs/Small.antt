@@ -7,8 +7,8 @@ use Rattle.ocf_types.specs.Encoding.{encoded_params}
 use Rattle.ocf_types.specs.Kinds.{Step}
 use Rattle.ocf_types.specs.Limits.{ended_kept, event_limit, queue_limit, recurring_limit, resources_limit}
 use Rattle.ocf_types.specs.Names.{is_agent_type, is_provider, is_rsc_id}
-use Rattle.ocf_types.specs.Resource.{Resource}
-use Rattle.ocf_types.specs.State.{State}
+use Rattle.ocf_model.specs.Resource.{Resource}
+use Rattle.ocf_model.specs.State.{State}
 use Rattle.ocf_types.specs.declared.event.Step.TheVariants as step
 
 -- A resource with valid names, and with no more parameters, queued actions, recurring monitors and results than a lawful one.

@@ -1,4 +1,4 @@
-//! Laws of sessions, by numbers.
+//! Laws of sessions.
 #![tactic(auto)]
 
 pub mod laws;

@@ -2,13 +2,14 @@
 use Rattle.std.proofs.Common.{◌≡◌, ℕ, zero, suc, Bool, true, false, List, [], ◌∷◌, ◌++◌, map, length, Result, Ok, Err, inl, inr, refl, sym, subst}
 use Rattle.std.specs.Prelude.{replicate}
 use Rattle.std.specs.List.{AllByRecursion}
-use Rattle.ocf_types.specs.Answer.{event_of}
-use Rattle.ocf_types.specs.Kinds.{Command, Reply, Request}
+use Rattle.ocf_model.specs.Answer.{event_of}
+use Rattle.ocf_types.specs.Kinds.{Command, Request}
+use Rattle.ocf_model.specs.Answer.{Reply}
 use Rattle.ocf_types.specs.declared.command.RequestOf.TheVariants as asked
-use Rattle.ocf_types.specs.declared.refusal.Refusal.{Refusal}
-use Rattle.ocf_types.specs.declared.refusal.Refusal.TheVariants.{Disk}
-use Rattle.ocf_types.specs.declared.reply.ReplyOf.TheVariants.{Refused}
-use Rattle.ocf_types.specs.declared.reply.TurnEnd.{TurnEnd}
+use Rattle.ocf_model.specs.declared.refusal.Refusal.{Refusal}
+use Rattle.ocf_model.specs.declared.refusal.Refusal.TheVariants.{Disk}
+use Rattle.ocf_model.specs.declared.reply.ReplyOf.TheVariants.{Refused}
+use Rattle.ocf_model.specs.declared.reply.TurnEnd.{TurnEnd}
 use Rattle.store_model.specs.StoreView.{StoreView}
 use Rattle.executor.specs.Commands.{ServesOpen, ServesWhile}
 use Rattle.executor.specs.ExecutorView.{ExecutorView}

@@ -2,15 +2,15 @@
 use Rattle.std.proofs.Common.{◌≡◌, ◌⊎◌, inl, inr, ℕ, ◌+◌, ◌==◌, Bool, true, false, cond, List, [], ◌∷◌, ◌++◌, map, length, Option, Some, None, option_map, Contains, refl, sym, ap, subst, ◌∙◌, arith}
 use Rattle.std.specs.List.{cons_option}
 use Rattle.std.proofs.lemmas.List.Elements.{Contains-append_left, Contains-append_right}
-use Rattle.ocf_types.specs.Answer.{moment}
-use Rattle.ocf_types.specs.Due.{Due, IsLeastDue, IsPick, IsPickOf, due_pairs}
-use Rattle.ocf_types.specs.Resource.{Resource, begun_from, of_call, run_of_monitor}
-use Rattle.ocf_types.specs.State.{Registry, State, after_all}
+use Rattle.ocf_model.specs.Answer.{moment}
+use Rattle.ocf_model.specs.Due.{Due, IsLeastDue, IsPick, IsPickOf, due_pairs}
+use Rattle.ocf_model.specs.Resource.{Resource, begun_from, of_call, run_of_monitor}
+use Rattle.ocf_model.specs.State.{Registry, State, after_all}
 use Rattle.ocf_types.specs.declared.operation.Op.{Op}
 use Rattle.ocf_types.specs.declared.operation.Recur.{Recur}
 use Rattle.ocf_types.specs.declared.operation.Running.{Running}
-use Rattle.ocf_types.specs.declared.reply.Notice.{Notice}
-use Rattle.ocf_types.specs.declared.reply.TurnEnd.TheVariants as turn_end
+use Rattle.ocf_types.specs.declared.notice.Notice.{Notice}
+use Rattle.ocf_model.specs.declared.reply.TurnEnd.TheVariants as turn_end
 use Rattle.child_model.specs.Children.{start_answer}
 use Rattle.child_model.specs.declared.answer.Entry.{Entry}
 use Rattle.store_model.specs.StoreView.{StoreView}

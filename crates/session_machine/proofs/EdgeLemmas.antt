@@ -5,7 +5,7 @@ use Rattle.std.proofs.lemmas.List.{append-nil}
 use Rattle.std.specs.Io.KnownBytes.{Consumes}
 use Rattle.std.specs.Prelude.{flat_map}
 use Rattle.ocf_types.specs.Lemmas.{each_append}
-use Rattle.ocf_types.specs.declared.reply.TurnEnd.{TurnEnd}
+use Rattle.ocf_model.specs.declared.reply.TurnEnd.{TurnEnd}
 use Rattle.store_model.specs.StoreView.{StoreView}
 use Rattle.executor.specs.ExecutorView.{ExecutorView}
 use Rattle.exec_lines.specs.Inputs.{InputView}

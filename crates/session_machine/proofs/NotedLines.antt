@@ -2,8 +2,8 @@
 use Rattle.std.proofs.Common.{◌≡◌, ℕ, Bool, true, false, List, [], None, Result, Ok, Err, IsTrue, refl, if◌then◌else◌}
 use Rattle.std.specs.Prelude.{is_ok}
 use Rattle.growth.specs.Refused.{refuses_here}
-use Rattle.ocf_types.specs.declared.refusal.Refusal.{Refusal}
-use Rattle.ocf_types.specs.declared.refusal.Refusal.TheVariants.{Memory}
+use Rattle.ocf_model.specs.declared.refusal.Refusal.{Refusal}
+use Rattle.ocf_model.specs.declared.refusal.Refusal.TheVariants.{Memory}
 use Rattle.store_model.specs.StoreView.{StoreView}
 use Rattle.exec_commands.specs.declared.line.Line.{Line}
 use Rattle.exec_client.specs.ClientView.{ClientView, noting_tag}

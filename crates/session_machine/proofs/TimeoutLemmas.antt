@@ -1,12 +1,12 @@
 -- A turn ends each action whose timeout has passed.
 use Rattle.std.proofs.Common.{◌≡◌, ◌≢◌, ◌⊎◌, inl, inr, ℕ, zero, suc, Bool, true, false, cond, List, [], ◌∷◌, ◌++◌, map, Some, Result, Contains, refl, sym, ap, subst, ◌∙◌, arith}
 use Rattle.std.proofs.lemmas.List.Elements.{Contains-append_left, Contains-append_right}
-use Rattle.ocf_types.specs.Answer.{moment}
-use Rattle.ocf_types.specs.State.{State}
+use Rattle.ocf_model.specs.Answer.{moment}
+use Rattle.ocf_model.specs.State.{State}
 use Rattle.ocf_types.specs.declared.operation.Running.{Running}
-use Rattle.ocf_types.specs.declared.reply.Notice.{Notice}
-use Rattle.ocf_types.specs.declared.reply.TurnEnd.{TurnEnd}
-use Rattle.ocf_types.specs.declared.reply.TurnEnd.TheVariants as turn_end
+use Rattle.ocf_types.specs.declared.notice.Notice.{Notice}
+use Rattle.ocf_model.specs.declared.reply.TurnEnd.{TurnEnd}
+use Rattle.ocf_model.specs.declared.reply.TurnEnd.TheVariants as turn_end
 use Rattle.child_model.specs.Children.{kill_answer, poll_answer}
 use Rattle.child_model.specs.declared.answer.Entry.{Entry}
 use Rattle.child_model.specs.declared.answer.KillFault.{KillFault}

@@ -1,8 +1,8 @@
 -- Monitors that are due.
 use Rattle.std.specs.Prelude.{◌≡◌, ◌≤◌, ℕ, false, List, [], None, Contains, Result}
-use Rattle.ocf_types.specs.Due.{Due, due_pairs}
-use Rattle.ocf_types.specs.Resource.{Resource}
-use Rattle.ocf_types.specs.State.{State}
+use Rattle.ocf_model.specs.Due.{Due, due_pairs}
+use Rattle.ocf_model.specs.Resource.{Resource}
+use Rattle.ocf_model.specs.State.{State}
 use Rattle.ocf_types.specs.declared.outcome.StartFault.{StartFault}
 use Rattle.child_model.specs.Children.{is_held, start_answer}
 use Rattle.child_model.specs.declared.answer.Entry.{Entry}

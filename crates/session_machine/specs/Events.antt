@@ -1,11 +1,11 @@
 -- What happens in a session, one event after the other.
 use Rattle.std.specs.Prelude.{ℕ, Bool, List, Option, Result}
 use Rattle.std.specs.Global.{Vec}
-use Rattle.ocf_types.specs.Kinds.{Reply}
+use Rattle.ocf_model.specs.Answer.{Reply}
 use Rattle.ocf_types.specs.declared.outcome.MetaFault.{MetaFault}
-use Rattle.ocf_types.specs.declared.refusal.Refusal.{Refusal}
-use Rattle.ocf_types.specs.declared.reply.TidyEnd.{TidyEnd}
-use Rattle.ocf_types.specs.declared.reply.TurnEnd.{TurnEnd}
+use Rattle.ocf_model.specs.declared.refusal.Refusal.{Refusal}
+use Rattle.ocf_model.specs.declared.reply.TidyEnd.{TidyEnd}
+use Rattle.ocf_model.specs.declared.reply.TurnEnd.{TurnEnd}
 use Rattle.executor.specs.ExecutorView.{ExecutorView}
 use Rattle.exec_commands.specs.declared.line.Line.{Line}
 use Rattle.exec_lines.specs.declared.line.Piece.{Piece}

@@ -1,10 +1,11 @@
 -- When a session may do what. Each of its calls of the edge requires one of these.
 use Rattle.std.specs.Prelude.{◌≡◌, ◌⊎◌, ⊤, ℕ, ◌*◌, ◌<◌, ◌≤◌, true, false, not, List, [], ◌∷◌, ◌++◌, map, length, Option, Some, None, Result, Ok}
-use Rattle.ocf_types.specs.Boot.{any_busy}
-use Rattle.ocf_types.specs.Kinds.{Command, Reply, Request}
-use Rattle.ocf_types.specs.declared.refusal.Refusal.{Refusal}
-use Rattle.ocf_types.specs.declared.reply.TidyEnd.{TidyEnd}
-use Rattle.ocf_types.specs.declared.reply.TurnEnd.{TurnEnd}
+use Rattle.ocf_model.specs.Boot.{any_busy}
+use Rattle.ocf_types.specs.Kinds.{Command, Request}
+use Rattle.ocf_model.specs.Answer.{Reply}
+use Rattle.ocf_model.specs.declared.refusal.Refusal.{Refusal}
+use Rattle.ocf_model.specs.declared.reply.TidyEnd.{TidyEnd}
+use Rattle.ocf_model.specs.declared.reply.TurnEnd.{TurnEnd}
 use Rattle.store_model.specs.StoreView.{StoreView}
 use Rattle.exec_turn.specs.Actives.{any_running}
 use Rattle.executor.specs.ExecutorView.{ExecutorView}

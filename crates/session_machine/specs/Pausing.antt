@@ -1,7 +1,7 @@
 -- How long a session may wait after a turn that it made by itself, and pause between two turns of a drain or of an orderly end.
 use Rattle.std.specs.Prelude.{◌≡◌, ◌≤◌, ◌⊎◌, ℕ, ◌+◌, ◌-◌, ◌*◌, Bool, true, false, List, Option, Some, All}
 use Rattle.std.specs.List.{list_all}
-use Rattle.ocf_types.specs.Boot.{any_busy}
+use Rattle.ocf_model.specs.Boot.{any_busy}
 use Rattle.child_model.specs.declared.answer.Answer.{Answer}
 use Rattle.child_model.specs.declared.answer.Answer.TheVariants as asked
 use Rattle.child_model.specs.declared.answer.Entry.{Entry}

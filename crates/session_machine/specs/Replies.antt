@@ -1,11 +1,11 @@
 -- What a line is read as, and the replies that need no call of the executor.
 use Rattle.std.specs.Prelude.{◌≡◌, ◌≢◌, ◌⊎◌, ℕ, Bool, List, true, false, IfErr, IsTrue, None, Result, Ok, Err}
 use Rattle.growth.specs.Refused.{refuses_here}
-use Rattle.ocf_types.specs.declared.refusal.Refusal.{Refusal}
-use Rattle.ocf_types.specs.declared.refusal.Refusal.TheVariants as refusal
-use Rattle.ocf_types.specs.declared.reply.ReplyOf.TheVariants.{Refused}
-use Rattle.ocf_types.specs.declared.reply.TidyEnd.TheVariants as tidy_end
-use Rattle.ocf_types.specs.declared.reply.TurnEnd.TheVariants as turn_end
+use Rattle.ocf_model.specs.declared.refusal.Refusal.{Refusal}
+use Rattle.ocf_model.specs.declared.refusal.Refusal.TheVariants as refusal
+use Rattle.ocf_model.specs.declared.reply.ReplyOf.TheVariants.{Refused}
+use Rattle.ocf_model.specs.declared.reply.TidyEnd.TheVariants as tidy_end
+use Rattle.ocf_model.specs.declared.reply.TurnEnd.TheVariants as turn_end
 use Rattle.exec_turn.specs.Actives.{any_running}
 use Rattle.executor.specs.ExecutorView.{ExecutorView}
 use Rattle.exec_commands.specs.Lines.{line_read}

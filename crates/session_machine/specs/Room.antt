@@ -1,13 +1,14 @@
 -- Tidies that a session makes by itself, and the calls of its executor before which it makes them.
 use Rattle.std.specs.Prelude.{◌≡◌, ◌↔◌, ◌≤◌, ℕ, ◌+◌, ◌-◌, ◌*◌, ◌/◌, Bool, true, false, ◌&&◌, ◌||◌, not, min, nat_le, nat_lt, List, length, replicate}
 use Rattle.std.specs.List.{list_any}
-use Rattle.ocf_types.specs.Boot.{any_busy}
-use Rattle.ocf_types.specs.Kinds.{Command, Reply, Request}
+use Rattle.ocf_model.specs.Boot.{any_busy}
+use Rattle.ocf_types.specs.Kinds.{Command, Request}
+use Rattle.ocf_model.specs.Answer.{Reply}
 use Rattle.ocf_types.specs.Limits.{event_limit, part_limit, reserve}
-use Rattle.ocf_types.specs.declared.refusal.Refusal.TheVariants.{Disk}
-use Rattle.ocf_types.specs.declared.reply.ReplyOf.TheVariants.{Refused}
-use Rattle.ocf_types.specs.declared.reply.TidyEnd.{TidyEnd}
-use Rattle.ocf_types.specs.declared.reply.TurnEnd.{TurnEnd}
+use Rattle.ocf_model.specs.declared.refusal.Refusal.TheVariants.{Disk}
+use Rattle.ocf_model.specs.declared.reply.ReplyOf.TheVariants.{Refused}
+use Rattle.ocf_model.specs.declared.reply.TidyEnd.{TidyEnd}
+use Rattle.ocf_model.specs.declared.reply.TurnEnd.{TurnEnd}
 use Rattle.store_model.specs.StoreView.{StoreView}
 use Rattle.store_model.specs.Calls.{tail_after}
 use Rattle.exec_state.specs.StateValue.{all_pairs}

@@ -1,7 +1,7 @@
 //! The edge of a session: all that it asks of its surroundings.
 ghost use Rattle.std.specs.Prelude.{◌≡◌, [], ◌∷◌, Err, IsTrue, None, OnErr, OnOk, Some, is_ok, take};
 ghost use Rattle.ocf_types.specs.Numbers.{IsMoment};
-ghost use Rattle.ocf_types.specs.declared.refusal.Refusal.TheVariants.{Memory};
+ghost use Rattle.ocf_model.specs.declared.refusal.Refusal.TheVariants.{Memory};
 ghost use Rattle.exec_lines.specs.Buffer.{line_bytes};
 ghost use Rattle.exec_lines.specs.Lines.{line_room};
 ghost use Rattle.exec_client.specs.ClientView.{ClientView};
@@ -21,7 +21,8 @@ use exec_commands::{Line, Tag};
 use exec_lines::{LineBuffer, Next};
 use executor::On;
 use growth::{Grows, Refused};
-use ocf_types::{AgentType, MetaFault, Provider, Refusal, Reply, TidyEnd, TurnEnd};
+use ocf_model::{Refusal, Reply, TidyEnd, TurnEnd};
+use ocf_types::{AgentType, MetaFault, Provider};
 use resource_status::RunReason;
 use std::alloc::Global;
 use store_model::Store;

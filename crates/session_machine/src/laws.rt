@@ -3,10 +3,10 @@
 //! They hold of each behaviour of the machine (`Behaves`), and so of all that a session does through an edge.
 ghost use Rattle.std.specs.Prelude.{◌≡◌, ◌≢◌, ◌≤◌, ◌<◌, ◌⊎◌, ℕ, ◌+◌, ◌*◌, List, [], ◌∷◌, length, map, Contains, None, Ok, Some, true};
 ghost use Rattle.std.specs.List.{AllByRecursion};
-ghost use Rattle.ocf_types.specs.Answer.{moment};
-ghost use Rattle.ocf_types.specs.State.{after_all};
-ghost use Rattle.ocf_types.specs.declared.reply.TurnEnd.{TurnEnd};
-ghost use Rattle.ocf_types.specs.declared.reply.TurnEnd.TheVariants.{BookFull, Done};
+ghost use Rattle.ocf_model.specs.Answer.{moment};
+ghost use Rattle.ocf_model.specs.State.{after_all};
+ghost use Rattle.ocf_model.specs.declared.reply.TurnEnd.{TurnEnd};
+ghost use Rattle.ocf_model.specs.declared.reply.TurnEnd.TheVariants.{BookFull, Done};
 ghost use Rattle.exec_ledger.specs.Actives.{Active, active};
 ghost use Rattle.exec_ledger.specs.BatchStarts.{due_after_all};
 ghost use Rattle.exec_turn.specs.Polls.{Polled, is_late, results};

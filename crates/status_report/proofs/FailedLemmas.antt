@@ -3,8 +3,8 @@ use Rattle.std.proofs.Common.{◌≡◌, ℕ, ◌+◌, ◌<◌, ◌++◌, List, 
 use Rattle.std.proofs.lemmas.List.{append-nil, take_more}
 use Rattle.std.proofs.lemmas.Grind.{flat_map-append}
 use Rattle.std.specs.List.{flat_map}
-use Rattle.ocf_types.specs.Indexes.{entry_at, no_entry}
-use Rattle.ocf_types.specs.State.{State}
+use Rattle.ocf_model.specs.Indexes.{entry_at, no_entry}
+use Rattle.ocf_model.specs.State.{State}
 use Rattle.status_report.specs.Failed.{failed_id}
 use Rattle.status_report.specs.declared.options.StatusOptions.{StatusOptions}
 

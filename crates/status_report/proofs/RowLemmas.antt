@@ -1,8 +1,8 @@
 -- The rows of resources, and one more.
 use Rattle.std.proofs.Common.{◌≡◌, ℕ, ◌+◌, ◌<◌, ◌++◌, List, [], ◌∷◌, length, map, take, ap, sym, ◌∙◌}
 use Rattle.std.proofs.lemmas.List.{map_more}
-use Rattle.ocf_types.specs.Indexes.{entry_at, no_entry}
-use Rattle.ocf_types.specs.State.{State}
+use Rattle.ocf_model.specs.Indexes.{entry_at, no_entry}
+use Rattle.ocf_model.specs.State.{State}
 use Rattle.resource_status.specs.declared.condition.Recorded.{Recorded}
 use Rattle.status_report.specs.Rows.{row_of}
 use Rattle.status_report.specs.declared.options.StatusOptions.{StatusOptions}

@@ -3,11 +3,11 @@ use Rattle.std.proofs.Common.{◌≡◌, inl, inr, ℕ, List, [], Result, Ok, Er
 use Rattle.std.specs.List.{flat_map}
 use Rattle.std.specs.Io.KnownBytes.{Appends}
 use Rattle.std.proofs.KnownBytes.{Appends-trans}
-use Rattle.ocf_types.specs.Answer.{reply_to}
-use Rattle.ocf_types.specs.Kinds.{Reply}
-use Rattle.ocf_types.specs.State.{State}
+use Rattle.ocf_model.specs.Answer.{reply_to}
+use Rattle.ocf_model.specs.Answer.{Reply}
+use Rattle.ocf_model.specs.State.{State}
 use Rattle.ocf_types.specs.declared.command.Question.TheVariants as question
-use Rattle.ocf_types.specs.declared.reply.ReplyOf.TheVariants as reply
+use Rattle.ocf_model.specs.declared.reply.ReplyOf.TheVariants as reply
 use Rattle.exec_state.specs.Answers.{IsReplyOrMemory}
 use Rattle.exec_replies.specs.declared.reply.LineReply.TheVariants.{Request}
 use Rattle.exec_replies.specs.Replies.{reply_line}

@@ -3,8 +3,8 @@ use Rattle.std.specs.Prelude.{◌≡◌, ◌⊎◌, ℕ, ◌<◌, ◌&&◌, if�
 use Rattle.std.specs.Borrow.{Bor}
 use Rattle.std.specs.List.{AllByRecursion, Any}
 use Rattle.std.specs.Io.KnownBytes.{Appends}
-use Rattle.ocf_types.specs.Indexes.{id_at}
-use Rattle.ocf_types.specs.State.{State}
+use Rattle.ocf_model.specs.Indexes.{id_at}
+use Rattle.ocf_model.specs.State.{State}
 use Rattle.disk_model.specs.Image.{Image}
 use Rattle.exec_journal.specs.Found.{FoundAs, HasDamage}
 use Rattle.two_parts.specs.declared.damage.Damage.{Damage}

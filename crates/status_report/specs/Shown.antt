@@ -2,8 +2,8 @@
 use Rattle.std.specs.Prelude.{◌≡◌, ℕ, ⊤, List, ◌++◌, map, Option, None, Result, Ok, Err}
 use Rattle.std.specs.Io.KnownBytes.{Appends}
 use Rattle.std.specs.List.{flat_map}
-use Rattle.ocf_types.specs.Answer.{reply_to}
-use Rattle.ocf_types.specs.State.{State}
+use Rattle.ocf_model.specs.Answer.{reply_to}
+use Rattle.ocf_model.specs.State.{State}
 use Rattle.ocf_types.specs.declared.command.Question.{Question}
 use Rattle.ocf_types.specs.declared.command.Question.TheVariants as question
 use Rattle.disk_model.specs.Image.{Image}

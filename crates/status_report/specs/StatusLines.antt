@@ -5,7 +5,7 @@ use Rattle.std.specs.List.{flat_map}
 use Rattle.serde_json.specs.Data.{Data, null, string, boolean}
 use Rattle.serde_json.specs.Written.{compact_text}
 use Rattle.ocf_types.specs.Actions.{action_word}
-use Rattle.ocf_types.specs.State.{State}
+use Rattle.ocf_model.specs.State.{State}
 use Rattle.ocf_types.specs.declared.operation.Running.{Running}
 use Rattle.exec_replies.specs.Objects.{natural_data, object_from}
 use Rattle.resource_status.specs.Conditions.{condition_word}

@@ -9,7 +9,8 @@ use crate::widths::{pad, width_of};
 use exec_state::State;
 use line_text::LineText;
 use ocf_codes::{Code, read_code};
-use ocf_types::{Action, Ended, Outcome, Recur, RunEnd, StateView};
+use ocf_model::StateView;
+use ocf_types::{Action, Ended, Outcome, Recur, RunEnd};
 use resource_status::{Condition, last_run, meaning};
 use std::alloc::Global;
 

@@ -1,6 +1,6 @@
 //! How a status ends: well, or because a resource is not registered or needs attention, or because no executor has the journal.
 ghost use Rattle.std.specs.Prelude.{◌≡◌, ◌<◌, false, length, true, IfNone, IfSome, Some};
-ghost use Rattle.ocf_types.specs.Indexes.{id_at};
+ghost use Rattle.ocf_model.specs.Indexes.{id_at};
 ghost use Rattle.status_report.specs.Endings.{AllRegistered, IsMissed, IsRegistered, end_of};
 ghost use Rattle.status_report.specs.Rows.{is_any_bad};
 
@@ -8,7 +8,7 @@ use crate::options::StatusOptions;
 use crate::rows::Row;
 use exec_faults::Fault;
 use exec_state::State;
-use ocf_types::StateView;
+use ocf_model::StateView;
 
 // The index of the resource with this id.
 fn index_of(state: &State, id: &str) -> Option<usize>

@@ -1,7 +1,7 @@
 //! The resources that have a failed action.
 ghost use Rattle.std.specs.Prelude.{◌≡◌, ◌<◌, ◌++◌, length, IfErr, IfOk, OnOk};
 ghost use Rattle.exec_journal.specs.Opening.{Opens};
-ghost use Rattle.ocf_types.specs.Indexes.{entry_at};
+ghost use Rattle.ocf_model.specs.Indexes.{entry_at};
 ghost use Rattle.exec_faults.specs.Faults.{HasCause};
 ghost use Rattle.status_report.specs.Failed.{AreFailed, failed_id, failed_ids};
 
@@ -11,7 +11,8 @@ use exec_faults::Fault;
 use exec_journal::Journal;
 use exec_state::State;
 use growth::{Grows, Refused, push};
-use ocf_types::{RscId, StateView};
+use ocf_model::StateView;
+use ocf_types::RscId;
 use std::alloc::Global;
 
 // Adds the id of a resource if it is asked for and has a failed action.

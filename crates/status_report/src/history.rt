@@ -1,12 +1,13 @@
 //! The history of a resource: its results, oldest first, with equal results of a recurring monitor as one line.
 ghost use Rattle.std.specs.Prelude.{◌<◌, length};
-ghost use Rattle.ocf_types.specs.Indexes.{at_index};
+ghost use Rattle.ocf_model.specs.Indexes.{at_index};
 
 use crate::options::StatusOptions;
 use crate::phrases::{add_painted, add_result, add_time, age_of};
 use exec_state::State;
 use line_text::LineText;
-use ocf_types::{Ended, Outcome, RunEnd, StateView};
+use ocf_model::StateView;
+use ocf_types::{Ended, Outcome, RunEnd};
 use resource_status::{Tone, meaning, tone_of};
 use std::alloc::Global;
 

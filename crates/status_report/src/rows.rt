@@ -1,12 +1,13 @@
 //! What is shown of each resource.
 ghost use Rattle.std.specs.Prelude.{◌≡◌, ◌<◌, length, IfOk};
-ghost use Rattle.ocf_types.specs.Indexes.{entry_at};
+ghost use Rattle.ocf_model.specs.Indexes.{entry_at};
 ghost use Rattle.status_report.specs.Rows.{is_shown, row_of, rows_of};
 
 use crate::options::StatusOptions;
 use exec_state::State;
 use growth::{Refused, push};
-use ocf_types::{Ended, RscId, Running, StateView};
+use ocf_model::StateView;
+use ocf_types::{Ended, RscId, Running};
 use resource_status::{Condition, RecordedById, Since, condition_by, recorded_of, since_by};
 use std::alloc::Global;
 

@@ -17,7 +17,8 @@ use exec_lines::{IoFault, write_flushed};
 use exec_replies::{LineBuffer, LineReply, NoticeForm, Tagged, write_reply};
 use exec_state::State;
 use growth::Grows;
-use ocf_types::{Question, Refusal, Reply, RscId};
+use ocf_model::{Refusal, Reply};
+use ocf_types::{Question, RscId};
 use std::alloc::Global;
 use std::io::Write;
 

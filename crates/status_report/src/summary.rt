@@ -4,7 +4,8 @@ use crate::phrases::{add_time, age_of, is_ahead};
 use crate::rows::Row;
 use exec_state::State;
 use line_text::LineText;
-use ocf_types::{Moment, StateView};
+use ocf_model::StateView;
+use ocf_types::Moment;
 use resource_status::Condition;
 use std::alloc::Global;
 

@@ -10,7 +10,7 @@ use crate::widths::{add_column, add_fitted, pad, width_of};
 use exec_state::State;
 use growth::{Refused, append, push, vec_of};
 use line_text::LineText;
-use ocf_types::StateView;
+use ocf_model::StateView;
 use std::alloc::Global;
 
 // The columns between two cells of a row.

@@ -5,7 +5,7 @@ use crate::steps::{Reached, register};
 use disk_model::Disk;
 use disk_model::wild::WildDisk;
 use executor::OpenError;
-use ocf_types::Refusal;
+use ocf_model::Refusal;
 use std::alloc::Global;
 
 // Registers on a disk that answers anything. Returns whether a fault of the disk was reported, and how many the disk had.

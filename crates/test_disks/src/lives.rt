@@ -2,9 +2,8 @@
 use crate::steps::{nowhere, registration};
 use disk_model::Fill;
 use executor::{Input, InputOf};
-use ocf_types::{
-    Action, CommandOf, Millis, Outcome, Question, Reply, ReplyOf, RequestOf, RscId, Task, TurnEnd,
-};
+use ocf_model::{Reply, ReplyOf, TurnEnd};
+use ocf_types::{Action, CommandOf, Millis, Outcome, Question, RequestOf, RscId, Task};
 use std::alloc::Global;
 use std::collections::VecDeque;
 use test_incarnations::{Machine, live_twice};

@@ -2,10 +2,8 @@
 use disk_model::Disk;
 use executor::{Executor, OpenError};
 use ocf_env::{Site, Text};
-use ocf_types::{
-    AgentType, CommandOf, Params, Provider, Refusal, Registration, Reply, ReplyOf, Request,
-    RequestOf, RscId,
-};
+use ocf_model::{Refusal, Reply, ReplyOf};
+use ocf_types::{AgentType, CommandOf, Params, Provider, Registration, Request, RequestOf, RscId};
 use std::alloc::Global;
 use std::collections::VecDeque;
 use test_support::{Script, Scripted};

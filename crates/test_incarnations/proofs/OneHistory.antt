@@ -4,20 +4,20 @@ use Rattle.std.specs.Prelude.{Bool, codes, filter, if◌then◌else◌, nat_eq, 
 use Rattle.std.specs.Str.{bytes_eq}
 use Rattle.std.specs.List.{list_any}
 use Rattle.std.specs.Fmt.{digits}
-use Rattle.ocf_types.specs.Answer.{moment}
+use Rattle.ocf_model.specs.Answer.{moment}
 use Rattle.ocf_types.specs.Encoding.{eight_bytes, encoded_event_in}
 use Rattle.ocf_types.specs.Limits.{part_limit, reserve, slot_frame}
-use Rattle.ocf_types.specs.declared.reply.Notice.{Notice}
+use Rattle.ocf_types.specs.declared.notice.Notice.{Notice}
 use Rattle.store_model.specs.Batches.{IsTooLong}
 use Rattle.ocf_types.specs.Kinds.{Event}
-use Rattle.ocf_types.specs.State.{State, after_all, empty}
+use Rattle.ocf_model.specs.State.{State, after_all, empty}
 use Rattle.ocf_types.specs.Actions.{plain, task}
 use Rattle.ocf_types.specs.declared.action.Action.TheVariants.{Start}
 use Rattle.ocf_types.specs.declared.event.Change.TheVariants as change
 use Rattle.ocf_types.specs.declared.event.Step.TheVariants as step
 use Rattle.ocf_types.specs.declared.operation.Running.{Running}
-use Rattle.ocf_types.specs.declared.reply.ReplyOf.TheVariants as reply
-use Rattle.ocf_types.specs.declared.reply.TurnEnd.TheVariants as turn_end
+use Rattle.ocf_model.specs.declared.reply.ReplyOf.TheVariants as reply
+use Rattle.ocf_model.specs.declared.reply.TurnEnd.TheVariants as turn_end
 use Rattle.child_model.specs.declared.answer.Entry.{Entry}
 use Rattle.exec_ledger.specs.Actives.{Active}
 use Rattle.exec_ledger.specs.Lemmas.{asked_one}

@@ -2,19 +2,20 @@
 use Rattle.std.proofs.Common.{◌≡◌, inl, inr, ℕ, true, false, List, [], ◌∷◌, ◌++◌, map, None, Result, Ok, refl, sym, ap, ap₂, subst, ◌∙◌, arith}
 use Rattle.std.specs.Prelude.{codes}
 use Rattle.ocf_types.specs.Actions.{plain, task}
-use Rattle.ocf_types.specs.Answer.{event_of}
+use Rattle.ocf_model.specs.Answer.{event_of}
 use Rattle.ocf_types.specs.Encoding.{eight_bytes, encoded_event_in}
-use Rattle.ocf_types.specs.Kinds.{Command, Event, Reply}
-use Rattle.ocf_types.specs.Resource.{Resource}
-use Rattle.ocf_types.specs.State.{State, after_all, empty}
+use Rattle.ocf_types.specs.Kinds.{Command, Event}
+use Rattle.ocf_model.specs.Answer.{Reply}
+use Rattle.ocf_model.specs.Resource.{Resource}
+use Rattle.ocf_model.specs.State.{State, after_all, empty}
 use Rattle.ocf_types.specs.declared.action.Action.TheVariants.{Start}
 use Rattle.ocf_types.specs.declared.command.CommandOf.TheVariants as command
 use Rattle.ocf_types.specs.declared.outcome.StartFault.{StartFault}
-use Rattle.ocf_types.specs.declared.refusal.Refusal.{Refusal}
-use Rattle.ocf_types.specs.declared.reply.Notice.{Notice}
-use Rattle.ocf_types.specs.declared.reply.ReplyOf.TheVariants as reply
-use Rattle.ocf_types.specs.declared.reply.TurnEnd.{TurnEnd}
-use Rattle.ocf_types.specs.declared.reply.TurnEnd.TheVariants as turn_end
+use Rattle.ocf_model.specs.declared.refusal.Refusal.{Refusal}
+use Rattle.ocf_types.specs.declared.notice.Notice.{Notice}
+use Rattle.ocf_model.specs.declared.reply.ReplyOf.TheVariants as reply
+use Rattle.ocf_model.specs.declared.reply.TurnEnd.{TurnEnd}
+use Rattle.ocf_model.specs.declared.reply.TurnEnd.TheVariants as turn_end
 use Rattle.child_model.specs.Children.{start_answer}
 use Rattle.child_model.specs.declared.answer.Answer.TheVariants as asked
 use Rattle.child_model.specs.declared.answer.Entry.{Entry}
@@ -28,7 +29,8 @@ use Rattle.exec_turn.specs.Polls.{Polled, polls, results}
 use Rattle.exec_turn.specs.Starts.{Started, refusals, refused_end, starts}
 use Rattle.exec_turn.specs.Turn.{IsTurn, Whole}
 use Rattle.executor_laws.specs.Behaves.{Behaves, HasBegins, Remains}
-use Rattle.executor_laws.specs.Incarnations.{Exchange, boots as boots_at}
+use Rattle.executor.specs.Exchanges.{Exchange}
+use Rattle.executor_laws.specs.Incarnations.{boots as boots_at}
 use Rattle.executor_laws.specs.Machine.{HasFailed, Label, Machine, MovesAll, MovesWhile, TakesOne, after_events}
 use Rattle.test_incarnations.specs.OneHistory.{begins, exec, first, label, one_history, queues, register, registers, registration, remaining}
 use Rattle.test_incarnations.specs.OneHistory.{second, started, third, uncalled, web}

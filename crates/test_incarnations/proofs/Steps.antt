@@ -1,9 +1,10 @@
 -- Lemmas: a history grows by one incarnation.
 use Rattle.std.proofs.Common.{◌≡◌, ◌≢◌, ℕ, suc, Bool, List, [], ◌∷◌, ◌++◌, length, map, Option, Some, None, refl, sym, ap, ap₂, subst, ◌∙◌, arith}
 use Rattle.std.proofs.lemmas.List.{append-nil}
-use Rattle.ocf_types.specs.Kinds.{Event, Reply}
-use Rattle.ocf_types.specs.State.{State, after_all, empty}
-use Rattle.ocf_types.specs.declared.reply.Notice.{Notice}
+use Rattle.ocf_types.specs.Kinds.{Event}
+use Rattle.ocf_model.specs.Answer.{Reply}
+use Rattle.ocf_model.specs.State.{State, after_all, empty}
+use Rattle.ocf_types.specs.declared.notice.Notice.{Notice}
 use Rattle.disk_model.specs.Image.{Image}
 use Rattle.disk_model.specs.MemDisk.{IsFresh, IsSame, view_of}
 use Rattle.disk_model.specs.Disk.{Lawful, DiskView}
@@ -13,7 +14,8 @@ use Rattle.exec_journal.specs.Found.{FoundAs, IsFreshPair}
 use Rattle.exec_journal.specs.Journal.{JournalView}
 use Rattle.exec_journal.specs.StoreViews.{store_view}
 use Rattle.executor_laws.specs.Joins.{as_calls}
-use Rattle.executor_laws.specs.Incarnations.{Calls, Exchange, InOpening, Up, AreIncarnations, SurvivingEvents, Lasted, Incarnation}
+use Rattle.executor.specs.Exchanges.{Calls, Exchange}
+use Rattle.executor_laws.specs.Incarnations.{InOpening, Up, AreIncarnations, SurvivingEvents, Lasted, Incarnation}
 use Rattle.executor_laws.specs.OnFiles.{BeginsAs, FilesGoOn, FilesLeave}
 use Rattle.executor.specs.OnStores.{OpensOn}
 use Rattle.executor.specs.Openings.{NotOpened, closed_pair}

@@ -1,14 +1,16 @@
 -- Histories of incarnations of an executor.
 use Rattle.std.specs.Prelude.{◌≡◌, ℕ, Bool, IsTrue, List, [], ◌∷◌, ◌++◌, length, map, Option, Some, None, ⊤}
-use Rattle.ocf_types.specs.Kinds.{Event, Reply}
-use Rattle.ocf_types.specs.State.{after_all, empty}
+use Rattle.ocf_types.specs.Kinds.{Event}
+use Rattle.ocf_model.specs.Answer.{Reply}
+use Rattle.ocf_model.specs.State.{after_all, empty}
 use Rattle.disk_model.specs.Image.{Image}
 use Rattle.disk_model.specs.Disk.{DiskView}
 use Rattle.exec_journal.specs.Found.{FoundAs}
 use Rattle.exec_journal.specs.Journal.{JournalView}
 use Rattle.exec_journal.specs.StoreViews.{store_view}
 use Rattle.store_model.specs.StoreView.{StoreView}
-use Rattle.executor_laws.specs.Incarnations.{Exchange, InOpening, Up, AreIncarnations, Lasted, Incarnation, first_store, last_store}
+use Rattle.executor.specs.Exchanges.{Exchange}
+use Rattle.executor_laws.specs.Incarnations.{InOpening, Up, AreIncarnations, Lasted, Incarnation, first_store, last_store}
 use Rattle.executor_laws.specs.OnFiles.{CrashLeavesFiles, FilesGoOn}
 use Rattle.child_model.specs.Children.{ChildrenView}
 use Rattle.executor.specs.Openings.{NotOpened, closed_pair}

@@ -9,13 +9,13 @@ use Rattle.ocf_types.specs.declared.event.Change.TheVariants as change
 use Rattle.ocf_types.specs.declared.event.Step.TheVariants as step
 use Rattle.ocf_types.specs.declared.expect.Expect.TheVariants.{Success}
 use Rattle.ocf_types.specs.declared.outcome.Outcome.TheVariants.{Interrupted}
-use Rattle.ocf_types.specs.declared.reply.Notice.{Notice}
-use Rattle.ocf_types.specs.declared.reply.ReplyOf.TheVariants as reply
-use Rattle.ocf_types.specs.declared.reply.TurnEnd.TheVariants as turn_end
+use Rattle.ocf_types.specs.declared.notice.Notice.{Notice}
+use Rattle.ocf_model.specs.declared.reply.ReplyOf.TheVariants as reply
+use Rattle.ocf_model.specs.declared.reply.TurnEnd.TheVariants as turn_end
 use Rattle.child_model.specs.Children.{start_answer}
 use Rattle.child_model.specs.declared.answer.Entry.{Entry}
 use Rattle.executor_laws.specs.Behaves.{Opening, Seen, SeenUptime, Serving}
-use Rattle.executor_laws.specs.Incarnations.{Exchange, Took}
+use Rattle.executor.specs.Exchanges.{Exchange, Took}
 use Rattle.executor_laws.specs.Machine.{Label}
 use Rattle.executor.specs.declared.session.InputOf.TheVariants as input
 

@@ -7,7 +7,7 @@ ghost use Rattle.disk_model.specs.Image.{Image};
 ghost use Rattle.disk_model.specs.MemDisk.{view_of};
 ghost use Rattle.child_model.specs.Children.{Admits};
 ghost use Rattle.executor_laws.specs.Joins.{as_calls};
-ghost use Rattle.executor_laws.specs.Incarnations.{Exchange};
+ghost use Rattle.executor.specs.Exchanges.{Exchange};
 ghost use Rattle.test_incarnations.specs.History.{AreAnswered, IsHistory, IsPromised, IsIncarnation, IsRefused, MayRefuse};
 
 pub mod one_history;
@@ -19,7 +19,7 @@ use executor::{Executor, Input, OpenError};
 use executor_laws::laws::{lemma_session_is_calls, lemma_whole_history, promise};
 use growth::Grows;
 use ocf_env::Site;
-use ocf_types::Reply;
+use ocf_model::Reply;
 use std::alloc::Global;
 
 /// A machine: its agent processes, the paths of its agents, the moment at which its executor is opened, in milliseconds since

@@ -1,7 +1,7 @@
 //! The history of the example in docs/STATEMENT.md, which computes.
 ghost use Rattle.std.specs.Prelude.{◌≡◌, [], ◌∷◌, List};
 ghost use Rattle.ocf_types.specs.Kinds.{Event};
-ghost use Rattle.ocf_types.specs.State.{empty};
+ghost use Rattle.ocf_model.specs.State.{empty};
 ghost use Rattle.executor_laws.specs.Behaves.{Behaves};
 ghost use Rattle.executor_laws.specs.Promise.{IsKept};
 ghost use Rattle.test_incarnations.specs.OneHistory.{begins, boots, in_opening, one_history, queues, registers, remaining, unstarted};

@@ -4,6 +4,7 @@
 
 mod clock;
 mod drawn_agents;
+mod live;
 mod metadata;
 mod script;
 mod scripted;

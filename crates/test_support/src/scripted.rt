@@ -5,8 +5,9 @@ ghost use Rattle.child_model.specs.Children.{AllEnded, Ended, after_ends, after_
 ghost use Rattle.child_model.specs.MayStart.{MayStart};
 ghost use Rattle.test_support.specs.Scripts.{head_or, killed_on, next_kill, next_poll, next_start, polled_on, started_on};
 
+use crate::live::LiveRuns;
 use crate::script::Script;
-use child_keeper::{Book, LiveRuns};
+use child_keeper::Book;
 use child_model::{Answer, Children, Entry, KillFault, Poll};
 use growth::{GROWTH_LIMIT, Grows};
 use ocf_env::Launch;

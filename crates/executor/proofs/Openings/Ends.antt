@@ -1,9 +1,9 @@
 -- An opening over a pair of files: that of its journal, and then that of the executor over it.
 use Rattle.std.proofs.Common.{◌≡◌, ◌⊎◌, ◌<◌, ◌≤◌, inl, inr, ⊎_elim, ℕ, Bool, true, false, true≢false, List, refl, sym, ◌∙◌, ap, subst, arith}
 use Rattle.std.proofs.lemmas.Bool.{cases_lt}
-use Rattle.ocf_types.specs.Boot.{any_busy}
-use Rattle.ocf_types.specs.State.{State}
-use Rattle.ocf_types.specs.declared.reply.Notice.{Notice}
+use Rattle.ocf_model.specs.Boot.{any_busy}
+use Rattle.ocf_model.specs.State.{State}
+use Rattle.ocf_types.specs.declared.notice.Notice.{Notice}
 use Rattle.disk_model.specs.Image.{Image}
 use Rattle.disk_model.specs.Lemmas.{passed_on, stayed, supposed}
 use Rattle.disk_model.specs.Disk.{Lawful, Passed, Unwritten, DiskView}

@@ -1,6 +1,6 @@
 -- The crash condition of an opening of a store, and then of that of an executor over it.
 use Rattle.std.proofs.Common.{inl, ℕ, refl}
-use Rattle.ocf_types.specs.State.{State}
+use Rattle.ocf_model.specs.State.{State}
 use Rattle.store_model.specs.Calls.{OpensStore}
 use Rattle.exec_ledger.specs.Boots.{BootsFrom}
 use Rattle.store_model.specs.Crashes.{CrashesTo}

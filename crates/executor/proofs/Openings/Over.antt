@@ -1,10 +1,10 @@
 -- An opening over a store: its boot, and why it is refused.
 use Rattle.std.proofs.Common.{◌≡◌, ◌<◌, ◌≤◌, inl, inr, ℕ, Bool, true, false, true≢false, cond, List, Ok, Err, refl, sym, ◌∙◌, ap, subst, arith}
-use Rattle.ocf_types.specs.Answer.{moment}
-use Rattle.ocf_types.specs.Boot.{any_busy, boot, boot_at}
-use Rattle.ocf_types.specs.Due.{due_at}
-use Rattle.ocf_types.specs.State.{State, after}
-use Rattle.ocf_types.specs.declared.reply.Notice.{Notice}
+use Rattle.ocf_model.specs.Answer.{moment}
+use Rattle.ocf_model.specs.Boot.{any_busy, boot, boot_at}
+use Rattle.ocf_model.specs.Due.{due_at}
+use Rattle.ocf_model.specs.State.{State, after}
+use Rattle.ocf_types.specs.declared.notice.Notice.{Notice}
 use Rattle.two_parts.specs.declared.damage.Damage.{Damage}
 use Rattle.child_model.specs.Children.{Admits, AllEnded, ChildrenView}
 use Rattle.store_model.specs.Calls.{IsSettled}

@@ -1,20 +1,21 @@
 -- Sessions grow by one input at their end, and the crash conditions of their calls join.
 use Rattle.std.proofs.Common.{◌≡◌, ◌↔◌, ℕ, Bool, true, false, true≢false, Result, Ok, Err, List, [], ◌∷◌, ◌++◌, inl, refl, sym, ◌∙◌, ap, subst, append_assoc}
 use Rattle.std.proofs.lemmas.List.{append-nil}
-use Rattle.ocf_types.specs.Kinds.{Event, Reply, Request}
-use Rattle.ocf_types.specs.Lemmas.{after_all-append}
-use Rattle.ocf_types.specs.State.{State, after_all}
-use Rattle.ocf_types.specs.Due.{Due}
-use Rattle.ocf_types.specs.declared.refusal.Refusal.TheVariants.{Disk}
-use Rattle.ocf_types.specs.declared.reply.ReplyOf.TheVariants.{Refused}
-use Rattle.ocf_types.specs.declared.reply.TurnEnd.{TurnEnd}
+use Rattle.ocf_types.specs.Kinds.{Event, Request}
+use Rattle.ocf_model.specs.Answer.{Reply}
+use Rattle.ocf_model.specs.StateLemmas.{after_all-append}
+use Rattle.ocf_model.specs.State.{State, after_all}
+use Rattle.ocf_model.specs.Due.{Due}
+use Rattle.ocf_model.specs.declared.refusal.Refusal.TheVariants.{Disk}
+use Rattle.ocf_model.specs.declared.reply.ReplyOf.TheVariants.{Refused}
+use Rattle.ocf_model.specs.declared.reply.TurnEnd.{TurnEnd}
 use Rattle.child_model.specs.declared.answer.Entry.{Entry}
 use Rattle.exec_ledger.specs.BatchStarts.{due_after_all}
 use Rattle.executor.specs.Sessions.{Input, Session, TakesWhile, request_effects, Leads, TakesInputs, TakesOpen, command_effects}
 use Rattle.executor.specs.ExecutorView.{OnlyLedgerChanges, ExecutorView, due_in, ledger_of, ExecutorInvariant, ExecutorKeeps}
-use Rattle.ocf_types.specs.Answer.{event_of}
+use Rattle.ocf_model.specs.Answer.{event_of}
 use Rattle.ocf_types.specs.declared.command.RequestOf.TheVariants as asked
-use Rattle.ocf_types.specs.declared.refusal.Refusal.{Refusal}
+use Rattle.ocf_model.specs.declared.refusal.Refusal.{Refusal}
 use Rattle.child_model.specs.Children.{ChildrenView}
 use Rattle.exec_ledger.specs.Lemmas.{asked_none, due_after_all-append, joined, settled_leaves, settles}
 use Rattle.exec_ledger.specs.Pieces.{Effects, CrashCondition, Prefix, followed_by, no_effects}

@@ -6,13 +6,13 @@ use Rattle.std.specs.Map.{lookup}
 use Rattle.std.specs.Str.{bytes_eq}
 use Rattle.std.proofs.lemmas.Map.Entries.{lookup-filter-keys}
 use Rattle.std.proofs.lemmas.Slice.Eq.{bytes_eq-Decides}
-use Rattle.ocf_types.specs.Applies.{ChangeApplies, StepApplies}
+use Rattle.ocf_model.specs.Applies.{ChangeApplies, StepApplies}
 use Rattle.ocf_types.specs.Kinds.{Change, Event, Registration, Step}
-use Rattle.ocf_types.specs.LawfulState.{IsAscending}
+use Rattle.ocf_types.specs.Numbers.{IsAscending}
 use Rattle.ocf_types.specs.Lemmas.{each_weaken}
-use Rattle.ocf_types.specs.RegistryLemmas.{found, other_stays}
-use Rattle.ocf_types.specs.Resource.{Resource, booted, is_busy}
-use Rattle.ocf_types.specs.State.{State, after, at_id, changed, on_history, registered, resource_at, runs_drawn, stepped}
+use Rattle.ocf_model.specs.RegistryLemmas.{found, other_stays}
+use Rattle.ocf_model.specs.Resource.{Resource, booted, is_busy}
+use Rattle.ocf_model.specs.State.{State, after, at_id, changed, on_history, registered, resource_at, runs_drawn, stepped}
 use Rattle.ocf_types.specs.declared.event.Change.TheVariants as change
 use Rattle.ocf_types.specs.declared.event.Step.TheVariants as step
 use Rattle.executor_laws.specs.Histories.{Follow, RunsAscend, run_of, runs_begun}

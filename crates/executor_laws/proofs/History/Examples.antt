@@ -2,7 +2,7 @@
 use Rattle.std.proofs.Common.{◌≡◌, ℕ, true, false, List, [], ◌∷◌, filter, length, inl, inr, refl, arith}
 use Rattle.std.specs.Prelude.{codes}
 use Rattle.ocf_types.specs.Kinds.{Event}
-use Rattle.ocf_types.specs.State.{empty}
+use Rattle.ocf_model.specs.State.{empty}
 use Rattle.ocf_types.specs.Actions.{plain, task}
 use Rattle.ocf_types.specs.declared.action.Action.TheVariants.{Start}
 use Rattle.ocf_types.specs.declared.outcome.RunEnd.TheVariants.{Done}

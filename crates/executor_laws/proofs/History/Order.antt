@@ -9,12 +9,12 @@ use Rattle.std.proofs.lemmas.Bool.{false≢true}
 use Rattle.std.proofs.lemmas.Bool.Decides.{Decides-eqb}
 use Rattle.std.proofs.lemmas.List.{map-append}
 use Rattle.std.proofs.lemmas.List.Elements.{filter-append}
-use Rattle.ocf_types.specs.Applies.{IsReady, StepApplies}
+use Rattle.ocf_model.specs.Applies.{IsReady, StepApplies}
 use Rattle.ocf_types.specs.Kinds.{Change, Event, Step}
 use Rattle.ocf_types.specs.Lemmas.{each_append, same_number}
-use Rattle.ocf_types.specs.RegistryLemmas.{keys_filter}
-use Rattle.ocf_types.specs.Resource.{History, Resource, begun_from, booted, is_busy, of_call}
-use Rattle.ocf_types.specs.State.{State, after, changed, on_history, registered, resource_at, stepped}
+use Rattle.ocf_model.specs.RegistryLemmas.{keys_filter}
+use Rattle.ocf_model.specs.Resource.{History, Resource, begun_from, booted, is_busy, of_call}
+use Rattle.ocf_model.specs.State.{State, after, changed, on_history, registered, resource_at, stepped}
 use Rattle.ocf_types.specs.declared.event.Change.TheVariants as change
 use Rattle.ocf_types.specs.declared.event.Step.TheVariants as step
 use Rattle.ocf_types.specs.declared.operation.Op.{Op}

@@ -4,12 +4,12 @@ use Rattle.std.specs.Prelude.{IsSome, IsSomeAnd}
 use Rattle.std.specs.Map.{lookup}
 use Rattle.std.specs.Str.{bytes_eq}
 use Rattle.std.proofs.lemmas.Bool.{false≢true, both_ways}
-use Rattle.ocf_types.specs.Applies.{ChangeApplies, IsReady, StepApplies}
+use Rattle.ocf_model.specs.Applies.{ChangeApplies, IsReady, StepApplies}
 use Rattle.ocf_types.specs.Kinds.{Change, Event, Step}
 use Rattle.ocf_types.specs.Lemmas.{same_number, some_is}
-use Rattle.ocf_types.specs.RegistryLemmas.{call_of, found, same_id}
-use Rattle.ocf_types.specs.Resource.{History, Resource, begun_from, booted, is_busy, of_call}
-use Rattle.ocf_types.specs.State.{State, after, after_all, changed, on_history, registered, resource_at, stepped}
+use Rattle.ocf_model.specs.RegistryLemmas.{call_of, found, same_id}
+use Rattle.ocf_model.specs.Resource.{History, Resource, begun_from, booted, is_busy, of_call}
+use Rattle.ocf_model.specs.State.{State, after, after_all, changed, on_history, registered, resource_at, stepped}
 use Rattle.ocf_types.specs.declared.event.Change.TheVariants as change
 use Rattle.ocf_types.specs.declared.event.Step.TheVariants as step
 use Rattle.ocf_types.specs.declared.operation.Op.{Op}

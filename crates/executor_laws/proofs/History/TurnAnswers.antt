@@ -9,17 +9,17 @@ use Rattle.std.proofs.lemmas.List.{append-nil, map-append}
 use Rattle.std.proofs.lemmas.List.Elements.{filter-append}
 use Rattle.std.proofs.lemmas.Map.Keys.{IsDistinct-head, IsDistinct-tail, IsDistinct-push}
 use Rattle.std.proofs.lemmas.Slice.Eq.{bytes_eq-Decides}
-use Rattle.ocf_types.specs.Applies.{ChangeApplies}
+use Rattle.ocf_model.specs.Applies.{ChangeApplies}
 use Rattle.ocf_types.specs.Kinds.{Change, Event}
-use Rattle.ocf_types.specs.LawfulState.{IsLawfulState, IsLawfulResource, IsLawfulRunning}
+use Rattle.ocf_model.specs.LawfulState.{IsLawfulState, IsLawfulResource, IsLawfulRunning}
 use Rattle.ocf_types.specs.Lemmas.{same_number, some_is}
-use Rattle.ocf_types.specs.RegistryLemmas.{absent_any, distinct_filter, keys-at_id, same_id}
-use Rattle.ocf_types.specs.Resource.{Resource, booted}
-use Rattle.ocf_types.specs.State.{Registry, State, after, after_all, changed, on_history, registered, runs_drawn, stepped}
+use Rattle.ocf_model.specs.RegistryLemmas.{absent_any, distinct_filter, keys-at_id, same_id}
+use Rattle.ocf_model.specs.Resource.{Resource, booted}
+use Rattle.ocf_model.specs.State.{Registry, State, after, after_all, changed, on_history, registered, runs_drawn, stepped}
 use Rattle.ocf_types.specs.declared.event.Change.TheVariants as change
 use Rattle.ocf_types.specs.declared.event.Step.TheVariants as step
 use Rattle.ocf_types.specs.declared.operation.Running.{Running}
-use Rattle.ocf_types.specs.declared.reply.Notice.{Notice}
+use Rattle.ocf_types.specs.declared.notice.Notice.{Notice}
 use Rattle.executor_laws.specs.Histories.{Follow, InterruptedOnce, ends_run, has_end, interruptions, is_of, written_by}
 use Rattle.executor.specs.Interruptions.{interrupted, interrupted_in, interruption}
 use Rattle.executor_laws.proofs.History.Runs.{Ran, begun_so, both_false, follow_after, follow_first, ran, running_at, runs_in, stays}

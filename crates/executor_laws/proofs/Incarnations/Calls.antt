@@ -1,16 +1,17 @@
 -- The crash condition of calls, one after the other.
 use Rattle.std.proofs.Common.{◌≡◌, ℕ, Bool, true, false, List, [], ◌∷◌, refl, sym, ap, subst, ◌∙◌}
 use Rattle.std.proofs.lemmas.Bool.{false≢true}
-use Rattle.ocf_types.specs.Kinds.{Command, Event, Reply}
-use Rattle.ocf_types.specs.State.{after_all}
-use Rattle.ocf_types.specs.declared.reply.TurnEnd.{TurnEnd}
+use Rattle.ocf_types.specs.Kinds.{Command, Event}
+use Rattle.ocf_model.specs.Answer.{Reply}
+use Rattle.ocf_model.specs.State.{after_all}
+use Rattle.ocf_model.specs.declared.reply.TurnEnd.{TurnEnd}
 use Rattle.exec_ledger.specs.Lemmas.{of_closed, of_open}
 use Rattle.exec_ledger.specs.Pieces.{Effects, CrashCondition, followed_by, no_effects, batch_effects}
 use Rattle.executor.specs.CallLemmas.{followed_by_assoc, followed_by_none}
-use Rattle.executor_laws.specs.Incarnations.{Abandoned, Calls, Cleared, Does, Exchange, Finished, Batch, Took, Tidied}
-use Rattle.executor_laws.specs.FinishCalls.{FinishedWhile}
+use Rattle.executor.specs.Exchanges.{Abandoned, Calls, Cleared, Does, Exchange, Finished, Batch, Took, Tidied}
+use Rattle.executor.specs.FinishCalls.{FinishedWhile}
 use Rattle.executor_laws.specs.Machine.{AnswersClosed}
-use Rattle.executor_laws.specs.BatchCalls.{TakesBatch}
+use Rattle.executor.specs.BatchCalls.{TakesBatch}
 use Rattle.executor.specs.ExecutorView.{ExecutorView}
 use Rattle.exec_ledger.specs.LedgerView.{LedgerView}
 use Rattle.executor.proofs.Sessions.Growing.{Onward, leads_open, leads_still, leads_turn, onward, onward_at, onward_joined}

@@ -1,8 +1,8 @@
 -- Histories over a pair of files are histories over a store, whatever is left of which opens.
 use Rattle.std.proofs.Common.{◌≡◌, inl, inr, ℕ, List, [], ◌∷◌, length, Option, Some, refl, sym, ap, subst, arith}
 use Rattle.ocf_types.specs.Kinds.{Event}
-use Rattle.ocf_types.specs.State.{State, after_all, empty}
-use Rattle.ocf_types.specs.declared.reply.Notice.{Notice}
+use Rattle.ocf_model.specs.State.{State, after_all, empty}
+use Rattle.ocf_types.specs.declared.notice.Notice.{Notice}
 use Rattle.disk_model.specs.Image.{Image}
 use Rattle.disk_model.specs.Disk.{Lawful, DiskView}
 use Rattle.child_model.specs.Children.{ChildrenView}

@@ -1,9 +1,9 @@
 -- A history over files begins with a lawful state.
 use Rattle.std.proofs.Common.{List, [], ◌∷◌, flat_map, sym, subst}
-use Rattle.ocf_types.specs.Applies.{Applies, AppliesIn}
+use Rattle.ocf_model.specs.Applies.{Applies, AppliesIn}
 use Rattle.ocf_types.specs.Kinds.{Event}
-use Rattle.ocf_types.specs.LawfulState.{IsLawfulState, IsLawfulStateIn}
-use Rattle.ocf_types.specs.State.{State, after, after_all_in, after_in, empty}
+use Rattle.ocf_model.specs.LawfulState.{IsLawfulState, IsLawfulStateIn}
+use Rattle.ocf_model.specs.State.{State, after, after_all_in, after_in, empty}
 use Rattle.ocf_types.specs.declared.layout.Layout.{Layout}
 use Rattle.ocf_types.specs.declared.layout.Layout.TheVariants.{First, Second}
 use Rattle.disk_model.specs.Image.{Image}

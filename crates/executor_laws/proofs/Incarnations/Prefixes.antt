@@ -6,7 +6,7 @@ use Rattle.std.proofs.lemmas.List.{append-nil}
 use Rattle.std.proofs.lemmas.List.Folds.{list_any-append}
 use Rattle.std.proofs.lemmas.List.Elements.{Contains-append_left, Contains-append_right, Contains-push}
 use Rattle.ocf_types.specs.Kinds.{Event}
-use Rattle.ocf_types.specs.State.{State, after_all}
+use Rattle.ocf_model.specs.State.{State, after_all}
 use Rattle.child_model.specs.Children.{Asked, IsOfStart}
 use Rattle.child_model.specs.declared.answer.Answer.{Answer}
 use Rattle.child_model.specs.declared.answer.Answer.TheVariants as asked

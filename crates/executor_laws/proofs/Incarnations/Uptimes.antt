@@ -2,8 +2,8 @@
 use Rattle.std.proofs.Common.{◌≡◌, inl, inr, ◌≤◌, ℕ, Bool, true, false, List, [], ◌++◌, refl, sym, ap, subst, ◌∙◌, arith, append_assoc}
 use Rattle.std.proofs.lemmas.List.{append-nil}
 use Rattle.ocf_types.specs.Kinds.{Event}
-use Rattle.ocf_types.specs.Lemmas.{after_all-append}
-use Rattle.ocf_types.specs.State.{State, after_all}
+use Rattle.ocf_model.specs.StateLemmas.{after_all-append}
+use Rattle.ocf_model.specs.State.{State, after_all}
 use Rattle.executor_laws.specs.Incarnations.{IsUptime, Uptime, Survives}
 use Rattle.exec_ledger.specs.Pieces.{Effects, followed_by, no_effects}
 use Rattle.executor_laws.proofs.Incarnations.Calls.{calls_closed, calls_more}

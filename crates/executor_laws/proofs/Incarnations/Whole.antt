@@ -1,11 +1,11 @@
 -- The boots of a history over a store, and that whatever it leaves opens.
 use Rattle.std.proofs.Common.{◌≡◌, ℕ, Bool, true, false, List, [], ◌∷◌, ◌++◌, Some, None, refl, sym, ap, ◌∙◌, arith}
 use Rattle.std.specs.Prelude.{if◌then◌else◌, option_to_list}
-use Rattle.ocf_types.specs.Answer.{moment}
-use Rattle.ocf_types.specs.Boot.{any_busy, boot_at}
+use Rattle.ocf_model.specs.Answer.{moment}
+use Rattle.ocf_model.specs.Boot.{any_busy, boot_at}
 use Rattle.ocf_types.specs.Kinds.{Event}
-use Rattle.ocf_types.specs.Lemmas.{after_all-append}
-use Rattle.ocf_types.specs.State.{State, after, after_all}
+use Rattle.ocf_model.specs.StateLemmas.{after_all-append}
+use Rattle.ocf_model.specs.State.{State, after, after_all}
 use Rattle.exec_ledger.specs.Boots.{booted}
 use Rattle.store_model.specs.StoreView.{Lawful, StoreView}
 use Rattle.executor_laws.specs.Incarnations.{AreIncarnations, GoesOnFrom, InOpening, Incarnation, IncarnationsOpen, Up, boots}

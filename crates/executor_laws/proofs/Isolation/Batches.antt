@@ -6,21 +6,22 @@ use Rattle.std.specs.Str.{bytes_eq}
 use Rattle.std.specs.Prelude.{⊤}
 use Rattle.std.proofs.lemmas.List.Elements.{filter-append}
 use Rattle.std.proofs.lemmas.Slice.Eq.{bytes_eq-Decides}
-use Rattle.ocf_types.specs.Answer.{event_of}
-use Rattle.ocf_types.specs.Kinds.{Change, Command, Event, Reply}
+use Rattle.ocf_model.specs.Answer.{event_of}
+use Rattle.ocf_types.specs.Kinds.{Change, Command, Event}
+use Rattle.ocf_model.specs.Answer.{Reply}
 use Rattle.ocf_types.specs.Lemmas.{each_append, each_weaken}
-use Rattle.ocf_types.specs.State.{State, after_all, named, resource_at}
+use Rattle.ocf_model.specs.State.{State, after_all, named, resource_at}
 use Rattle.ocf_types.specs.declared.command.RequestOf.TheVariants as asked
 use Rattle.ocf_types.specs.declared.event.Change.TheVariants as change
 use Rattle.ocf_types.specs.declared.event.Step.TheVariants as step
-use Rattle.ocf_types.specs.declared.refusal.Refusal.{Refusal}
-use Rattle.ocf_types.specs.declared.refusal.Refusal.TheVariants.{Disk}
-use Rattle.ocf_types.specs.declared.reply.ReplyOf.TheVariants.{Refused}
+use Rattle.ocf_model.specs.declared.refusal.Refusal.{Refusal}
+use Rattle.ocf_model.specs.declared.refusal.Refusal.TheVariants.{Disk}
+use Rattle.ocf_model.specs.declared.reply.ReplyOf.TheVariants.{Refused}
 use Rattle.child_model.specs.declared.answer.Entry.{Entry}
 use Rattle.exec_ledger.specs.Pieces.{Effects, batch_effects}
 use Rattle.exec_ledger.specs.Replies.{KeepsRunning, acknowledged}
 use Rattle.exec_ledger.specs.Together.{Answered, disk_each, failed, is_no_refusal}
-use Rattle.executor_laws.specs.Incarnations.{Exchange, Batch, Took}
+use Rattle.executor.specs.Exchanges.{Exchange, Batch, Took}
 use Rattle.executor_laws.specs.Projections.{IsAnswered, IsPlain, commanded, events_of, projection_of}
 use Rattle.executor_laws.specs.Isolated.{Alone, Follows, Isolated, IsolatedCommand, IsolatedTakes, cut, isolated_after_all}
 use Rattle.executor.specs.declared.session.InputOf.TheVariants as input
@@ -30,7 +31,7 @@ use Rattle.executor_laws.proofs.Isolation.Replies.{isolated_command}
 use Rattle.executor_laws.proofs.Isolation.Requests.{AllKeep, Commands, Does, Seen, added, seen_after}
 use Rattle.executor_laws.proofs.Isolation.CommandBatches.{names_it}
 use Rattle.executor_laws.proofs.Isolation.Turns.{AllBeginOwn, BeginsOwn, fresh-append}
-use Rattle.ocf_types.specs.Lemmas.{after_all-append}
+use Rattle.ocf_model.specs.StateLemmas.{after_all-append}
 
 -- the machine takes a call that concerns it; one that does not leaves no event of it and no entry
 abbrev pub IsStep : Bool → List ℕ → Isolated → Exchange → List Entry → List Event → Type 0

@@ -3,12 +3,13 @@ use Rattle.std.proofs.Common.{◌≡◌, ℕ, ◌≤◌, Bool, true, false, cond
 use Rattle.std.specs.List.{AllByRecursion}
 use Rattle.std.proofs.lemmas.List.{append-nil}
 use Rattle.std.proofs.lemmas.List.Elements.{filter-append}
-use Rattle.ocf_types.specs.Due.{Due}
-use Rattle.ocf_types.specs.Kinds.{Command, Event, Reply, Request}
-use Rattle.ocf_types.specs.State.{State, after_all}
+use Rattle.ocf_model.specs.Due.{Due}
+use Rattle.ocf_types.specs.Kinds.{Command, Event, Request}
+use Rattle.ocf_model.specs.Answer.{Reply}
+use Rattle.ocf_model.specs.State.{State, after_all}
 use Rattle.ocf_types.specs.declared.command.RequestOf.TheVariants as asked
-use Rattle.ocf_types.specs.declared.reply.TurnEnd.{TurnEnd}
-use Rattle.ocf_types.specs.declared.reply.TurnEnd.TheVariants as turn_end
+use Rattle.ocf_model.specs.declared.reply.TurnEnd.{TurnEnd}
+use Rattle.ocf_model.specs.declared.reply.TurnEnd.TheVariants as turn_end
 use Rattle.child_model.specs.Children.{is_held}
 use Rattle.child_model.specs.declared.answer.Entry.{Entry}
 use Rattle.exec_ledger.specs.Actives.{active}
@@ -16,9 +17,9 @@ use Rattle.exec_ledger.specs.Lemmas.{same_entries, same_events}
 use Rattle.exec_ledger.specs.Pieces.{Effects, no_effects, batch_effects}
 use Rattle.exec_ledger.specs.Together.{Answered, batch_replies}
 use Rattle.executor_laws.specs.Joins.{SameIsolated, as_calls}
-use Rattle.executor_laws.specs.FinishCalls.{FinishedWhile}
-use Rattle.executor_laws.specs.Incarnations.{Abandoned, Calls, Cleared, Exchange, Finished, Batch, Tidied, Took}
-use Rattle.executor_laws.specs.Incarnations.{Does as Called}
+use Rattle.executor.specs.FinishCalls.{FinishedWhile}
+use Rattle.executor.specs.Exchanges.{Abandoned, Calls, Cleared, Exchange, Finished, Batch, Tidied, Took}
+use Rattle.executor.specs.Exchanges.{Does as Called}
 use Rattle.executor_laws.specs.Projections.{AreRising, DistinctKeys, IsAnswered, IsFree, IsFreeSession, IsPlain, WasFree, entries_of_runs, events_of, is_about, moment_in, own_runs, part, projection_of}
 use Rattle.executor.specs.Sessions.{Input, Session, TakesWhile}
 use Rattle.executor.specs.ExecutorView.{ExecutorView, due_in}

@@ -8,13 +8,13 @@ use Rattle.std.proofs.lemmas.Bool.{both_ways}
 use Rattle.std.proofs.lemmas.List.Elements.{filter-append}
 use Rattle.std.proofs.lemmas.Slice.Eq.{bytes_eq-Decides}
 use Rattle.std.proofs.lemmas.Map.Entries.{lookup-filter-keys}
-use Rattle.ocf_types.specs.Due.{Due, due_after, or_else, sets, step_sets}
+use Rattle.ocf_model.specs.Due.{Due, due_after, or_else, sets, step_sets}
 use Rattle.ocf_types.specs.Kinds.{Change, Event, Step}
-use Rattle.ocf_types.specs.Resource.{Resource, of_call}
-use Rattle.ocf_types.specs.State.{State, after, after_all, at_id, calls_drawn, changed, named, registered, resource_at, runs_drawn, stepped}
+use Rattle.ocf_model.specs.Resource.{Resource, of_call}
+use Rattle.ocf_model.specs.State.{State, after, after_all, at_id, calls_drawn, changed, named, registered, resource_at, runs_drawn, stepped}
 use Rattle.ocf_types.specs.declared.event.Change.TheVariants as change
 use Rattle.ocf_types.specs.declared.event.Step.TheVariants as step
-use Rattle.ocf_types.specs.RegistryLemmas.{other_id, other_stays, same_id}
+use Rattle.ocf_model.specs.RegistryLemmas.{other_id, other_stays, same_id}
 use Rattle.exec_ledger.specs.BatchStarts.{due_after_all}
 use Rattle.executor_laws.specs.Projections.{events_of}
 use Rattle.executor_laws.specs.Isolated.{Isolated, above_call, above_run, has_monitor, isolated_after, isolated_after_all, isolated_changed, isolated_sets}

@@ -4,10 +4,10 @@ use Rattle.std.specs.Prelude.{codes}
 use Rattle.ocf_types.specs.declared.command.CommandOf.TheVariants as command
 use Rattle.ocf_types.specs.declared.command.Question.TheVariants as question
 use Rattle.ocf_types.specs.declared.command.RequestOf.TheVariants as asked
-use Rattle.ocf_types.specs.declared.reply.ReplyOf.TheVariants as reply
-use Rattle.ocf_types.specs.declared.reply.TidyEnd.TheVariants as tidy
-use Rattle.ocf_types.specs.declared.reply.TurnEnd.TheVariants.{Closed, Done}
-use Rattle.executor_laws.specs.Incarnations.{Exchange, Finished, Batch, Tidied, Took}
+use Rattle.ocf_model.specs.declared.reply.ReplyOf.TheVariants as reply
+use Rattle.ocf_model.specs.declared.reply.TidyEnd.TheVariants as tidy
+use Rattle.ocf_model.specs.declared.reply.TurnEnd.TheVariants.{Closed, Done}
+use Rattle.executor.specs.Exchanges.{Exchange, Finished, Batch, Tidied, Took}
 use Rattle.executor_laws.specs.Projections.{AreRising, IsAnswered, part}
 use Rattle.executor.specs.declared.session.InputOf.TheVariants as input
 use Rattle.executor_laws.proofs.History.Examples.{r1}

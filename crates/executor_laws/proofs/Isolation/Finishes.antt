@@ -1,11 +1,11 @@
 -- A turn that begins nothing, and ended done: the machine of one resource makes its part.
 use Rattle.std.proofs.Common.{◌≡◌, ℕ, ◌≤◌, Bool, List, filter, le_refl, subst, sym}
 use Rattle.std.specs.List.{AllByRecursion}
-use Rattle.ocf_types.specs.Answer.{moment}
-use Rattle.ocf_types.specs.declared.reply.TurnEnd.{TurnEnd}
-use Rattle.ocf_types.specs.declared.reply.TurnEnd.TheVariants.{Done}
+use Rattle.ocf_model.specs.Answer.{moment}
+use Rattle.ocf_model.specs.declared.reply.TurnEnd.{TurnEnd}
+use Rattle.ocf_model.specs.declared.reply.TurnEnd.TheVariants.{Done}
 use Rattle.ocf_types.specs.Kinds.{Event}
-use Rattle.ocf_types.specs.State.{State, after_all}
+use Rattle.ocf_model.specs.State.{State, after_all}
 use Rattle.child_model.specs.declared.answer.Entry.{Entry}
 use Rattle.exec_ledger.specs.Actives.{active}
 use Rattle.exec_ledger.specs.Lemmas.{same_entries, same_events}

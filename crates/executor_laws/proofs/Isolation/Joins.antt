@@ -1,14 +1,14 @@
 -- Parts of calls join to one behaviour of the machine of one resource.
 use Rattle.std.proofs.Common.{◌≡◌, ◌⊎◌, inl, inr, ℕ, ◌≤◌, true, List, [], ◌∷◌, ◌++◌, Option, Some, refl, sym, ap, subst, ◌∙◌, append_assoc, le_refl, le_trans}
-use Rattle.ocf_types.specs.Due.{IsPick}
+use Rattle.ocf_model.specs.Due.{IsPick}
 use Rattle.ocf_types.specs.Kinds.{Change, Event}
-use Rattle.ocf_types.specs.Resource.{Resource}
+use Rattle.ocf_model.specs.Resource.{Resource}
 use Rattle.ocf_types.specs.declared.command.RequestOf.TheVariants as asked
 use Rattle.ocf_types.specs.declared.event.Change.TheVariants as change
 use Rattle.ocf_types.specs.declared.event.Step.TheVariants as step
 use Rattle.child_model.specs.declared.answer.Entry.{Entry}
 use Rattle.executor_laws.specs.Joins.{SameIsolated}
-use Rattle.executor_laws.specs.Incarnations.{Abandoned, Cleared, Exchange, Finished, Batch, Tidied, Took}
+use Rattle.executor.specs.Exchanges.{Abandoned, Cleared, Exchange, Finished, Batch, Tidied, Took}
 use Rattle.executor_laws.specs.Isolated.{Alone, Isolated, IsolatedBegin, IsolatedRest, IsolatedTakes, above_call, above_run, cut, has_monitor, isolated_after, isolated_after_all, isolated_answer, isolated_changed, isolated_sets}
 use Rattle.executor.specs.declared.session.InputOf.TheVariants as input
 use Rattle.executor_laws.proofs.Isolation.Changes.{monitor_before, or_else_alike, single-append}

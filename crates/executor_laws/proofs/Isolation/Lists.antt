@@ -5,7 +5,7 @@ use Rattle.std.proofs.lemmas.Bool.{eq-eqb}
 use Rattle.std.proofs.lemmas.Cmp.{nat_eq_equiv}
 use Rattle.std.proofs.lemmas.List.Elements.{filter-append}
 use Rattle.std.proofs.lemmas.Map.Keys.{IsDistinct-head, IsDistinct-tail}
-use Rattle.ocf_types.specs.RegistryLemmas.{keys_filter}
+use Rattle.ocf_model.specs.RegistryLemmas.{keys_filter}
 use Rattle.ocf_types.specs.Lemmas.{each_append}
 
 module _ {A : Type 0} where

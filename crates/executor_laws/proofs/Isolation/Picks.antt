@@ -8,11 +8,11 @@ use Rattle.std.proofs.lemmas.List.{append-nil}
 use Rattle.std.proofs.lemmas.List.Elements.{All-contains, All-from_recursion, filter-append}
 use Rattle.std.proofs.lemmas.Map.Keys.{IsDistinct-head, IsDistinct-tail}
 use Rattle.std.proofs.lemmas.Slice.Eq.{bytes_eq-Decides}
-use Rattle.ocf_types.specs.RegistryLemmas.{call_of}
-use Rattle.ocf_types.specs.Due.{Due, IsLeastDue, IsPick, IsPickOf, due_pairs}
+use Rattle.ocf_model.specs.RegistryLemmas.{call_of}
+use Rattle.ocf_model.specs.Due.{Due, IsLeastDue, IsPick, IsPickOf, due_pairs}
 use Rattle.ocf_types.specs.Kinds.{Event}
-use Rattle.ocf_types.specs.Resource.{Resource, begun_from, of_call, run_of_monitor, run_of_op}
-use Rattle.ocf_types.specs.State.{Registry, State, after}
+use Rattle.ocf_model.specs.Resource.{Resource, begun_from, of_call, run_of_monitor, run_of_op}
+use Rattle.ocf_model.specs.State.{Registry, State, after}
 use Rattle.ocf_types.specs.declared.operation.Op.{Op}
 use Rattle.ocf_types.specs.declared.operation.Recur.{Recur}
 use Rattle.ocf_types.specs.declared.operation.Running.{Running}

@@ -1,18 +1,19 @@
 -- The replies of the machine of one resource to requests that are about it.
 use Rattle.std.proofs.Common.{◌≡◌, ◌⊎◌, ℕ, ◌≤◌, Bool, true, false, List, [], ◌∷◌, ◌++◌, length, Option, Result, Err, refl, sym, ap, subst, ◌∙◌, inl, inr, ⊎_elim}
 use Rattle.std.proofs.lemmas.Slice.Eq.{bytes_eq-Decides}
-use Rattle.ocf_types.specs.Answer.{asked_event, change_of, event_of, first_of, reply_to, tests}
-use Rattle.ocf_types.specs.Kinds.{Command, Event, Reply}
-use Rattle.ocf_types.specs.Resource.{Resource}
+use Rattle.ocf_model.specs.Answer.{asked_event, change_of, event_of, first_of, reply_to, tests}
+use Rattle.ocf_types.specs.Kinds.{Command, Event}
+use Rattle.ocf_model.specs.Answer.{Reply}
+use Rattle.ocf_model.specs.Resource.{Resource}
 use Rattle.ocf_types.specs.Encoding.{encoded_event}
-use Rattle.ocf_types.specs.State.{State, resource_at}
+use Rattle.ocf_model.specs.State.{State, resource_at}
 use Rattle.ocf_types.specs.declared.command.CommandOf.TheVariants as command
 use Rattle.ocf_types.specs.declared.command.Question.{Question}
 use Rattle.ocf_types.specs.declared.command.Question.TheVariants as question
 use Rattle.ocf_types.specs.declared.command.RequestOf.TheVariants as asked
-use Rattle.ocf_types.specs.declared.refusal.Refusal.{Refusal}
-use Rattle.ocf_types.specs.declared.refusal.Refusal.TheVariants as refusal
-use Rattle.ocf_types.specs.declared.reply.ReplyOf.TheVariants as reply
+use Rattle.ocf_model.specs.declared.refusal.Refusal.{Refusal}
+use Rattle.ocf_model.specs.declared.refusal.Refusal.TheVariants as refusal
+use Rattle.ocf_model.specs.declared.reply.ReplyOf.TheVariants as reply
 use Rattle.exec_state.specs.Answers.{IsReplyOrMemory}
 use Rattle.executor_laws.specs.Projections.{IsPlain, commanded, is_about}
 use Rattle.executor_laws.specs.Isolated.{Follows, Isolated, IsolatedCommand, cut, isolated_answer, isolated_event, isolated_tests}

@@ -10,15 +10,15 @@ use Rattle.std.proofs.lemmas.Map.Keys.{IsDistinct-cons, IsDistinct-head, IsDisti
 use Rattle.std.proofs.lemmas.Simd.{map-map}
 use Rattle.std.proofs.lemmas.Slice.Eq.{bytes_eq-Decides}
 use Rattle.ocf_types.specs.Kinds.{Change, Event, Step}
-use Rattle.ocf_types.specs.LawfulState.{IsLawfulResource, IsLawfulRunning, IsLawfulState}
-use Rattle.ocf_types.specs.Resource.{Resource, begun_from, of_call}
-use Rattle.ocf_types.specs.State.{State, after, after_all, changed, registered, runs_drawn, stepped}
+use Rattle.ocf_model.specs.LawfulState.{IsLawfulResource, IsLawfulRunning, IsLawfulState}
+use Rattle.ocf_model.specs.Resource.{Resource, begun_from, of_call}
+use Rattle.ocf_model.specs.State.{State, after, after_all, changed, registered, runs_drawn, stepped}
 use Rattle.ocf_types.specs.declared.event.Change.TheVariants as change
 use Rattle.ocf_types.specs.declared.event.Step.TheVariants as step
 use Rattle.ocf_types.specs.declared.operation.Op.{Op}
 use Rattle.ocf_types.specs.declared.operation.Recur.{Recur}
 use Rattle.ocf_types.specs.declared.operation.Running.{Running}
-use Rattle.ocf_types.specs.RegistryLemmas.{each_filter}
+use Rattle.ocf_model.specs.RegistryLemmas.{each_filter}
 use Rattle.ocf_types.specs.Lemmas.{distinct_none, each_append, each_weaken}
 use Rattle.exec_ledger.specs.Actives.{Active, active, active_in, runs_of, active_of}
 use Rattle.exec_turn.specs.AgentsLive.{AgentsLive}

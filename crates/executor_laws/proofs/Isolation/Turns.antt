@@ -8,17 +8,18 @@ use Rattle.std.proofs.lemmas.Cmp.{nat_list_eq_equiv}
 use Rattle.std.proofs.lemmas.List.{map-append}
 use Rattle.std.proofs.lemmas.List.Elements.{filter-append}
 use Rattle.std.proofs.lemmas.Map.Keys.{IsDistinct-push}
-use Rattle.ocf_types.specs.Answer.{moment}
-use Rattle.ocf_types.specs.Due.{Due}
-use Rattle.ocf_types.specs.Kinds.{Change, Event, Reply}
-use Rattle.ocf_types.specs.Resource.{Resource}
-use Rattle.ocf_types.specs.State.{State, after, after_all, changed, registered, resource_at, stepped}
+use Rattle.ocf_model.specs.Answer.{moment}
+use Rattle.ocf_model.specs.Due.{Due}
+use Rattle.ocf_types.specs.Kinds.{Change, Event}
+use Rattle.ocf_model.specs.Answer.{Reply}
+use Rattle.ocf_model.specs.Resource.{Resource}
+use Rattle.ocf_model.specs.State.{State, after, after_all, changed, registered, resource_at, stepped}
 use Rattle.ocf_types.specs.declared.event.Change.TheVariants as change
 use Rattle.ocf_types.specs.declared.event.Step.TheVariants as step
-use Rattle.ocf_types.specs.declared.reply.ReplyOf.TheVariants as reply
-use Rattle.ocf_types.specs.declared.reply.TurnEnd.{TurnEnd}
-use Rattle.ocf_types.specs.declared.reply.TurnEnd.TheVariants.{Done}
-use Rattle.ocf_types.specs.RegistryLemmas.{absent_any, distinct_filter, each_filter, keys-at_id}
+use Rattle.ocf_model.specs.declared.reply.ReplyOf.TheVariants as reply
+use Rattle.ocf_model.specs.declared.reply.TurnEnd.{TurnEnd}
+use Rattle.ocf_model.specs.declared.reply.TurnEnd.TheVariants.{Done}
+use Rattle.ocf_model.specs.RegistryLemmas.{absent_any, distinct_filter, each_filter, keys-at_id}
 use Rattle.ocf_types.specs.Lemmas.{each_append, each_weaken}
 use Rattle.child_model.specs.Children.{is_held}
 use Rattle.child_model.specs.declared.answer.Entry.{Entry}

@@ -2,28 +2,29 @@
 use Rattle.std.proofs.Common.{◌≡◌, ◌⊎◌, inl, inr, ℕ, Bool, true, false, List, [], ◌∷◌, ◌++◌, length, flat_map, Result, Ok, Err, refl, sym, ap, subst, ◌∙◌}
 use Rattle.std.proofs.lemmas.Bool.{false≢true}
 use Rattle.std.proofs.lemmas.List.{append-nil, length-append}
-use Rattle.ocf_types.specs.Answer.{event_of, moment}
-use Rattle.ocf_types.specs.Kinds.{Change, Command, Event, Reply}
-use Rattle.ocf_types.specs.State.{State, after_all}
+use Rattle.ocf_model.specs.Answer.{event_of, moment}
+use Rattle.ocf_types.specs.Kinds.{Change, Command, Event}
+use Rattle.ocf_model.specs.Answer.{Reply}
+use Rattle.ocf_model.specs.State.{State, after_all}
 use Rattle.ocf_types.specs.declared.command.RequestOf.TheVariants as asked
 use Rattle.ocf_types.specs.declared.event.Change.TheVariants as change
 use Rattle.ocf_types.specs.declared.event.Step.TheVariants as step
-use Rattle.ocf_types.specs.declared.refusal.Refusal.{Refusal}
-use Rattle.ocf_types.specs.declared.refusal.Refusal.TheVariants.{Disk, JournalFull, Memory}
-use Rattle.ocf_types.specs.declared.reply.ReplyOf.TheVariants.{Refused}
-use Rattle.ocf_types.specs.declared.reply.TidyEnd.{TidyEnd}
-use Rattle.ocf_types.specs.declared.reply.TurnEnd.{TurnEnd}
-use Rattle.ocf_types.specs.declared.reply.TidyEnd.TheVariants as tidy
+use Rattle.ocf_model.specs.declared.refusal.Refusal.{Refusal}
+use Rattle.ocf_model.specs.declared.refusal.Refusal.TheVariants.{Disk, JournalFull, Memory}
+use Rattle.ocf_model.specs.declared.reply.ReplyOf.TheVariants.{Refused}
+use Rattle.ocf_model.specs.declared.reply.TidyEnd.{TidyEnd}
+use Rattle.ocf_model.specs.declared.reply.TurnEnd.{TurnEnd}
+use Rattle.ocf_model.specs.declared.reply.TidyEnd.TheVariants as tidy
 use Rattle.child_model.specs.Children.{ChildrenView}
 use Rattle.child_model.specs.declared.answer.Entry.{Entry}
 use Rattle.exec_turn.specs.Turn.{IsFinish, IsTurn, TurnKind}
 use Rattle.exec_ledger.specs.Commands.{Obeys, Records}
-use Rattle.executor_laws.specs.Incarnations.{Abandoned, Calls, Cleared, Does, Exchange, Finished, Batch, Tidied, Took}
+use Rattle.executor.specs.Exchanges.{Abandoned, Calls, Cleared, Does, Exchange, Finished, Batch, Tidied, Took}
 use Rattle.executor_laws.specs.Machine.{GoesOn, Label, Machine, MovesAll, MovesOpen, MovesTurn, MovesWhile, TakesAll, TakesOne, TidyEnds}
 use Rattle.exec_ledger.specs.Replies.{acknowledged, pending, recorded}
 use Rattle.exec_ledger.specs.Together.{Adds, Answered, failed, batch_replies}
-use Rattle.executor_laws.specs.FinishCalls.{FinishedWhile}
-use Rattle.executor_laws.specs.BatchCalls.{TakesBatch}
+use Rattle.executor.specs.FinishCalls.{FinishedWhile}
+use Rattle.executor.specs.BatchCalls.{TakesBatch}
 use Rattle.exec_ledger.specs.Lemmas.{of_open, same_entries}
 use Rattle.exec_ledger.specs.Pieces.{Effects, no_effects, batch_effects}
 use Rattle.exec_ledger.specs.BatchStarts.{due_after_all}

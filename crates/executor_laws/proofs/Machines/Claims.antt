@@ -5,17 +5,18 @@ use Rattle.std.specs.List.{list_any}
 use Rattle.std.proofs.lemmas.Bool.{or_left, or_right}
 use Rattle.std.proofs.lemmas.List.{append-nil, map-append}
 use Rattle.std.proofs.lemmas.List.Folds.{list_any-append}
-use Rattle.ocf_types.specs.Answer.{event_of, moment}
-use Rattle.ocf_types.specs.Kinds.{Command, Event, Reply}
-use Rattle.ocf_types.specs.LawfulState.{IsLawfulState}
-use Rattle.ocf_types.specs.State.{State, after, after_all}
+use Rattle.ocf_model.specs.Answer.{event_of, moment}
+use Rattle.ocf_types.specs.Kinds.{Command, Event}
+use Rattle.ocf_model.specs.Answer.{Reply}
+use Rattle.ocf_model.specs.LawfulState.{IsLawfulState}
+use Rattle.ocf_model.specs.State.{State, after, after_all}
 use Rattle.ocf_types.specs.declared.command.RequestOf.TheVariants as asked
 use Rattle.ocf_types.specs.declared.outcome.RunEnd.{RunEnd}
-use Rattle.ocf_types.specs.declared.refusal.Refusal.{Refusal}
-use Rattle.ocf_types.specs.declared.reply.Notice.{Notice}
-use Rattle.ocf_types.specs.declared.reply.ReplyOf.TheVariants as reply
-use Rattle.ocf_types.specs.declared.reply.TurnEnd.{TurnEnd}
-use Rattle.ocf_types.specs.declared.reply.TurnEnd.TheVariants as turn_end
+use Rattle.ocf_model.specs.declared.refusal.Refusal.{Refusal}
+use Rattle.ocf_types.specs.declared.notice.Notice.{Notice}
+use Rattle.ocf_model.specs.declared.reply.ReplyOf.TheVariants as reply
+use Rattle.ocf_model.specs.declared.reply.TurnEnd.{TurnEnd}
+use Rattle.ocf_model.specs.declared.reply.TurnEnd.TheVariants as turn_end
 use Rattle.exec_ledger.specs.Actives.{Active}
 use Rattle.exec_ledger.specs.Boots.{booted}
 use Rattle.exec_ledger.specs.Pieces.{Effects, HasBegin, is_begin}
@@ -28,7 +29,8 @@ use Rattle.exec_turn.specs.Polls.{Polled, ends_of, result_notices, results}
 use Rattle.exec_turn.specs.Starts.{refusal_notices, refusals, refused_end}
 use Rattle.exec_ledger.specs.Lemmas.{same_events}
 use Rattle.exec_turn.specs.Turn.{IsFinish, IsTurn, Whole}
-use Rattle.executor_laws.specs.Incarnations.{Exchange, Finished, Batch, Took, boots}
+use Rattle.executor.specs.Exchanges.{Exchange, Finished, Batch, Took}
+use Rattle.executor_laws.specs.Incarnations.{boots}
 use Rattle.executor_laws.specs.Machine.{AnswersClosed, Label, Machine, MovesAll, MovesOpen, MovesWhile, TakesAll, TakesOne}
 use Rattle.executor_laws.specs.Promise.{Acknowledged, AllBegun, AllRecorded, Claim, Ended, IsKept, acknowledged_in, acknowledgements, claimed, claims_of}
 use Rattle.executor_laws.specs.Behaves.{HasBegins, Opening, Remains, Behaves, Seen, SeenUptime, Serving, opened_on}

@@ -1,18 +1,18 @@
 -- Steps that the machine refuses, and claims of which nothing is recorded.
 use Rattle.std.proofs.Common.{◌≡◌, inl, inr, ℕ, ◌+◌, ◌<◌, true, false, List, [], ◌∷◌, ◌++◌, length, map, None, Ok, refl, sym, ap, subst, ◌∙◌, arith}
 use Rattle.std.specs.List.{AllByRecursion}
-use Rattle.ocf_types.specs.Answer.{asked_event, moment, tests}
-use Rattle.ocf_types.specs.Due.{Due, IsPick}
+use Rattle.ocf_model.specs.Answer.{asked_event, moment, tests}
+use Rattle.ocf_model.specs.Due.{Due, IsPick}
 use Rattle.ocf_types.specs.Kinds.{Event}
-use Rattle.ocf_types.specs.RegistryLemmas.{passed}
+use Rattle.ocf_model.specs.RegistryLemmas.{passed}
 use Rattle.ocf_types.specs.Encoding.{encoded_event}
-use Rattle.ocf_types.specs.State.{Registry, State, after_all, empty}
+use Rattle.ocf_model.specs.State.{Registry, State, after_all, empty}
 use Rattle.ocf_types.specs.declared.command.CommandOf.TheVariants as command
 use Rattle.ocf_types.specs.declared.event.Change.TheVariants as change
-use Rattle.ocf_types.specs.declared.reply.Notice.{Notice}
-use Rattle.ocf_types.specs.declared.reply.ReplyOf.TheVariants as reply
-use Rattle.ocf_types.specs.declared.reply.TurnEnd.{TurnEnd}
-use Rattle.ocf_types.specs.declared.reply.TurnEnd.TheVariants as turn_end
+use Rattle.ocf_types.specs.declared.notice.Notice.{Notice}
+use Rattle.ocf_model.specs.declared.reply.ReplyOf.TheVariants as reply
+use Rattle.ocf_model.specs.declared.reply.TurnEnd.{TurnEnd}
+use Rattle.ocf_model.specs.declared.reply.TurnEnd.TheVariants as turn_end
 use Rattle.child_model.specs.Children.{is_held, start_answer}
 use Rattle.child_model.specs.declared.answer.Entry.{Entry}
 use Rattle.child_model.specs.declared.answer.Poll.{Poll}
@@ -25,7 +25,7 @@ use Rattle.exec_turn.specs.Starts.{Started, refusal_notices, refusals, starts}
 use Rattle.exec_ledger.specs.Lemmas.{of_open, same_entries, same_events}
 use Rattle.exec_ledger.specs.Pieces.{Effects}
 use Rattle.exec_turn.specs.Turn.{IsTurn, Whole}
-use Rattle.executor_laws.specs.Incarnations.{Took}
+use Rattle.executor.specs.Exchanges.{Took}
 use Rattle.executor_laws.specs.Machine.{Label, Machine, MovesWhile, cleared}
 use Rattle.executor_laws.specs.Promise.{Acknowledged, AllRecorded}
 use Rattle.executor_laws.specs.Behaves.{HasBegins, SeenUptime}

@@ -7,16 +7,17 @@ use Rattle.std.specs.Str.{bytes_eq}
 use Rattle.std.proofs.lemmas.Bool.{eqb-false, leb-false}
 use Rattle.std.proofs.lemmas.Map.Keys.{IsDistinct-cons, IsDistinct-head, IsDistinct-tail}
 use Rattle.std.proofs.lemmas.Slice.Eq.{bytes_eq-Decides}
-use Rattle.ocf_types.specs.Answer.{asked_event, event_of, tests}
-use Rattle.ocf_types.specs.Applies.{ChangeApplies, IsReady, StepApplies}
-use Rattle.ocf_types.specs.Due.{Due, IsPick, IsPickOf, due_pairs}
+use Rattle.ocf_model.specs.Answer.{asked_event, event_of, tests}
+use Rattle.ocf_model.specs.Applies.{ChangeApplies, IsReady, StepApplies}
+use Rattle.ocf_model.specs.Due.{Due, IsPick, IsPickOf, due_pairs}
 use Rattle.ocf_types.specs.Kinds.{Change, Command, Event}
 use Rattle.ocf_types.specs.Lemmas.{distinct_none, each_append, each_weaken}
 use Rattle.ocf_types.specs.Limits.{num_max}
-use Rattle.ocf_types.specs.RegistryLemmas.{found, none_is, other_stays, other_way, passed, same_id}
-use Rattle.ocf_types.specs.Resource.{Resource, is_busy, of_interval, queued_of}
+use Rattle.ocf_model.specs.RegistryLemmas.{found, none_is, other_stays, passed, same_id}
+use Rattle.ocf_types.specs.Lemmas.{other_way}
+use Rattle.ocf_model.specs.Resource.{Resource, is_busy, of_interval, queued_of}
 use Rattle.ocf_types.specs.Encoding.{encoded_event}
-use Rattle.ocf_types.specs.State.{Registry, State, after, after_all, calls_drawn, named, resource_at, stepped}
+use Rattle.ocf_model.specs.State.{Registry, State, after, after_all, calls_drawn, named, resource_at, stepped}
 use Rattle.ocf_types.specs.declared.command.CommandOf.TheVariants as command
 use Rattle.ocf_types.specs.declared.event.Change.TheVariants as change
 use Rattle.ocf_types.specs.declared.event.Step.TheVariants as step

@@ -3,13 +3,13 @@ use Rattle.std.proofs.Common.{◌≡◌, inl, inr, ℕ, Bool, true, false, List,
 use Rattle.std.specs.Prelude.{if◌then◌else◌}
 use Rattle.std.specs.List.{list_any}
 use Rattle.std.proofs.lemmas.List.{append-nil}
-use Rattle.ocf_types.specs.Answer.{moment}
-use Rattle.ocf_types.specs.Boot.{any_busy, boot_at}
+use Rattle.ocf_model.specs.Answer.{moment}
+use Rattle.ocf_model.specs.Boot.{any_busy, boot_at}
 use Rattle.ocf_types.specs.Kinds.{Event}
-use Rattle.ocf_types.specs.Resource.{is_busy}
-use Rattle.ocf_types.specs.State.{Registry, State, after_all}
+use Rattle.ocf_model.specs.Resource.{is_busy}
+use Rattle.ocf_model.specs.State.{Registry, State, after_all}
 use Rattle.ocf_types.specs.declared.operation.Running.{Running}
-use Rattle.ocf_types.specs.declared.reply.Notice.{Notice}
+use Rattle.ocf_types.specs.declared.notice.Notice.{Notice}
 use Rattle.executor_laws.specs.Histories.{IsWithin, interruptions}
 use Rattle.executor_laws.specs.Incarnations.{boots}
 use Rattle.executor.specs.Interruptions.{interrupted, interrupted_in, interruption}

@@ -7,22 +7,23 @@ use Rattle.std.specs.Str.{bytes_eq}
 use Rattle.std.proofs.lemmas.Bool.{false≢true}
 use Rattle.std.proofs.lemmas.List.{append-nil}
 use Rattle.std.proofs.lemmas.Simd.{map-map}
-use Rattle.ocf_types.specs.Answer.{event_of, moment}
-use Rattle.ocf_types.specs.Boot.{any_busy, boot_at}
-use Rattle.ocf_types.specs.Kinds.{Command, Event, Reply}
-use Rattle.ocf_types.specs.Lemmas.{after_all-append}
-use Rattle.ocf_types.specs.LawfulState.{IsLawfulState}
+use Rattle.ocf_model.specs.Answer.{event_of, moment}
+use Rattle.ocf_model.specs.Boot.{any_busy, boot_at}
+use Rattle.ocf_types.specs.Kinds.{Command, Event}
+use Rattle.ocf_model.specs.Answer.{Reply}
+use Rattle.ocf_model.specs.StateLemmas.{after_all-append}
+use Rattle.ocf_model.specs.LawfulState.{IsLawfulState}
 use Rattle.ocf_types.specs.Limits.{num_max}
-use Rattle.ocf_types.specs.State.{State, after_all}
+use Rattle.ocf_model.specs.State.{State, after_all}
 use Rattle.ocf_types.specs.declared.command.RequestOf.TheVariants as asked
 use Rattle.ocf_types.specs.declared.outcome.RunEnd.{RunEnd}
 use Rattle.ocf_types.specs.declared.outcome.StartFault.{StartFault}
-use Rattle.ocf_types.specs.declared.refusal.Refusal.{Refusal}
-use Rattle.ocf_types.specs.declared.reply.TidyEnd.{TidyEnd}
-use Rattle.ocf_types.specs.declared.reply.TidyEnd.TheVariants as tidy
-use Rattle.ocf_types.specs.declared.reply.TurnEnd.{TurnEnd}
-use Rattle.ocf_types.specs.declared.reply.TurnEnd.TheVariants as turn_end
-use Rattle.ocf_types.specs.declared.reply.Notice.{Notice}
+use Rattle.ocf_model.specs.declared.refusal.Refusal.{Refusal}
+use Rattle.ocf_model.specs.declared.reply.TidyEnd.{TidyEnd}
+use Rattle.ocf_model.specs.declared.reply.TidyEnd.TheVariants as tidy
+use Rattle.ocf_model.specs.declared.reply.TurnEnd.{TurnEnd}
+use Rattle.ocf_model.specs.declared.reply.TurnEnd.TheVariants as turn_end
+use Rattle.ocf_types.specs.declared.notice.Notice.{Notice}
 use Rattle.exec_ledger.specs.Actives.{Active, active}
 use Rattle.exec_ledger.specs.BatchStarts.{BatchStart, following, batch_start}
 use Rattle.exec_turn.specs.Picks.{ArePicks, begins}
@@ -32,7 +33,8 @@ use Rattle.exec_ledger.specs.Lemmas.{same_events, same_pending}
 use Rattle.exec_ledger.specs.Pieces.{Effects, followed_by, no_effects, batch_effects}
 use Rattle.exec_turn.specs.Turn.{EachPolled, IsFinish, IsTurn, PickedAt, TurnAnswers, TurnKind, Whole}
 use Rattle.executor_laws.specs.Histories.{Follow, IsInOrder}
-use Rattle.executor_laws.specs.Incarnations.{Abandoned, Cleared, Exchange, Finished, Batch, Tidied, Took, boots}
+use Rattle.executor.specs.Exchanges.{Abandoned, Cleared, Exchange, Finished, Batch, Tidied, Took}
+use Rattle.executor_laws.specs.Incarnations.{boots}
 use Rattle.executor_laws.specs.Machine.{GoesOn, Label, Machine, MovesAll, MovesOpen, MovesTurn, MovesWhile, TakesAll, TidyEnds}
 use Rattle.executor_laws.specs.Behaves.{Opening, Behaves, Seen, Serving, RemainOf, opened_on}
 use Rattle.exec_ledger.specs.Boots.{booted}

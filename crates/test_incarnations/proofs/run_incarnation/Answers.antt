@@ -1,7 +1,7 @@
 use Rattle.std.proofs.Common.{◌≡◌, ◌++◌, [], List, length, ap, subst, sym, ◌∙◌}
-use Rattle.ocf_types.specs.Kinds.{Reply}
+use Rattle.ocf_model.specs.Answer.{Reply}
 use Rattle.executor_laws.specs.Joins.{as_calls}
-use Rattle.executor_laws.specs.Incarnations.{Exchange}
+use Rattle.executor.specs.Exchanges.{Exchange}
 use Rattle.test_incarnations.specs.History.{IsIncarnation}
 use Rattle.exec_journal.specs.StoreViews.{store_view}
 use Rattle.test_incarnations.proofs.Steps.{all_answered, not_opened, served, unanswered}

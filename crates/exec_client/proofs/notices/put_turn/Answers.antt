@@ -1,6 +1,6 @@
 use Rattle.std.proofs.Common.{refl, ap, ◌∙◌}
 use Rattle.exec_replies.proofs.PrefixLemmas.{on_err}
-use Rattle.ocf_types.specs.declared.reply.Notice.{Notice}
+use Rattle.ocf_types.specs.declared.notice.Notice.{Notice}
 use Rattle.exec_client.specs.Tags.{after_notice}
 use Rattle.exec_client.proofs.Along.{along_none}
 use Rattle.exec_client.proofs.Lines.{appends_same, prefix_same, notices_all, notices_more, notices_part, signaled_line}

@@ -1,5 +1,5 @@
 use Rattle.std.proofs.Common.{rules, ◌<◌, ◌++◌, length, ap, ◌∙◌}
-use Rattle.ocf_types.specs.Indexes.{entry_at}
+use Rattle.ocf_model.specs.Indexes.{entry_at}
 use Rattle.exec_metrics.specs.Metrics.{measure_of, samples}
 use Rattle.exec_metrics.proofs.TextLemmas.{entry_more}
 use Rattle.exec_metrics.proofs.families.add_resources.Goals as goal

@@ -1,5 +1,5 @@
 use Rattle.std.proofs.Common.{rules, ◌≡◌, ◌++◌, ap, ap₂, sym, ◌∙◌}
-use Rattle.ocf_types.specs.Indexes.{entry_at}
+use Rattle.ocf_model.specs.Indexes.{entry_at}
 use Rattle.resource_status.specs.Conditions.{condition_by}
 use Rattle.exec_metrics.specs.Metrics.{measure_of, samples}
 use Rattle.exec_metrics.specs.Samples.{state_samples}

@@ -1,5 +1,5 @@
 use Rattle.std.proofs.Common.{◌≡◌, ◌++◌, ap, ap₂, ◌∙◌}
-use Rattle.ocf_types.specs.Indexes.{at_index, id_at}
+use Rattle.ocf_model.specs.Indexes.{at_index, id_at}
 use Rattle.resource_status.proofs.ResultLemmas.{lines_more}
 use Rattle.exec_metrics.specs.Samples.{age, age_of_monitor, monitor_age}
 use Rattle.exec_metrics.proofs.monitors.add_ages.Goals as goal

@@ -1,6 +1,6 @@
 use Rattle.std.proofs.Common.{◌≡◌, ◌++◌, take}
 use Rattle.std.specs.List.{flat_map}
-use Rattle.ocf_types.specs.Indexes.{at_index, id_at}
+use Rattle.ocf_model.specs.Indexes.{at_index, id_at}
 use Rattle.exec_metrics.specs.Samples.{code_of_monitor}
 use Rattle.exec_metrics.proofs.monitors.add_codes.Given as goal
 

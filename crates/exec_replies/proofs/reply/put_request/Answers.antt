@@ -1,5 +1,5 @@
 use Rattle.std.proofs.Common.{◌≡◌, ◌++◌, OnOk, subst, sym}
-use Rattle.ocf_types.specs.Kinds.{Reply}
+use Rattle.ocf_model.specs.Answer.{Reply}
 use Rattle.exec_replies.specs.Replies.{request_data}
 use Rattle.exec_replies.specs.Tags.{marked_tokens}
 use Rattle.exec_replies.proofs.reply.put_request.Goals as goal

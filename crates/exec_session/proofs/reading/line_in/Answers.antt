@@ -1,5 +1,5 @@
 use Rattle.std.proofs.Common.{List, ℕ, subst, sym, ◌∙◌}
-use Rattle.ocf_types.specs.declared.refusal.Refusal.TheVariants.{Syntax}
+use Rattle.ocf_model.specs.declared.refusal.Refusal.TheVariants.{Syntax}
 use Rattle.exec_lines.specs.Buffer.{line_bytes}
 use Rattle.session_machine.specs.Replies.{HasTagOf, IsReadAs}
 use Rattle.exec_session.proofs.ReadLemmas.{long_or_end, no_tag, read_whole, tag_whole}

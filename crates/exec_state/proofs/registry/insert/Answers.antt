@@ -5,7 +5,7 @@ use Rattle.std.specs.Map.{lookup}
 use Rattle.std.specs.Str.{bytes_eq}
 use Rattle.indexmap.proofs.CallerLemmas.{insert_entry-new}
 use Rattle.exec_state.specs.Seen.{seen, seen_all, monitors_of, monitors_all}
-use Rattle.ocf_types.specs.State.{at_id}
+use Rattle.ocf_model.specs.State.{at_id}
 use Rattle.recurring.specs.DueIndex.{Dues}
 use Rattle.recurring.specs.Monitors.{pairs}
 use Rattle.exec_state.proofs.Choices.{none_before}

@@ -2,7 +2,7 @@ use Rattle.std.proofs.Common.{rules, ◌≡◌, ℕ, ◌<◌, ◌≤◌, ◌+◌
 use Rattle.std.specs.List.{AllByRecursion}
 use Rattle.ocf_types.specs.Kinds.{Event}
 use Rattle.ocf_types.specs.Limits.{num_max}
-use Rattle.ocf_types.specs.Indexes.{id_at}
+use Rattle.ocf_model.specs.Indexes.{id_at}
 use Rattle.child_model.specs.Children.{is_held}
 use Rattle.store_model.specs.Batches.{encoded_batch}
 use Rattle.exec_state.specs.StateValue.{dues}

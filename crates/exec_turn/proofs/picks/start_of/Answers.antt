@@ -1,4 +1,4 @@
-use Rattle.ocf_types.specs.Indexes.{at_index}
+use Rattle.ocf_model.specs.Indexes.{at_index}
 use Rattle.exec_turn.proofs.Choosing.{found_by}
 use Rattle.exec_turn.proofs.PickSteps.{invoked}
 use Rattle.exec_turn.proofs.picks.start_of.Goals as goal

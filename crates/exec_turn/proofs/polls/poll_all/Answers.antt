@@ -1,7 +1,7 @@
 use Rattle.std.proofs.Common.{rules, ◌≡◌, ◌+◌, ◌<◌, ◌++◌, nat_eq, length, take, drop, arith, length-append, ◌∙◌, ap, subst, List}
 use Rattle.std.specs.List.{IsDistinct, flat_map}
 use Rattle.std.proofs.lemmas.List.{map-append}
-use Rattle.ocf_types.specs.Indexes.{entry_at}
+use Rattle.ocf_model.specs.Indexes.{entry_at}
 use Rattle.exec_ledger.specs.Actives.{Active, active_in, runs_of}
 use Rattle.exec_turn.proofs.Polling.{Live, active_more, active_rest, others_distinct, others_live, polls_more, room_kept}
 use Rattle.exec_turn.proofs.Results.{each_first}

@@ -1,8 +1,8 @@
 use Rattle.std.proofs.Common.{◌≡◌, ◌∙◌, ℕ, List, [], ◌∷◌, ◌++◌, sym, ap, subst, append-nil, Some, None}
-use Rattle.ocf_types.specs.Notices.{run_notice}
-use Rattle.ocf_types.specs.Indexes.{entry_at}
+use Rattle.ocf_model.specs.Notices.{run_notice}
+use Rattle.ocf_model.specs.Indexes.{entry_at}
 use Rattle.ocf_types.specs.declared.outcome.Outcome.TheVariants.{Run}
-use Rattle.ocf_types.specs.declared.reply.Notice.{Notice}
+use Rattle.ocf_types.specs.declared.notice.Notice.{Notice}
 use Rattle.exec_ledger.specs.Actives.{Active}
 use Rattle.exec_turn.specs.Actives.{notice_of, result_of}
 use Rattle.exec_turn.proofs.Polling.{polled_none, polled_one}

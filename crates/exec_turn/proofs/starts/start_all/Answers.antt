@@ -1,6 +1,6 @@
 use Rattle.std.proofs.Common.{◌≡◌, ◌+◌, ◌++◌, ◌∙◌, List, [], ◌∷◌, Option, take, drop, length, map, refl, sym, ap, subst, arith, append_assoc}
 use Rattle.std.proofs.lemmas.List.{append-nil, drop_more, map-append, take_more}
-use Rattle.ocf_types.specs.declared.reply.Notice.{Notice}
+use Rattle.ocf_types.specs.declared.notice.Notice.{Notice}
 use Rattle.child_model.specs.Children.{ChildrenView}
 use Rattle.ocf_env.specs.Locations.{Call, SiteView}
 use Rattle.child_model.specs.MayStart.{IsLaunch}

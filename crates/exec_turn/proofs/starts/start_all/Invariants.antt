@@ -1,6 +1,6 @@
 use Rattle.std.proofs.Common.{◌≡◌, ◌≤◌, ◌+◌, ◌++◌, [], List, take, drop, length, vec_len}
 use Rattle.std.specs.Vec.{vec_capacity}
-use Rattle.ocf_types.specs.declared.reply.Notice.{Notice}
+use Rattle.ocf_types.specs.declared.notice.Notice.{Notice}
 use Rattle.child_model.specs.Children.{live_limit}
 use Rattle.exec_turn.specs.Launches.{actions_of_starts}
 use Rattle.exec_turn.specs.Starts.{Rising, Starts}

@@ -1,6 +1,6 @@
 use Rattle.std.proofs.Common.{ℕ, List, ap, ◌∙◌}
-use Rattle.ocf_types.specs.Notices.{drop_notice}
-use Rattle.ocf_types.specs.Indexes.{entry_at}
+use Rattle.ocf_model.specs.Notices.{drop_notice}
+use Rattle.ocf_model.specs.Indexes.{entry_at}
 use Rattle.executor.proofs.Openings.Reporting.{drop_more}
 use Rattle.executor.proofs.report.push_dropped.Goals as goal
 

@@ -1,6 +1,6 @@
 use Rattle.std.proofs.Common.{◌≡◌, ◌++◌, map, take}
-use Rattle.ocf_types.specs.Indexes.{entry_at}
-use Rattle.ocf_types.specs.Notices.{drop_notice}
+use Rattle.ocf_model.specs.Indexes.{entry_at}
+use Rattle.ocf_model.specs.Notices.{drop_notice}
 use Rattle.executor.proofs.report.push_dropped.Given as goal
 
 abbrev pub invariant-loop-i : goal.invariant-loop-i

@@ -1,4 +1,4 @@
-use Rattle.executor_laws.specs.BatchLemmas.{commands_called}
+use Rattle.executor.specs.CommandExchangeLemmas.{commands_called}
 use Rattle.executor_laws.proofs.laws.lemma_commands_are_calls.Goals as goal
 
 pub returns : goal.returns

@@ -1,5 +1,5 @@
 use Rattle.std.proofs.Common.{rules, ◌≡◌, ◌<◌, length, true, false, sym}
-use Rattle.ocf_types.specs.Indexes.{entry_at}
+use Rattle.ocf_model.specs.Indexes.{entry_at}
 use Rattle.journal_directory.proofs.WaitLemmas.{none_more, one_runs, runs}
 use Rattle.journal_directory.proofs.waits.is_run_in.Goals as goal
 

@@ -1,4 +1,4 @@
-use Rattle.ocf_types.specs.Indexes.{at_index}
+use Rattle.ocf_model.specs.Indexes.{at_index}
 use Rattle.resource_status.proofs.ConditionLemmas.{known_more}
 use Rattle.resource_status.proofs.condition.known_of.Goals as goal
 

@@ -1,5 +1,5 @@
 use Rattle.std.proofs.Common.{◌≡◌, take}
-use Rattle.ocf_types.specs.Indexes.{at_index}
+use Rattle.ocf_model.specs.Indexes.{at_index}
 use Rattle.resource_status.specs.Conditions.{known_of}
 use Rattle.resource_status.proofs.condition.known_of.Given as goal
 

@@ -1,6 +1,6 @@
 use Rattle.std.proofs.Common.{◌++◌, List, OnOk, sym, subst, ◌∙◌}
 use Rattle.ocf_types.specs.Expected.{has_failed}
-use Rattle.ocf_types.specs.Indexes.{entry_at}
+use Rattle.ocf_model.specs.Indexes.{entry_at}
 use Rattle.resource_status.specs.Counts.{Tallies}
 use Rattle.resource_status.specs.Runs.{Ran}
 use Rattle.resource_status.proofs.RunLemmas.{ended_one}

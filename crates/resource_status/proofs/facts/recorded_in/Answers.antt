@@ -1,7 +1,7 @@
 use Rattle.std.proofs.Common.{rules, ◌≡◌, ℕ, ◌<◌, ◌≤◌, ◌++◌, ◌∷◌, [], List, length, map, take, ap, sym, subst, ◌∙◌}
 use Rattle.std.proofs.lemmas.List.{map_more, take_all}
-use Rattle.ocf_types.specs.Indexes.{entry_at, no_entry}
-use Rattle.ocf_types.specs.Resource.{Resource}
+use Rattle.ocf_model.specs.Indexes.{entry_at, no_entry}
+use Rattle.ocf_model.specs.Resource.{Resource}
 use Rattle.resource_status.specs.Conditions.{held_in}
 use Rattle.resource_status.specs.Facts.{FactOf, IsRecordOf, fact_of, recorded_at}
 use Rattle.resource_status.specs.declared.condition.Recorded.{Recorded}

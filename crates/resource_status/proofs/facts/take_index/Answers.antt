@@ -1,5 +1,5 @@
 use Rattle.std.proofs.Common.{◌++◌, List, OnOk, sym, subst, ◌∙◌}
-use Rattle.ocf_types.specs.Indexes.{entry_at}
+use Rattle.ocf_model.specs.Indexes.{entry_at}
 use Rattle.resource_status.specs.Facts.{FactOf, IsRecordOf}
 use Rattle.resource_status.proofs.FactLemmas.{ended_one}
 use Rattle.resource_status.proofs.facts.take_index.Goals as goal

@@ -1,5 +1,5 @@
 use Rattle.std.proofs.Common.{sym, ◌∙◌}
-use Rattle.ocf_types.specs.Indexes.{at_index}
+use Rattle.ocf_model.specs.Indexes.{at_index}
 use Rattle.resource_status.specs.Results.{is_run}
 use Rattle.resource_status.proofs.ResultLemmas.{last_no, last_yes}
 use Rattle.resource_status.proofs.results.last_run.Goals as goal

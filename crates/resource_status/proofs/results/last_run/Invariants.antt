@@ -1,5 +1,5 @@
 use Rattle.std.proofs.Common.{◌≡◌, take}
-use Rattle.ocf_types.specs.Indexes.{at_index}
+use Rattle.ocf_model.specs.Indexes.{at_index}
 use Rattle.resource_status.specs.Results.{is_run, last_of}
 use Rattle.resource_status.proofs.results.last_run.Given as goal
 

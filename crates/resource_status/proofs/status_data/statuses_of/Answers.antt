@@ -1,7 +1,7 @@
 use Rattle.std.proofs.Common.{◌<◌, ◌++◌, length, List, [], ◌∷◌, ap, sym, ◌∙◌, rules}
 use Rattle.std.proofs.lemmas.List.{map_more}
 use Rattle.serde_json.specs.Data.{Data}
-use Rattle.ocf_types.specs.Indexes.{entry_at, no_entry}
+use Rattle.ocf_model.specs.Indexes.{entry_at, no_entry}
 use Rattle.resource_status.specs.Statuses.{status_of}
 use Rattle.resource_status.proofs.status_data.statuses_of.Goals as goal
 

@@ -1,5 +1,5 @@
 use Rattle.std.proofs.Common.{List, ap, ◌∙◌}
-use Rattle.ocf_types.specs.declared.reply.Notice.{Notice}
+use Rattle.ocf_types.specs.declared.notice.Notice.{Notice}
 use Rattle.child_model.specs.declared.answer.Entry.{Entry}
 use Rattle.exec_client.specs.MessageView.{Turn}
 use Rattle.exec_client.proofs.message.TurnNotices.of_executor.Goals as goal

@@ -1,5 +1,5 @@
 use Rattle.std.proofs.Common.{◌≡◌, ◌≤◌, ◌∙◌, ap, arith}
-use Rattle.ocf_types.specs.declared.reply.TurnEnd.TheVariants.{Done}
+use Rattle.ocf_model.specs.declared.reply.TurnEnd.TheVariants.{Done}
 use Rattle.session_machine.specs.Session.{Drain}
 use Rattle.exec_session.specs.Standing.{Standing}
 use Rattle.exec_session.proofs.DrainLemmas.{drained, goes_on, goes_on_longer, may_show, pauses_between, stays_both}

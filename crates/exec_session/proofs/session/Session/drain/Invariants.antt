@@ -1,5 +1,5 @@
 use Rattle.std.proofs.Common.{◌≡◌, ◌≤◌, ◌+◌, length}
-use Rattle.ocf_types.specs.declared.reply.TurnEnd.TheVariants.{Done}
+use Rattle.ocf_model.specs.declared.reply.TurnEnd.TheVariants.{Done}
 use Rattle.session_machine.specs.Session.{lines_in}
 use Rattle.exec_session.specs.Standing.{SameRest, Stays}
 use Rattle.exec_session.specs.Steps.{IsDraining}

@@ -1,5 +1,5 @@
 use Rattle.std.proofs.Common.{◌∙◌}
-use Rattle.ocf_types.specs.Resource.{is_busy}
+use Rattle.ocf_model.specs.Resource.{is_busy}
 use Rattle.exec_state.proofs.Entries.{any_seen}
 use Rattle.exec_state.proofs.registry.Registry.any_busy.Goals as goal
 

@@ -1,7 +1,7 @@
 use Rattle.std.proofs.Common.{sym, ap, ◌∙◌}
 use Rattle.std.specs.Option.{option_map}
 use Rattle.std.proofs.lemmas.Map.Made.{lookup-map_values}
-use Rattle.ocf_types.specs.Indexes.{no_entry}
+use Rattle.ocf_model.specs.Indexes.{no_entry}
 use Rattle.exec_state.specs.Seen.{seen, monitors_of}
 use Rattle.exec_state.proofs.Entries.{seen_entry}
 use Rattle.exec_state.proofs.Lookups.{lookup_own}

@@ -1,7 +1,7 @@
 use Rattle.std.proofs.Common.{◌≡◌, ◌≤◌, ◌+◌, IsTrue, ◌∙◌, ℕ, suc, arith, length, List, [], ◌∷◌, ◌++◌, sym, ap, append-nil, rules}
 use Rattle.std.specs.Vec.Iter.{into_iter_items}
 use Rattle.std.proofs.lemmas.List.{nil_from_length, length-append, length-map}
-use Rattle.ocf_types.specs.Resource.{Resource}
+use Rattle.ocf_model.specs.Resource.{Resource}
 use Rattle.recurring.specs.declared.monitor.Monitor.{Monitor}
 use Rattle.recurring.specs.Monitors.{all_due_at, pairs}
 use Rattle.recurring.specs.declared.due_index.TheConstants.{INDEX_LIMIT}

@@ -2,8 +2,8 @@ use Rattle.std.proofs.Common.{◌≡◌, ◌<◌, ℕ, List, [], length, get_or,
 use Rattle.std.proofs.lemmas.List.{get_or_default}
 use Rattle.std.proofs.lemmas.List.Edits.{map_over_more}
 use Rattle.indexmap.specs.Layout.{length-set_value_at}
-use Rattle.ocf_types.specs.Resource.{Resource, history_in}
-use Rattle.ocf_types.specs.State.{on_history}
+use Rattle.ocf_model.specs.Resource.{Resource, history_in}
+use Rattle.ocf_model.specs.State.{on_history}
 use Rattle.ocf_types.specs.declared.layout.Layout.TheVariants.{First}
 use Rattle.exec_state.specs.Seen.{seen, seen_all, monitors_of}
 use Rattle.exec_state.proofs.Entries.{on_value, map_entries-same_at, map_entries-set_value_at, length-map_entries}

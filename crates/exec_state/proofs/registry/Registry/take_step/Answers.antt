@@ -4,7 +4,7 @@ use Rattle.std.specs.Map.{lookup}
 use Rattle.std.specs.Str.{bytes_eq}
 use Rattle.std.proofs.lemmas.Map.Made.{lookup-map_values}
 use Rattle.indexmap.specs.IndexMap.{set_value_at}
-use Rattle.ocf_types.specs.State.{stepped}
+use Rattle.ocf_model.specs.State.{stepped}
 use Rattle.recurring.specs.DueIndex.{Dues}
 use Rattle.recurring.specs.Monitors.{pairs}
 use Rattle.exec_state.specs.MonitorsAfter.{monitors_stepped}

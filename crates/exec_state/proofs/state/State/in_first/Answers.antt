@@ -1,5 +1,5 @@
 use Rattle.std.proofs.Common.{ap}
-use Rattle.ocf_types.specs.State.{Registry}
+use Rattle.ocf_model.specs.State.{Registry}
 use Rattle.exec_state.specs.StateValue.{StateValue}
 use Rattle.exec_state.specs.RegistryView.{value_of}
 use Rattle.exec_state.proofs.Rooms.{lawful_first}

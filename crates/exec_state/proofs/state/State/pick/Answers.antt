@@ -1,7 +1,7 @@
 use Rattle.std.proofs.Common.{◌≡◌, ℕ, List, Option, Some}
-use Rattle.ocf_types.specs.Due.{IsPick}
-use Rattle.ocf_types.specs.Resource.{Resource}
-use Rattle.ocf_types.specs.State.{resource_at}
+use Rattle.ocf_model.specs.Due.{IsPick}
+use Rattle.ocf_model.specs.Resource.{Resource}
+use Rattle.ocf_model.specs.State.{resource_at}
 use Rattle.exec_state.specs.RegistryView.{value_of}
 use Rattle.exec_state.specs.Seen.{seen}
 use Rattle.exec_state.specs.StateValue.{StateValue, dues}

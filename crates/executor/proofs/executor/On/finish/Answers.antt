@@ -1,6 +1,6 @@
 use Rattle.std.proofs.Common.{◌≡◌, true, true≢false, refl, sym, subst, ◌∙◌}
-use Rattle.ocf_types.specs.declared.reply.TurnEnd.{TurnEnd}
-use Rattle.ocf_types.specs.Answer.{moment}
+use Rattle.ocf_model.specs.declared.reply.TurnEnd.{TurnEnd}
+use Rattle.ocf_model.specs.Answer.{moment}
 use Rattle.child_model.specs.Children.{Admits}
 use Rattle.exec_ledger.specs.Lemmas.{while_open}
 use Rattle.exec_ledger.specs.BatchStarts.{batch_start_of}

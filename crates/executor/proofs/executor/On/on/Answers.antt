@@ -1,6 +1,6 @@
 use Rattle.std.proofs.Common.{◌≡◌, [], true, ap, subst, sym, refl, ◌∙◌}
-use Rattle.ocf_types.specs.Due.{due_at}
-use Rattle.ocf_types.specs.State.{State}
+use Rattle.ocf_model.specs.Due.{due_at}
+use Rattle.ocf_model.specs.State.{State}
 use Rattle.exec_ledger.specs.LedgerView.{LedgerView, ledger_view}
 use Rattle.exec_turn.specs.Turns.{turn_notices}
 use Rattle.executor.specs.OnStores.{IsOver, NotOpenedOn}

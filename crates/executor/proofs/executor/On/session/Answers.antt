@@ -2,7 +2,7 @@ use Rattle.std.proofs.Common.{rules, arith, ◌≡◌, ◌++◌, ◌∷◌, [], 
 use Rattle.std.proofs.lemmas.List.{append-nil, nil_from_length}
 use Rattle.std.specs.Vec.{vec_len}
 use Rattle.std.specs.Vec.Iter.{into_iter_items}
-use Rattle.ocf_types.specs.Kinds.{Reply}
+use Rattle.ocf_model.specs.Answer.{Reply}
 use Rattle.executor.specs.Sessions.{Input, TakesInputs}
 use Rattle.executor.proofs.Sessions.Growing.{inputs_more, inputs_start}
 use Rattle.executor.proofs.executor.On.session.Goals as goal

@@ -1,5 +1,5 @@
 use Rattle.std.proofs.Common.{subst, sym}
-use Rattle.ocf_types.specs.declared.reply.ReplyOf.TheVariants.{Turn}
+use Rattle.ocf_model.specs.declared.reply.ReplyOf.TheVariants.{Turn}
 use Rattle.exec_ledger.specs.Pieces.{Effects}
 use Rattle.executor.specs.Sessions.{Input, TakesWhile}
 use Rattle.executor.specs.CallLemmas.{request_taken, turn_taken}

@@ -2,7 +2,7 @@ use Rattle.std.proofs.Common.{◌≡◌, ℕ, ◌==◌, rules, not, List, [], �
 use Rattle.arrayvec.proofs.ArrayVecLemmas.{filter-from_retain}
 use Rattle.ocf_types.specs.declared.operation.Op.{Op}
 use Rattle.ocf_types.specs.declared.operation.Ended.{Ended}
-use Rattle.ocf_types.specs.Resource.{History, cancelled_of, last_ended, queued_of, withdrawn, without_call}
+use Rattle.ocf_model.specs.Resource.{History, cancelled_of, last_ended, queued_of, withdrawn, without_call}
 use Rattle.op_history.proofs.ops.Ops.withdraw.Goals as goal
 
 -- the first action of the call becomes a result, and those of other calls stay queued

@@ -1,5 +1,5 @@
 use Rattle.std.proofs.Common.{arith}
-use Rattle.ocf_types.specs.Resource.{dropped_of}
+use Rattle.ocf_model.specs.Resource.{dropped_of}
 use Rattle.op_history.proofs.Last.{buffer_more}
 use Rattle.op_history.proofs.results.Results.push_dropped.Goals as goal
 

@@ -1,6 +1,6 @@
 use Rattle.std.proofs.Common.{◌≡◌, ◌++◌, map, take}
 use Rattle.circular_buffer.specs.Buffer.{buffer, keep_last}
-use Rattle.ocf_types.specs.Resource.{dropped_of}
+use Rattle.ocf_model.specs.Resource.{dropped_of}
 use Rattle.op_history.proofs.results.Results.push_dropped.Given as goal
 
 abbrev pub invariant-loop-queued : goal.invariant-loop-queued

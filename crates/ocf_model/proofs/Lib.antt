@@ -1,0 +1,16 @@
+pub mod StateExamples
+pub mod RuleExamples
+pub mod FailureExamples
+pub mod WithdrawExamples
+pub mod Lengths
+pub mod StateLengths
+pub mod Lists
+pub mod Registries
+pub mod BootLemmas
+pub mod FailureLemmas
+pub mod OthersLemmas
+pub mod AskedLemmas
+pub mod LawfulParts
+pub mod LawfulSteps
+pub mod LawfulLaw
+pub mod LayoutLemmas

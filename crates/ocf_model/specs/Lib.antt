@@ -1,0 +1,14 @@
+pub mod Refusals
+pub mod Resource
+pub mod Notices
+pub mod State
+pub mod Applies
+pub mod Boot
+pub mod Answer
+pub mod Due
+pub mod StateEncoding
+pub mod LawfulState
+pub mod Indexes
+pub mod StateLemmas
+pub mod RegistryLemmas
+pub mod LengthLemmas

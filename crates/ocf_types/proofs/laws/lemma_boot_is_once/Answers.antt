@@ -1,5 +1,0 @@
-use Rattle.ocf_types.proofs.BootLemmas.{boot_once}
-use Rattle.ocf_types.proofs.laws.lemma_boot_is_once.Goals as goal
-
-pub returns : goal.returns
-returns c s m n = boot_once s m n
