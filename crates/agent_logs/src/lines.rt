@@ -26,7 +26,7 @@ pub struct Begun<'a> {
 }
 
 /// How a run ended, as it is logged.
-#[derive(Clone, Copy, Debug, PartialEq, Eq)]
+#[derive(Clone, Copy)]
 pub enum LoggedEnd {
     /// The agent ended with this exit code.
     Exited(u8),

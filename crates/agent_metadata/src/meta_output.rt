@@ -16,7 +16,7 @@ const CHUNK: usize = 4_096;
 const READS: u32 = 16;
 
 /// How far a stream was read.
-#[derive(Clone, Copy, Debug, PartialEq, Eq)]
+#[derive(Clone, Copy)]
 pub enum Progress {
     /// More may come.
     Open,

@@ -13,7 +13,7 @@ use ocf_types::{Action, RscId, RunId};
 use std::str;
 
 /// An agent's process that runs an action of a resource.
-#[derive(Drop, PartialEq, Eq)]
+#[derive(Drop)]
 pub struct AgentEntry {
     /// The run of the action.
     pub run: RunId,

@@ -14,7 +14,7 @@ pub const BOOT_ID_LEN: usize = 36;
 
 /// The head of the file: the boot of the system in which its executor runs, and a moment of the executor's clock, read together with
 /// the system's clock.
-#[derive(Clone, Copy, Debug, PartialEq, Eq)]
+#[derive(Clone, Copy)]
 pub struct Head {
     /// The identifier of the boot: `/proc/sys/kernel/random/boot_id`. Linux, random(4).
     pub boot: [u8; BOOT_ID_LEN],

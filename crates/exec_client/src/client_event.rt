@@ -1,7 +1,7 @@
 //! What a client is asked, with the answers.
 
 /// A call of a client, with its answer.
-#[derive(Clone, Copy, Debug, PartialEq, Eq)]
+#[derive(Clone, Copy)]
 pub enum ClientEvent {
     /// A message: whether all of it was sent. Otherwise writing failed, or there was no memory for a line.
     Sent(bool),

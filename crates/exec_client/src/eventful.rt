@@ -20,7 +20,7 @@ use std::io::Write;
 use store_model::Store;
 
 /// Which lines are written for a person.
-#[derive(Clone, Copy, Debug, PartialEq, Eq)]
+#[derive(Clone, Copy)]
 pub enum Events {
     /// No lines.
     None,

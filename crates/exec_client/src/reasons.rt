@@ -29,7 +29,7 @@ pub trait Reasons {
 }
 
 /// No reasons.
-#[derive(Clone, Copy, Debug, PartialEq, Eq)]
+#[derive(Clone, Copy)]
 pub struct NoReasons;
 
 impl Reasons for NoReasons {

@@ -6,7 +6,7 @@ use crate::range::{LONGEST_LIMIT, Range};
 use ocf_types::NUM_MAX;
 
 /// A key of a line.
-#[derive(Clone, Copy, Debug, PartialEq, Eq)]
+#[derive(Clone, Copy)]
 pub enum Key {
     Op,
     Id,

@@ -3,7 +3,7 @@ ghost use Rattle.std.specs.Prelude.{◌≡◌};
 ghost use Rattle.exec_commands.specs.Lines.{command_words, other_words, operation_in, operation_named};
 
 /// An operation that the key `op` of a line names.
-#[derive(Clone, Copy, Debug, PartialEq, Eq)]
+#[derive(Clone, Copy)]
 pub enum Operation {
     Register,
     Unregister,

@@ -9,7 +9,7 @@ use itoa::Buffer;
 pub const LONGEST_LIMIT: u64 = 86_400_000;
 
 /// The values that a key may hold.
-#[derive(Clone, Copy, Debug, PartialEq, Eq)]
+#[derive(Clone, Copy)]
 pub enum Range {
     /// The name of an operation.
     Operation,

@@ -9,7 +9,7 @@ use crate::buffer::LineBuffer;
 use std::alloc::Allocator;
 
 /// The next line of the input, or its end.
-#[derive(Clone, Copy, PartialEq, Eq)]
+#[derive(Clone, Copy)]
 pub enum Next {
     /// A line of at most 131,072 bytes.
     Line,
@@ -20,7 +20,7 @@ pub enum Next {
 }
 
 /// How the bytes of one read end.
-#[derive(Clone, Copy, Debug, PartialEq, Eq)]
+#[derive(Clone, Copy)]
 pub enum Piece {
     /// Bytes of the line, but not yet its end.
     Part,

@@ -6,7 +6,7 @@ ghost use Rattle.exec_metrics.specs.Families.{header, kind, name};
 use line_text::LineText;
 
 /// A family of metrics.
-#[derive(Clone, Copy, Debug, PartialEq, Eq)]
+#[derive(Clone, Copy)]
 pub enum Family {
     /// The epoch of the journal.
     Epoch,

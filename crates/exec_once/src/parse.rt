@@ -10,7 +10,7 @@ use ocf_types::{
 use std::alloc::Global;
 
 /// Why an action is not run.
-#[derive(Clone, Copy, Debug, PartialEq, Eq)]
+#[derive(Clone, Copy)]
 pub enum OnceFault {
     /// The agent is no provider and type.
     Agent,

@@ -9,7 +9,7 @@ use growth::Grows;
 use std::alloc::Global;
 
 /// An option whose value is refused, or options that do not go together.
-#[derive(Clone, Copy, Debug, PartialEq, Eq)]
+#[derive(Clone, Copy)]
 pub enum BadValue {
     /// The text of `--tidy-at` is no number up to a part's limit.
     TidyAt,
@@ -64,7 +64,7 @@ impl BadValue {
 }
 
 /// Why the arguments give no options.
-#[derive(Debug, Drop)]
+#[derive(Drop)]
 pub enum ArgumentsFault {
     /// They ask for help or for the version; the text is for standard output.
     Help(clap::Error),

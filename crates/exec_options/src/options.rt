@@ -6,7 +6,7 @@ ghost use Rattle.exec_options.specs.Subcommands.{is_query, subcommand_word};
 use crate::resources::Resources;
 
 /// A subcommand that has a journal.
-#[derive(Clone, Copy, Debug, PartialEq, Eq)]
+#[derive(Clone, Copy)]
 pub enum Subcommand {
     /// Reads commands and replies to each.
     Run,
@@ -54,7 +54,7 @@ impl Subcommand {
 }
 
 /// Where the journal is kept.
-#[derive(Clone, Copy, Debug, PartialEq, Eq)]
+#[derive(Clone, Copy)]
 pub enum JournalLocation<'a> {
     /// In the files of this directory.
     Directory(&'a str),
@@ -63,7 +63,7 @@ pub enum JournalLocation<'a> {
 }
 
 /// A moment that an option names.
-#[derive(Clone, Copy, Debug, PartialEq, Eq)]
+#[derive(Clone, Copy)]
 pub enum Since {
     /// This many milliseconds after the beginning of 1970.
     Moment(u64),
@@ -82,7 +82,7 @@ impl Since {
 }
 
 /// Where colours are used.
-#[derive(Clone, Copy, Debug, PartialEq, Eq)]
+#[derive(Clone, Copy)]
 pub enum Color {
     /// On a terminal that has them, unless the environment refuses them.
     Auto,
@@ -106,7 +106,7 @@ impl Color {
 }
 
 /// The options of a subcommand with a journal.
-#[derive(Clone, Copy, Debug, PartialEq, Eq)]
+#[derive(Clone, Copy)]
 pub struct Options<'a> {
     pub subcommand: Subcommand,
     pub journal: JournalLocation<'a>,

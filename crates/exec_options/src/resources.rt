@@ -4,7 +4,7 @@
 pub const MOST_RESOURCES: usize = 16;
 
 /// The ids of some resources, at most 16, or all resources.
-#[derive(Clone, Copy, Debug, PartialEq, Eq)]
+#[derive(Clone, Copy)]
 pub struct Resources<'a> {
     ids: [&'a str; MOST_RESOURCES],
     count: usize,

@@ -10,7 +10,7 @@ use ocf_model::{TidyEnd, TurnEnd};
 use ocf_types::{MetaFault, StartFault};
 
 /// How a drain or a watch ended.
-#[derive(Clone, Copy, Debug, PartialEq, Eq)]
+#[derive(Clone, Copy)]
 pub enum DrainEnd {
     /// Nothing is queued or running any more.
     Idle,

@@ -3,7 +3,7 @@ ghost use Rattle.std.specs.Prelude.{◌≡◌};
 ghost use Rattle.exec_replies.specs.LineKinds.{kind_word};
 
 /// The kind of a line of a `serve` session, which its key `kind` names.
-#[derive(Clone, Copy, Debug, PartialEq, Eq)]
+#[derive(Clone, Copy)]
 pub enum LineKind {
     /// The reply to a line.
     Reply,

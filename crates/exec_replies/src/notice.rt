@@ -30,7 +30,7 @@ pub enum NoticeForm<'a> {
 }
 
 /// Where a notice is from.
-#[derive(Clone, Copy, Debug, PartialEq, Eq)]
+#[derive(Clone, Copy)]
 pub enum Origin {
     /// From the report of an opening: its action was interrupted or dropped.
     Opening,

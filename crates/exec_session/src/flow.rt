@@ -1,7 +1,7 @@
 //! How a session goes on.
 
 /// How a session goes on.
-#[derive(Clone, Copy, Debug, PartialEq, Eq)]
+#[derive(Clone, Copy)]
 pub enum Flow {
     /// It reads on, and in `serve` makes turns.
     GoesOn,

@@ -29,7 +29,7 @@ const RANDOM_UUID: &str = "/proc/sys/kernel/random/uuid";
 const UUID_LEN: usize = 36;
 
 /// Which parts are known to have been written: no write of an executor makes such a part empty again.
-#[derive(Clone, Copy, PartialEq, Eq)]
+#[derive(Clone, Copy)]
 pub struct Marks {
     pub a: bool,
     pub b: bool,

@@ -25,7 +25,7 @@ pub enum Distrust {
 }
 
 /// The owners and modes that an opening accepts.
-#[derive(Clone, Copy, Debug, PartialEq, Eq)]
+#[derive(Clone, Copy)]
 pub enum Owners {
     /// Any.
     Any,

@@ -85,7 +85,7 @@ pub fn has_executor(rt: &HostRuntime, directory: &str) -> Option<bool> {
 }
 
 /// How a fault of the journal's files is reported.
-#[derive(Clone, Copy, Debug, PartialEq, Eq)]
+#[derive(Clone, Copy)]
 pub enum FaultForm {
     /// By the exact text of the formats, for programs that read `run` and `show`. A person gets the cause in a line of its own.
     Exact,

@@ -6,7 +6,7 @@ ghost use Rattle.ocf_agents.specs.Agents.{agent_word, has_action};
 use ocf_types::Action;
 
 /// An agent that keeps a state file. OCF Resource Agent API 1.1, resource type.
-#[derive(Clone, Copy, PartialEq, Eq)]
+#[derive(Clone, Copy)]
 pub enum Agent {
     /// Its resource runs exactly when the state file exists.
     Dummy,

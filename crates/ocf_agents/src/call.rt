@@ -9,7 +9,7 @@ use ocf_codes::Code;
 use ocf_types::Action;
 
 /// The call of an agent.
-#[derive(Clone, Copy, PartialEq, Eq)]
+#[derive(Clone, Copy)]
 pub enum Call<'a> {
     /// For its metadata. OCF Resource Agent API 1.1, meta-data.
     Metadata(Agent),

@@ -7,7 +7,7 @@ use ocf_codes::Code;
 use ocf_types::Action;
 
 /// The role of a promotable agent that runs. Pacemaker Explained, promotable clones.
-#[derive(Clone, Copy, PartialEq, Eq)]
+#[derive(Clone, Copy)]
 pub enum Role {
     Unpromoted,
     Promoted,
@@ -26,7 +26,7 @@ impl Role {
 }
 
 /// What the state file holds.
-#[derive(Clone, Copy, PartialEq, Eq)]
+#[derive(Clone, Copy)]
 pub enum Held {
     /// It does not exist.
     Absent,
@@ -50,7 +50,7 @@ impl Held {
 }
 
 /// What an action does with the state file.
-#[derive(Clone, Copy, PartialEq, Eq)]
+#[derive(Clone, Copy)]
 pub enum Deed {
     Leave,
     /// Makes an empty file.

@@ -25,7 +25,7 @@ pub struct InfoOf<P> {
 }
 
 /// How a turn ended.
-#[derive(Clone, Copy, Debug, PartialEq, Eq)]
+#[derive(Clone, Copy, PartialEq, Eq)]
 pub enum TurnEnd {
     /// Every running action was polled, and every action that could begin has begun.
     Done,
@@ -44,7 +44,7 @@ pub enum TurnEnd {
 }
 
 /// How a tidy of the journal ended.
-#[derive(Clone, Copy, PartialEq, Eq)]
+#[derive(Clone, Copy)]
 pub enum TidyEnd {
     /// The state is now the snapshot of the other part.
     Done,

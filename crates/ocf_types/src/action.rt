@@ -10,7 +10,7 @@ use std::marker::Model;
 
 /// An action that an agent is asked to run. OCF Resource Agent API 1.1, actions; `promote` and `demote` apply to promotable
 /// agents.
-#[derive(Clone, Copy, PartialEq, Eq)]
+#[derive(Clone, Copy)]
 pub enum Action {
     Start,
     Stop,
@@ -116,7 +116,7 @@ impl Check {
 }
 
 /// An action and its check, which is the plain one unless the action is a monitor.
-#[derive(Clone, Copy, PartialEq, Eq)]
+#[derive(Clone, Copy)]
 pub struct Task {
     action: Action,
     check: Check,

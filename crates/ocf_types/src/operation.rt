@@ -5,7 +5,7 @@ use crate::outcome::Outcome;
 use std::default::MadeWith;
 
 /// A one-time action that is queued.
-#[derive(Clone, Copy, PartialEq, Eq)]
+#[derive(Clone, Copy)]
 pub struct Op {
     pub call: CallId,
     pub task: Task,
@@ -13,7 +13,7 @@ pub struct Op {
 }
 
 /// A recurring monitor.
-#[derive(Clone, Copy, PartialEq, Eq)]
+#[derive(Clone, Copy)]
 pub struct Recur {
     pub call: CallId,
     pub interval: Millis,
@@ -37,7 +37,7 @@ impl MadeWith<()> for Recur {
 }
 
 /// The action that runs.
-#[derive(Clone, Copy, PartialEq, Eq)]
+#[derive(Clone, Copy)]
 pub struct Running {
     pub call: CallId,
     pub run: RunId,
@@ -50,7 +50,7 @@ pub struct Running {
 }
 
 /// The result of an action.
-#[derive(Clone, Copy, PartialEq, Eq)]
+#[derive(Clone, Copy)]
 pub struct Ended {
     pub call: CallId,
     /// The run number; 0 exactly when the action was dropped or cancelled: it never began.

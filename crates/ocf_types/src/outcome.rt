@@ -6,7 +6,7 @@ ghost use Rattle.ocf_types.specs.declared.outcome.Outcome.TheVariants.{Run};
 ghost use Rattle.ocf_types.specs.declared.outcome.RunEnd.TheVariants.{NotStarted};
 
 /// Why an agent process was not spawned.
-#[derive(Clone, Copy, Debug, PartialEq, Eq)]
+#[derive(Clone, Copy, PartialEq, Eq)]
 pub enum StartFault {
     /// There is no such file.
     Missing,
@@ -17,7 +17,7 @@ pub enum StartFault {
 }
 
 /// Why an agent has no metadata. OCF Resource Agent API 1.1, meta-data.
-#[derive(Clone, Copy, Debug, PartialEq, Eq)]
+#[derive(Clone, Copy)]
 pub enum MetaFault {
     /// The agent process was not spawned.
     NotStarted(StartFault),
@@ -34,7 +34,7 @@ pub enum MetaFault {
 }
 
 /// How an action that began has ended, as the executor saw it.
-#[derive(Clone, Copy, Debug, PartialEq, Eq)]
+#[derive(Clone, Copy, PartialEq, Eq)]
 pub enum RunEnd {
     /// The agent ended with this exit code.
     Done(u8),
@@ -49,7 +49,7 @@ pub enum RunEnd {
 }
 
 /// How an action ended.
-#[derive(Clone, Copy, Debug, PartialEq, Eq)]
+#[derive(Clone, Copy, PartialEq, Eq)]
 pub enum Outcome {
     /// As the executor saw it.
     Run(RunEnd),

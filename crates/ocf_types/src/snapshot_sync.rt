@@ -1,7 +1,7 @@
 //! When a snapshot is made durable.
 
 /// When the pieces of a snapshot are made durable.
-#[derive(Clone, Copy, Debug, PartialEq, Eq)]
+#[derive(Clone, Copy)]
 pub enum SnapshotSync {
     /// Each before the next one is written.
     EachPiece,

@@ -6,7 +6,7 @@ use ocf_types::{CallId, Check, Millis, Moment, Recur};
 use std::default::MadeWith;
 
 /// A recurring monitor and its due moment.
-#[derive(Clone, Copy, PartialEq, Eq)]
+#[derive(Clone, Copy)]
 pub struct Monitor {
     pub recur: Recur,
     /// In milliseconds. It may exceed the greatest moment by an interval at most; then it is never reached.

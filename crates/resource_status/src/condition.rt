@@ -11,7 +11,7 @@ use ocf_model::StateView;
 use ocf_types::{Action, Ended, Layout, Moment, Outcome, RunEnd};
 
 /// The condition of a resource.
-#[derive(Clone, Copy, PartialEq, Eq)]
+#[derive(Clone, Copy)]
 pub enum Condition {
     /// No result shows a condition, and none was dropped or forgotten.
     NeverRun,

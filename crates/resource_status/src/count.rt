@@ -3,7 +3,7 @@ ghost use Rattle.std.specs.Prelude.{◌≡◌};
 ghost use Rattle.resource_status.specs.Counts.{no_runs, one_more};
 
 /// The number of runs of a resource that ended, and of those that failed. Counts saturate at 2^64 - 1.
-#[derive(Clone, Copy, Debug, PartialEq, Eq)]
+#[derive(Clone, Copy)]
 pub struct RunCount {
     pub runs: u64,
     pub failures: u64,

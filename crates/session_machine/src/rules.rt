@@ -2,7 +2,7 @@
 use exec_replies::NoticeForm;
 
 /// The mode of a session.
-#[derive(Clone, Copy, Debug, PartialEq, Eq)]
+#[derive(Clone, Copy)]
 pub enum Mode {
     /// Answers lines; turns are made only in drains and watches.
     Run,
