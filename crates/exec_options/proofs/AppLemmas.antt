@@ -1,5 +1,6 @@
 -- The command line after adding arguments and subcommands, and the result of a parse.
 use Rattle.std.proofs.Common.{◌≡◌, ◌+◌, ◌<◌, ℕ, Bool, false, ◌||◌, List, [], ◌∷◌, Option, Some, None, get_or, length, map, take, option_map, refl, ap, ap₂, ◌∙◌, sym}
+use Rattle.std.proofs.Common.{Result, Ok, Err, IfOk, subst}
 use Rattle.std.proofs.Math.Bool.{or-false}
 use Rattle.std.proofs.lemmas.List.{map_more}
 use Rattle.std.proofs.lemmas.List.Sums.{fold-append}
@@ -22,6 +23,11 @@ app-arg old a new r app h l e f = h.shape l ∙ ap₂ with_rule f e
 pub local-arg : (old : Command) (a : Arg) (new : Command) (g : Bool) → AddsArg old a new → a.global ≡ false
     → (out-Command old).has_globals ≡ g → (out-Command new).has_globals ≡ g
 local-arg old a new g h l f = h.globals ∙ ap₂ (λ x y. x || y) f l ∙ or-false g
+
+-- a fact about what a call returned, if it succeeded
+pub ok_at : {X E : Type 0} (P : X → Type 0) (r : Result X E) (x : X) → r ≡ Ok x → IfOk r P → P x
+ok_at P (Ok y) x is h = let same : y ≡ x = cc in subst P same h
+ok_at P (Err e) x is h = absurd cc
 
 pub app-sub : (old sub new : Command) (app s : App) → AddsSubcommand old sub new → (out-Command sub).has_globals ≡ false → app_of sub ≡ s
     → app_of old ≡ app → app_of new ≡ with_subcommand app s.top

@@ -1,6 +1,6 @@
 //! Builds the command line from the table; it fails only if memory was refused.
 ghost use Rattle.std.specs.Prelude.{◌≡◌, false, IfOk, map};
-ghost use Rattle.clap.specs.Words.{app_of, new_app, rule_of};
+ghost use Rattle.clap.specs.Words.{App, app_of, new_app, rule_of, with_subcommand};
 ghost use Rattle.clap.specs.declared.builder.command.Command.TheViews.{out-Command};
 ghost use Rattle.exec_options.specs.App.{log_app, ocfexec_app, once_app, query_app, rule_for, run_app, session_app, status_app, top_app, with_rules};
 
@@ -157,23 +157,29 @@ const METRICS: SubcommandTexts = SubcommandTexts {
     more: texts::METRICS,
 };
 
+// A command with a subcommand too, if that was built.
+fn with_subcommand<'a>(
+    command: Command<'a>,
+    built: Result<Command<'a>, AllocError>,
+) -> Result<Command<'a>, AllocError>
+    ensures { (s : App) → IfOk built.entry (λ c. app_of c ≡ s)
+        → IfOk built.entry (λ c. (out-Command c).has_globals ≡ false)
+        → IfOk result (λ r. app_of r ≡ with_subcommand (app_of command.entry) s.top) }
+{
+    let added = built?;
+    command.subcommand(added)
+}
+
 fn ocfexec<'a>(alloc: Global) -> Result<Command<'a>, AllocError>
     ensures { IfOk result (λ c. app_of c ≡ ocfexec_app) }
 {
-    let run = run(alloc)?;
-    let serve = session(alloc, SERVE)?;
-    let show = query(alloc, SHOW)?;
-    let status = status(alloc)?;
-    let log = log(alloc)?;
-    let metrics = query(alloc, METRICS)?;
-    let once = once(alloc)?;
-    let with_run = top(alloc).subcommand(run)?;
-    let with_serve = with_run.subcommand(serve)?;
-    let with_show = with_serve.subcommand(show)?;
-    let with_status = with_show.subcommand(status)?;
-    let with_log = with_status.subcommand(log)?;
-    let with_metrics = with_log.subcommand(metrics)?;
-    with_metrics.subcommand(once)
+    let with_run = with_subcommand(top(alloc), run(alloc))?;
+    let with_serve = with_subcommand(with_run, session(alloc, SERVE))?;
+    let with_show = with_subcommand(with_serve, query(alloc, SHOW))?;
+    let with_status = with_subcommand(with_show, status(alloc))?;
+    let with_log = with_subcommand(with_status, log(alloc))?;
+    let with_metrics = with_subcommand(with_log, query(alloc, METRICS))?;
+    with_subcommand(with_metrics, once(alloc))
 }
 
 /// The whole command line, as `clap` gets it.
