@@ -1,5 +1,8 @@
 -- The view of a record of calls.
-use Rattle.std.specs.Prelude.{◌≡◌, ℕ, List, [], ◌∷◌}
+use Rattle.std.specs.Prelude.{◌≡◌, ◌+◌, ◌≤◌, ℕ, List, [], ◌∷◌, ◌++◌, length}
+use Rattle.ocf_types.specs.declared.part.Part.{Part}
+use Rattle.disk_model.specs.Image.{bytes_of, other, part_limit}
+use Rattle.disk_model.specs.Parts.{put}
 use Rattle.disk_model.specs.Disk.{DiskView}
 use Rattle.file_disk.specs.Past.{past_view}
 use Rattle.file_disk.specs.declared.call.Call.{Call}
@@ -10,9 +13,19 @@ use Rattle.file_disk.specs.declared.record.Record.{Record}
 abbrev pub Begins : List ℕ → List ℕ → Record → Type 0
 Begins a b r = (r.first ≡ record { a = a; b = b }) × (r.events ≡ [])
 
+-- these bytes were found in a part, behind those that were found there before, and no call was noted
+abbrev pub Found : Part → List ℕ → Record → Record → Type 0
+Found part bytes old new = (new.first ≡ put part (bytes_of part old.first ++ bytes) old.first) × (new.events ≡ old.events)
+
 -- the record has one more call: this one
 abbrev pub Noted : Call → List ℕ → Record → Record → Type 0
 Noted call bytes old new = (new.first ≡ old.first) × (new.events ≡ record { call = call; bytes = bytes } ∷ old.events)
+
+-- at most one part's bytes were found in a part behind those of before, none in the other part, and no call was noted
+pub record FoundIn (part : Part) (old new : Record) : Type 0 where
+  pub here : length (bytes_of part new.first) ≤ length (bytes_of part old.first) + part_limit
+  pub there : bytes_of (other part) new.first ≡ bytes_of (other part) old.first
+  pub events : new.events ≡ old.events
 
 -- the view of the disk that the record describes
 abbrev pub view_by : Record → DiskView

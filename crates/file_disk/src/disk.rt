@@ -117,9 +117,9 @@ impl<R: Files<File = File> + Copy, A: Allocator + Copy> FileDisk<R, A> {
         let directory = open_directory(rt, alloc, dir, owners)?;
         let (a, b) = open_files(rt, alloc, dir, owners)?;
         directory.sync_all().map_err(OpenFault::directory)?;
-        let a_bytes = of_part(Part::A, a.contents(alloc))?;
-        let b_bytes = of_part(Part::B, b.contents(alloc))?;
-        let log = Log::new(&a_bytes, &b_bytes);
+        let mut log = Log::new(&[], &[]);
+        of_part(Part::A, a.find_contents(Part::A, &mut log))?;
+        of_part(Part::B, b.find_contents(Part::B, &mut log))?;
         Ok(FileDisk {
             rt: *rt,
             _directory: directory,

@@ -5,6 +5,7 @@ ghost use Rattle.file_disk.specs.Past.{clock_of, failures_of};
 use crate::call::Call;
 use crate::record::Record;
 use disk_model::DiskFault;
+use ocf_types::Part;
 
 /// The number of device calls and of those that failed, and for contracts the record of them.
 #[derive(Drop)]
@@ -20,7 +21,7 @@ impl Log {
     ghost use Rattle.std.specs.Prelude.{◌<◌, ◌↔◌, IsTrue};
     ghost use Rattle.disk_model.specs.Disk.{LAST};
     ghost use Rattle.file_disk.specs.Log.{log_view};
-    ghost use Rattle.file_disk.specs.Record.{Begins, IsDone, IsFault, Noted};
+    ghost use Rattle.file_disk.specs.Record.{Begins, Found, IsDone, IsFault, Noted};
 
     /// A log of no calls, on a disk that holds these bytes.
     pub fn new(a: &[u8], b: &[u8]) -> Log
@@ -31,6 +32,13 @@ impl Log {
             failures: 0,
             calls: Record::new(a, b),
         }
+    }
+
+    /// Notes bytes that were found in a part, behind those that were found there before.
+    pub fn find(&mut self, part: Part, bytes: &[u8])
+        ensures { Found part bytes.now self.old.calls self.new.calls }
+    {
+        self.calls.find(&part, bytes);
     }
 
     pub fn clock(&self) -> u64

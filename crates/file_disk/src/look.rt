@@ -6,20 +6,17 @@ ghost use Rattle.file_disk.specs.RamDisk.{IsFresh, view_of};
 use crate::directory::find_directory;
 use crate::entry::{Entry, entry_of, refuse_loss, reported_loss};
 use crate::fault::{OpenFault, file_name, of_part};
+use crate::part_file::{PIECE, fill};
 use crate::ram::RamDisk;
 use disk_model::other_part;
 use ocf_types::{HEAD_LEN, PART_LIMIT, Part};
 use std::alloc::{Allocator, Global};
 use std::fs::File;
-use std::io::{self, ErrorKind};
-use std::os::unix::fs::FileExt;
+use std::io;
 use std::rt::Files;
 
 // The greatest number of readings, each of which a tidy may spoil.
 const TRIES: usize = 100;
-
-// The number of bytes that are read at once.
-const PIECE: usize = 65_536;
 
 // The number of bytes that are compared: the first gate and the head.
 const HEAD: usize = HEAD_LEN as usize;
@@ -29,25 +26,6 @@ const HEAD: usize = HEAD_LEN as usize;
 struct PartCopy<A: Allocator = Global> {
     file: Option<File>,
     bytes: Vec<u8, A>,
-}
-
-// Fills the buffer from this offset of the file on, and returns the number of bytes, which is less only at the file's end.
-fn fill(file: &File, at: u64, buf: &mut [u8]) -> io::Result<usize>
-    ensures { IfOk result (λ count. count ≤ length buf.new) }
-{
-    let mut filled = 0;
-    for _ in 0..u64::MAX {
-        if filled >= buf.len() {
-            break;
-        }
-        match file.read_at(&mut buf[filled..], at.wrapping_add(filled as u64)) {
-            Ok(0) => break,
-            Ok(count) => filled += count,
-            Err(error) if error.kind() == ErrorKind::Interrupted => {}
-            Err(error) => return Err(error),
-        }
-    }
-    Ok(filled)
 }
 
 // Reads a file piece by piece, up to its end or the limit of a part. A record is whole in the file before its gate is opened.

@@ -1,10 +1,12 @@
 //! A part's file, with the name under which it was opened.
-ghost use Rattle.std.specs.Prelude.{◌≡◌, ◌≤◌, IfErr, IfOk, length};
+ghost use Rattle.std.specs.Prelude.{◌≡◌, ◌≤◌, IfErr, IfOk, OnOk, length};
 ghost use Rattle.file_disk.specs.Faults.{IsOfPart};
+ghost use Rattle.file_disk.specs.Record.{FoundIn};
 
 use crate::fault::{OpenFault, file_name, of_part};
 use crate::identity::Mark;
 use crate::known_path::KnownPath;
+use crate::log::Log;
 use crate::trust::Owners;
 use ocf_types::{PART_LIMIT, Part};
 use std::alloc::{Allocator, Global};
@@ -16,6 +18,9 @@ use std::rt::Files;
 
 /// The permissions of a new file: its owner alone reads and writes it.
 pub const OWNER_ONLY: u32 = 0o600;
+
+/// The number of bytes that are read at once.
+pub(crate) const PIECE: usize = 65_536;
 
 /// The open file of a part, its path, and the length that it has if nobody else writes it.
 #[derive(Drop)]
@@ -59,6 +64,25 @@ fn forget_cached(file: &File) -> io::Result<()> {
     }
 }
 
+/// Fills the buffer from this offset of the file on, and returns the number of bytes, which is less only at the file's end.
+pub(crate) fn fill(file: &File, at: u64, buf: &mut [u8]) -> io::Result<usize>
+    ensures { IfOk result (λ count. count ≤ length buf.new) }
+{
+    let mut filled = 0;
+    for _ in 0..u64::MAX {
+        if filled >= buf.len() {
+            break;
+        }
+        match file.read_at(&mut buf[filled..], at.wrapping_add(filled as u64)) {
+            Ok(0) => break,
+            Ok(count) => filled += count,
+            Err(error) if error.kind() == ErrorKind::Interrupted => {}
+            Err(error) => return Err(error),
+        }
+    }
+    Ok(filled)
+}
+
 impl<A: Allocator + Copy> PartFile<A> {
     /// Opens the file of a part, or makes it if there is none, and locks it for as long as it is open.
     pub fn open<R: Files<File = File>>(
@@ -99,16 +123,25 @@ impl<A: Allocator + Copy> PartFile<A> {
         }
     }
 
-    /// Syncs the file, and reads it whole from the device. Bytes past the limit of a part are no part of it.
-    pub fn contents(&self, alloc: A) -> io::Result<Vec<u8, A>>
-        ensures { IfOk result (λ bytes. length bytes.items ≤ PART_LIMIT) }
+    /// Syncs the file, reads it whole from the device, and notes the bytes that were found. Bytes past the limit of a part are no
+    /// part of it.
+    pub fn find_contents(&self, part: Part, log: &mut Log) -> io::Result<()>
+        ensures { OnOk result (FoundIn part log.old.calls log.new.calls) }
     {
         self.file.sync_all()?;
         forget_cached(&self.file)?;
-        let size = self.file.metadata()?.len().min(PART_LIMIT);
-        let mut bytes = vec![in alloc; 0; size as usize]?;
-        self.file.read_exact_at(&mut bytes, 0)?;
-        Ok(bytes)
+        let mut piece = [0; PIECE];
+        let mut at = 0;
+        while at < PART_LIMIT {
+            let wanted = (PART_LIMIT - at).min(PIECE as u64) as usize;
+            let count = fill(&self.file, at, &mut piece[..wanted])?;
+            log.find(part, &piece[..count]);
+            at += count as u64;
+            if count < wanted {
+                break;
+            }
+        }
+        Ok(())
     }
 
     // Fails if the file has another length than the one that it has if nobody else writes it.

@@ -5,11 +5,12 @@ ghost use Rattle.disk_model.specs.Image.{Image};
 ghost use Rattle.file_disk.specs.Past.{Event};
 
 use crate::call::Call;
+use ocf_types::Part;
 use std::marker::{Model, PhantomData};
 
 /// The bytes that were found in both parts, and each call since, the newest first.
 ///
-/// The program holds nothing of it. So `new` and `note` have no body to speak of, and are proved by hand.
+/// The program holds nothing of it. So its functions have no body to speak of, and are proved by hand.
 #[derive(Drop)]
 pub struct Record {
     nothing: PhantomData<Call>,
@@ -22,7 +23,7 @@ impl Model for Record {
 }
 
 impl Record {
-    ghost use Rattle.file_disk.specs.Record.{Begins, Noted};
+    ghost use Rattle.file_disk.specs.Record.{Begins, Found, Noted};
 
     /// A record that begins with these bytes in part A and in part B.
     pub fn new(_a: &[u8], _b: &[u8]) -> Record
@@ -32,6 +33,11 @@ impl Record {
             nothing: PhantomData,
         }
     }
+
+    /// Adds bytes that were found in a part, behind those that were found there before.
+    pub fn find(&mut self, _part: &Part, _bytes: &[u8])
+        ensures { Found _part.now _bytes.now self.old self.new }
+    {}
 
     /// Adds one call, with the bytes that were read or written.
     pub fn note(&mut self, _call: &Call, _bytes: &[u8])
