@@ -1,7 +1,7 @@
 /* Runs an agent as the leader of a session and process group of its own (POSIX setsid), as soon as its executor has noted its number.
    Descriptor 0 is a pipe from the executor: one byte opens the gate, and the end of the pipe says that the executor is gone, so that nothing
    is run. The agent's arguments, environment and other descriptors are those of this program, and its input is empty. A file that is no
-   program is run by /bin/sh, as execvp does it. The status is 127 if there is no such program, and 126 if it cannot be run.
+   program is run by /bin/sh, as POSIX says of execvp. The status is 127 if there is no such program, and 126 if it cannot be run.
    Use: ocfexec-run-agent PROGRAM [ARGUMENT..] */
 #include <errno.h>
 #include <fcntl.h>
@@ -50,6 +50,11 @@ int main(int count, char **words)
     if (nothing > 0)
         close(nothing);
     execvp(words[1], words + 1);
+    /* (not each C library's execvp does it) */
+    if (errno == ENOEXEC) {
+        words[0] = "/bin/sh";
+        execv(words[0], words);
+    }
     int fault = errno;
     return refuse(fault == ENOENT || fault == ENOTDIR ? 127 : 126, words[1], strerror(fault));
 }
