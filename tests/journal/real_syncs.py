@@ -415,11 +415,15 @@ class RealSyncs(helper.Check):
 
     def test_skips_an_opening(self):
         """a library that skips the syncs of an opening is found"""
-        self.assertEqual(self.breaks_both("opening"), ("directory", "opening"))
+        self.assertEqual(self.breaks_both("opening"), ("opening", "opening"))
+
+    def test_skips_a_directory(self):
+        """a library that skips the sync of the directory in which a journal is made is found"""
+        self.assertEqual(self.breaks("directory", self.begun("new")), "directory")
 
     def test_other(self):
         """a library that syncs the other part is found"""
-        self.assertEqual(self.breaks_both("other"), ("write", "opening"))
+        self.assertEqual(self.breaks_both("other"), ("opening", "opening"))
 
     def test_second(self):
         """a library that makes only the second of two syncs is found"""

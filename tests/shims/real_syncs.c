@@ -140,11 +140,17 @@ static ssize_t device_write(int file, const void *bytes, size_t size, off_t at) 
 
 /* The calls of the program. */
 
+/* Whether a path leads to a part. */
+static int is_part(const char *path) {
+    size_t length = strlen(path);
+    return length > 7 && strncmp(path + length - 7, "/part-", 6) == 0;
+}
+
 /* A sync of the other part, if the file is a part. */
 static int sync_other(const char *call, int file) {
     char path[PATH_MAX];
     size_t last = strlen(strcpy(path, path_of(file))) - 1;
-    if (last < 6 || strncmp(path + last - 6, "/part-", 6) != 0)
+    if (!is_part(path))
         return device_sync(call, file);
     path[last] = path[last] == 'a' ? 'b' : 'a';
     int other = syscall(SYS_openat, AT_FDCWD, path, O_RDWR | O_CLOEXEC), answer = device_sync(call, other);
@@ -152,8 +158,8 @@ static int sync_other(const char *call, int file) {
     return answer;
 }
 
-/* A sync as it is answered. A lie skips every fortieth (skip40), or all of an opening, by fsync (opening), or the first of each two by
-   fdatasync (second); or syncs the other part (other), or repeats one that failed (again). */
+/* A sync as it is answered. A lie skips every fortieth (skip40), or all of an opening, by fsync (opening), or those of what is no part
+   (directory), or the first of each two by fdatasync (second); or syncs the other part (other), or repeats one that failed (again). */
 static int lie(const char *call, int file) {
     static long asked, of_data;
     int is_data = strcmp(call, "fdatasync") == 0;
@@ -161,7 +167,7 @@ static int lie(const char *call, int file) {
     if (strcmp(shim, "other") == 0)
         return sync_other(call, file);
     if ((strcmp(shim, "skip40") == 0 && asked % 40 == 0) || (strcmp(shim, "opening") == 0 && !is_data) ||
-        (strcmp(shim, "second") == 0 && is_data && of_data % 2 == 1))
+        (strcmp(shim, "directory") == 0 && !is_part(path_of(file))) || (strcmp(shim, "second") == 0 && is_data && of_data % 2 == 1))
         return 0;
     int answer = device_sync(call, file);
     return answer < 0 && strcmp(shim, "again") == 0 ? device_sync(call, file) : answer;
