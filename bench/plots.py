@@ -45,7 +45,9 @@ def read(path: str) -> Kept:
                 kept["run"] = {"date": words[0], "cores": int(words[1]), "rounds": int(words[2]), "load": float(words[3])}
             else:
                 system, agent, width, number = words
-                found[kind, system, agent, int(width)].append(float(number))
+                # (the floor with rows, and drains, are in the tables alone)
+                if system in SYSTEMS:
+                    found[kind, system, agent, int(width)].append(float(number))
     if "run" not in kept:
         sys.exit(f"plots.py: {path}: the run has not ended")
     for (kind, system, agent, at_once), values in sorted(found.items()):

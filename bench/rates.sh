@@ -8,7 +8,7 @@
 set -euo pipefail
 cd "$(dirname "$0")/.."
 . tests/lib/apart.sh
-lines='rates: ocf_types ocf_model disk_model gated_slots event_wire exec_state exec_journal ocf_env child_model child_keeper executor anyhow
+lines='rates: ocf_types ocf_model disk_model gated_slots event_wire exec_state exec_journal ocf_env child_model executor test_support anyhow
 index: ocf_types ocf_model recurring anyhow'
 rounds='appends 20 events 20 state-reads 20 state-writes 20 triples 20 openings 1 tidies 4 waiting-turns 20 busy-turns 5
     resting-turns 20 lone-turns 20 due-turns 20 scans 20'
