@@ -24,7 +24,7 @@ pub enum ValueError {
 fn has_no_nul(bytes: &[u8]) -> bool
     ensures { result ≡ list_all (λ b. not (b == 0)) bytes.now }
 {
-    bytes.iter().all(|b| *b != 0)
+    !bytes.contains(&0)
 }
 
 /// The value of an instance parameter: at most 1,024 bytes of UTF-8 without NUL.
