@@ -1,24 +1,32 @@
-//! A disk that lies.
+//! A disk that answers anything, or lies: one type, so that the executor over it is compiled once.
 ghost use Rattle.disk_model.specs.WildDisk.{wild_view};
 
 use disk_model::wild::WildDisk;
 use disk_model::{Disk, DiskFault};
 use ocf_types::Part;
 
-/// A disk that promises nothing: it mostly reads these bytes in part A and none in part B, at times something else, does not
-/// keep what is written, and fails one call in eight.
+/// A disk that promises nothing: it answers anything, does not keep what is written, and fails one call in eight. Where it has bytes it
+/// mostly reads them in part A and none in part B.
 #[derive(Drop)]
 pub struct Liar {
     wild: WildDisk,
-    bytes: Vec<u8>,
+    bytes: Option<Vec<u8>>,
 }
 
 impl Liar {
-    /// A disk whose answers follow only from the seed and the bytes.
+    /// A disk that answers anything, as only the seed says.
+    pub fn wild(seed: u64) -> Liar {
+        Liar {
+            wild: WildDisk::new(seed),
+            bytes: None,
+        }
+    }
+
+    /// A disk that lies about these bytes, as only the seed says.
     pub fn new(seed: u64, bytes: Vec<u8>) -> Liar {
         Liar {
             wild: WildDisk::new(seed),
-            bytes,
+            bytes: Some(bytes),
         }
     }
 }
@@ -30,22 +38,22 @@ impl Disk for Liar {
 
     fn len(&mut self, part: Part) -> Result<u64, DiskFault> {
         let any = self.wild.len(part)?;
-        if any % 32 == 1 {
-            return Ok(any);
-        }
-        Ok(match part {
-            Part::A => any.min(self.bytes.len() as u64),
-            Part::B => 0,
+        Ok(match (&self.bytes, part) {
+            (Some(bytes), Part::A) if any % 32 != 1 => any.min(bytes.len() as u64),
+            (Some(_), Part::B) if any % 32 != 1 => 0,
+            _ => any,
         })
     }
 
     fn read_at(&mut self, part: Part, at: u64, buf: &mut [u8]) -> Result<(), DiskFault> {
         self.wild.read_at(part, at, buf)?;
-        if buf.first() == Some(&1) {
-            return Ok(());
-        }
-        for (byte, kept) in buf.iter_mut().zip(self.bytes.iter().skip(at as usize)) {
-            *byte = *kept;
+        match &self.bytes {
+            Some(bytes) if buf.first() != Some(&1) => {
+                for (byte, kept) in buf.iter_mut().zip(bytes.iter().skip(at as usize)) {
+                    *byte = *kept;
+                }
+            }
+            _ => {}
         }
         Ok(())
     }

@@ -3,14 +3,13 @@ use crate::liar::Liar;
 use crate::parts::FIRST;
 use crate::steps::{Reached, register};
 use disk_model::Disk;
-use disk_model::wild::WildDisk;
 use executor::OpenError;
 use ocf_model::Refusal;
 use std::alloc::Global;
 
 // Registers on a disk that answers anything. Returns whether a fault of the disk was reported, and how many the disk had.
 fn faults(alloc: Global, seed: u64) -> Option<(bool, u64)> {
-    let (reached, disk) = register(alloc, WildDisk::new(seed), "r2")?;
+    let (reached, disk) = register(alloc, Liar::wild(seed), "r2")?;
     let reported = reached == Reached::NotOpened(OpenError::Disk);
     Some((reported, disk.failures()))
 }

@@ -1,13 +1,11 @@
 //! Sessions, and a `show`, over disks, readers and writers that fail.
-use crate::runs::{DRAIN, ended, ended_in, run_over};
+use crate::runs::{DRAIN, ended_in, ended_over, run_over};
+use crate::streams::{Feed, Sheet};
 use child_model::Poll;
 use disk_model::MemDisk;
 use exec_faults::Fault;
-use exec_lines::{LineInput, Patient, ReadAhead};
 use status_report::show;
 use std::alloc::Global;
-use std::io::{self, ErrorKind, Read, Write};
-use std::str::from_utf8;
 
 // A registration, a question, a tidy, a malformed line, a drain, a watch, metadata and a registration.
 const LINES: &[u8] =
@@ -84,42 +82,12 @@ fn a_show_on_a_disk_that_fails_writes_nothing(rt: HostRuntime) {
     assert!(rt; written.is_empty(), "{} bytes were written", written.len());
 }
 
-// Reads these bytes, and then fails. Each read comes after one that was interrupted or would block.
-#[derive(Drop)]
-struct Stumbling {
-    left: &'static [u8],
-    stumbles: bool,
-}
-
-impl Read for Stumbling {
-    fn read(&mut self, buf: &mut [u8]) -> io::Result<usize> {
-        self.stumbles = !self.stumbles;
-        if self.stumbles {
-            let kind = match self.left.len() % 2 {
-                0 => ErrorKind::Interrupted,
-                _ => ErrorKind::WouldBlock,
-            };
-            return Err(io::Error::from(kind));
-        }
-        if self.left.is_empty() {
-            return Err(io::Error::from(ErrorKind::BrokenPipe));
-        }
-        self.left.read(buf)
-    }
-}
-
 // The end of a session whose input, read five bytes at a time, fails after a line and a half; `None` unless the line was answered.
 fn unread(alloc: Global) -> Option<Result<(), Fault>> {
-    let input = Stumbling {
-        left: b"{\"op\":\"list\"}\n{\"op\":\"list\"}",
-        stumbles: false,
-    };
-    let ahead = ReadAhead::new(alloc, 5, Patient::new(input, 0)).ok()?;
-    let mut writer = Vec::new(alloc);
-    let disk = MemDisk::new(alloc);
-    let input = LineInput::new(ahead);
-    let ended = ended(alloc, disk, &[], input, Patient::of(&mut writer))?;
-    (writer.as_slice() == b"{\"ok\":true,\"resources\":[]}\n".as_slice()).then(|| ended)
+    let input = Feed::stumbling(b"{\"op\":\"list\"}\n{\"op\":\"list\"}");
+    let mut output = Sheet::endless(alloc);
+    let ended = ended_over(alloc, input, 5, &mut output)?;
+    (output.text() == "{\"ok\":true,\"resources\":[]}\n").then(|| ended)
 }
 
 #[test]
@@ -127,52 +95,19 @@ fn reads_that_bring_nothing_are_made_again_and_one_that_fails_ends_the_run(rt: H
     assert_eq!(rt; unread(rt.alloc()), Some(Err(Fault::InputOrOutput)));
 }
 
-// Accepts one byte at a time, each after a write that was interrupted.
-#[derive(Drop)]
-struct Sparing {
-    taken: Vec<u8>,
-    stumbles: bool,
-}
-
-impl Write for Sparing {
-    fn write(&mut self, buf: &[u8]) -> io::Result<usize> {
-        self.stumbles = !self.stumbles;
-        if self.stumbles {
-            return Err(io::Error::from(ErrorKind::Interrupted));
-        }
-        self.taken.write(&buf[..buf.len().min(1)])
-    }
-
-    fn flush(&mut self) -> io::Result<()> {
-        Ok(())
-    }
-}
-
 #[test]
 fn writes_that_take_little_are_made_again(rt: HostRuntime) {
     let alloc = rt.alloc();
-    let mut writer = Sparing {
-        taken: Vec::new(alloc),
-        stumbles: false,
-    };
-    let input = LineInput::new(TOGETHER);
-    let disk = MemDisk::new(alloc);
-    let ended = ended(alloc, disk, &[], input, Patient::of(&mut writer));
+    let mut output = Sheet::sparing(alloc);
+    let ended = ended_over(alloc, Feed::even(TOGETHER), TOGETHER.len(), &mut output);
     assert_eq!(rt; ended, Some(Ok(())));
-    assert_eq!(rt; from_utf8(writer.taken.as_slice()), Ok(BOTH_DONE));
+    assert_eq!(rt; output.text(), BOTH_DONE);
 }
 
 // The end of a session whose output accepts this many bytes of two replies of 27 bytes each.
 fn two_replies(alloc: Global, taken: usize) -> Option<Result<(), Fault>> {
-    let mut room = [0u8; 54];
     let lines = b"{\"op\":\"list\"}\n{\"op\":\"list\"}\n";
-    ended_in(
-        alloc,
-        MemDisk::new(alloc),
-        &[],
-        lines,
-        room.get_mut(..taken)?,
-    )
+    ended_in(alloc, MemDisk::new(alloc), &[], lines, taken)
 }
 
 #[test]
@@ -191,7 +126,7 @@ fn a_reply_that_is_not_written_ends_the_run(rt: HostRuntime) {
 fn a_notice_that_is_not_written_ends_the_run(rt: HostRuntime) {
     let (alloc, polls) = (rt.alloc(), [Poll::Signaled(9)]);
     // the output ends after both acceptances, in the notice of the start
-    let ended = ended_in(alloc, MemDisk::new(alloc), &polls, DRAIN, &mut [0; 80]);
+    let ended = ended_in(alloc, MemDisk::new(alloc), &polls, DRAIN, 80);
     assert_eq!(rt; ended, Some(Err(Fault::InputOrOutput)));
 }
 
@@ -199,6 +134,6 @@ fn a_notice_that_is_not_written_ends_the_run(rt: HostRuntime) {
 fn a_reply_that_is_not_written_ends_the_run_also_after_a_disk_fault(rt: HostRuntime) {
     let alloc = rt.alloc();
     // the output ends after the reply that the disk failed
-    let ended = ended_in(alloc, failing_disk(alloc, 1), &[], LINES, &mut [0; 40]);
+    let ended = ended_in(alloc, failing_disk(alloc, 1), &[], LINES, 40);
     assert_eq!(rt; ended, Some(Err(Fault::InputOrOutput)));
 }

@@ -6,3 +6,5 @@
 mod faults;
 #[cfg(test)]
 mod runs;
+#[cfg(test)]
+mod streams;

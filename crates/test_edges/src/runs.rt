@@ -1,18 +1,21 @@
 //! Sessions over whole inputs, with a disk in memory, scripted agent processes and a clock that does not move.
+ghost use Rattle.std.specs.Prelude.{◌≡◌, true, IfSome};
+ghost use Rattle.exec_session.specs.Steps.{IsReportOf};
+
+use crate::streams::{Feed, Sheet};
 use child_model::Poll;
 use disk_model::MemDisk;
 use exec_client::{JsonClient, NoReasons};
 use exec_faults::Fault;
-use exec_lines::{ClockTicker, Input, LineInput, Output, Patient};
+use exec_lines::{ClockTicker, LineInput, Patient, ReadAhead};
 use exec_replies::{NoticeForm, Service};
 use exec_session::{LineRoom, run_lines};
-use executor::Executor;
+use executor::{Executor, Report};
 use session_machine::{EdgeParts, Mode, Rules, SystemEdge};
 use std::alloc::Global;
 use std::collections::VecDeque;
 use std::io;
 use std::rt::Clock;
-use std::str::from_utf8;
 use std::time::Duration;
 use test_support::{NoMetadata, Script, Scripted, nowhere};
 
@@ -57,66 +60,111 @@ fn form_of(mode: Mode) -> NoticeForm<'static> {
     }
 }
 
-/// The end of a session over a journal that is opened at moment 5,000. Its drains make at most three turns.
-pub fn ended<I: Input + Drop, W: Output + Drop>(
-    alloc: Global,
-    disk: MemDisk,
-    polls: &[Poll],
-    input: I,
-    output: W,
-) -> Option<Result<(), Fault>> {
-    let (ended, _disk) = ended_in_way(alloc, Mode::Run, disk, polls, input, output)?;
-    Some(ended)
+// How a session of a test goes: its input comes in reads of at most so many bytes.
+#[derive(Drop)]
+struct Way<'a> {
+    mode: Mode,
+    polls: &'a [Poll],
+    input: Feed<'a>,
+    read_size: usize,
 }
 
-// The end of a session in this mode, and its disk.
-fn ended_in_way<I: Input + Drop, W: Output + Drop>(
+// As much as all input of a test.
+const WHOLE: usize = 4_096;
+
+// An executor over a journal that is opened at moment 5,000, whose agents have these poll results, and the report of its opening.
+fn opened(
     alloc: Global,
-    mode: Mode,
     disk: MemDisk,
     polls: &[Poll],
-    input: I,
-    output: W,
-) -> Option<(Result<(), Fault>, MemDisk)> {
+) -> Option<(Executor<MemDisk, Scripted>, Report)>
+    ensures is_open { IfSome result (λ opened. opened.0.is_open ≡ true) }
+    ensures report { IfSome result (λ opened. IsReportOf opened.0 opened.1) }
+{
     let children = children(alloc, polls)?;
+    Executor::open(alloc, disk, children, nowhere(alloc), 5_000).ok()
+}
+
+// What a session reads and writes, and the buffers of its lines.
+#[derive(Drop)]
+struct Streams<'a> {
+    reader: ReadAhead<Feed<'a>>,
+    room: LineRoom,
+}
+
+// The end of a session of an executor that was just opened, and its disk. Its drains make at most three turns.
+fn ended_on(
+    alloc: Global,
+    mode: Mode,
+    opened: (Executor<MemDisk, Scripted>, Report),
+    streams: Streams<'_>,
+    output: &mut Sheet,
+) -> (Result<(), Fault>, MemDisk)
+    requires is_open { opened.0.is_open ≡ true }
+    requires report { IsReportOf opened.0 opened.1 }
+{
     let rules = Rules {
         mode,
         form: form_of(mode),
         most_turns: 3,
         tidy_at: 0,
     };
-    match Executor::open(alloc, disk, children, nowhere(alloc), 5_000) {
-        Ok((executor, report)) => {
-            let client = JsonClient::new(alloc, output, NoReasons, &executor);
-            let Ok(room) = LineRoom::new(alloc) else {
-                return None;
-            };
-            let parts = EdgeParts {
-                input,
-                client,
-                ticker: ClockTicker::new(Standing),
-                source: &NoMetadata,
-            };
-            let edge = SystemEdge::new(alloc, rules, parts, &executor);
-            let run = run_lines(alloc, edge, (executor, report), room);
-            Some((run.ended, run.store.into_disk()))
-        }
-        Err(_) => None,
-    }
+    let parts = EdgeParts {
+        input: LineInput::new(streams.reader),
+        client: JsonClient::new(alloc, Patient::of(output), NoReasons, &opened.0),
+        ticker: ClockTicker::new(Standing),
+        source: &NoMetadata,
+    };
+    let edge = SystemEdge::new(alloc, rules, parts, &opened.0);
+    let run = run_lines(alloc, edge, opened, streams.room);
+    (run.ended, run.store.into_disk())
+}
+
+// The end of a session in this way, and its disk.
+fn ended_in_way(
+    alloc: Global,
+    disk: MemDisk,
+    way: Way<'_>,
+    output: &mut Sheet,
+) -> Option<(Result<(), Fault>, MemDisk)> {
+    let size = way.read_size.clamp(1, WHOLE);
+    let streams = Streams {
+        reader: ReadAhead::new(alloc, size, Patient::of(way.input)).ok()?,
+        room: LineRoom::new(alloc).ok()?,
+    };
+    let opened = opened(alloc, disk, way.polls)?;
+    Some(ended_on(alloc, way.mode, opened, streams, output))
+}
+
+/// The end of a session whose input comes in reads of at most so many bytes.
+pub fn ended_over(
+    alloc: Global,
+    input: Feed<'_>,
+    read_size: usize,
+    output: &mut Sheet,
+) -> Option<Result<(), Fault>> {
+    let way = Way {
+        mode: Mode::Run,
+        polls: &[],
+        input,
+        read_size,
+    };
+    let (ended, _disk) = ended_in_way(alloc, MemDisk::new(alloc), way, output)?;
+    Some(ended)
 }
 
 /// The end of a session, and its output.
 #[derive(Drop)]
 pub struct Answered {
     pub ended: Result<(), Fault>,
-    written: Vec<u8>,
+    output: Sheet,
     disk: MemDisk,
 }
 
 impl Answered {
     /// The output, as text.
     pub fn text(&self) -> &str {
-        from_utf8(self.written.as_slice()).unwrap_or("no text")
+        self.output.text()
     }
 }
 
@@ -127,18 +175,17 @@ fn run_in_way(
     polls: &[Poll],
     lines: &[u8],
 ) -> Option<Answered> {
-    let mut written = Vec::new(alloc);
-    let (ended, disk) = ended_in_way(
-        alloc,
+    let way = Way {
         mode,
-        disk,
         polls,
-        LineInput::new(lines),
-        Patient::of(&mut written),
-    )?;
+        input: Feed::even(lines),
+        read_size: WHOLE,
+    };
+    let mut output = Sheet::endless(alloc);
+    let (ended, disk) = ended_in_way(alloc, disk, way, &mut output)?;
     Some(Answered {
         ended,
-        written,
+        output,
         disk,
     })
 }
@@ -148,15 +195,22 @@ pub fn run_over(alloc: Global, disk: MemDisk, polls: &[Poll], lines: &[u8]) -> O
     run_in_way(alloc, Mode::Run, disk, polls, lines)
 }
 
-/// The end of a session over these lines whose output accepts only as many bytes as this buffer has.
+/// The end of a session over these lines whose output accepts only so many bytes.
 pub fn ended_in(
     alloc: Global,
     disk: MemDisk,
     polls: &[Poll],
     lines: &[u8],
-    room: &mut [u8],
+    room: usize,
 ) -> Option<Result<(), Fault>> {
-    ended(alloc, disk, polls, LineInput::new(lines), Patient::of(room))
+    let way = Way {
+        mode: Mode::Run,
+        polls,
+        input: Feed::even(lines),
+        read_size: WHOLE,
+    };
+    let (ended, _disk) = ended_in_way(alloc, disk, way, &mut Sheet::of(alloc, room))?;
+    Some(ended)
 }
 
 /// Registers r1, starts it, and drains.
