@@ -25,7 +25,7 @@ GROUPS = [
     ("device", "The calls about the journal's files are those that are noted, on these files and no others, and their answers",
      r"crates/file_disk/"),
     ("processes", "The calls about processes are those that are noted, and their answers mean what is said", 
-     r"crates/(process_ends|agent_system|proc_files)/|launcher/"),
+     r"crates/(host_system|agent_system|proc_files)/|launcher/"),
     ("agents", "The record of the agents that run is in this file", r"crates/agents_file/|crates/ocfexec/src/moment"),
     ("session", "The calls about a session's input, output and clock are those that are noted, and their answers", r"crates/exec_lines/"),
     ("program", "What the program requests of the system is done, and nothing else", r"crates/ocfexec/"),
@@ -75,9 +75,9 @@ UNMARKED = {
     "crates/proc_files/src/read.rt": {
         "read_head": "the files of a process are as proc(5) describes them.",
         "pids": "these are the processes that can be seen."},
-    "crates/process_ends/src/programs.rt": {"may_run": "access(2) says whether this process may run the file."},
-    "crates/process_ends/src/ready.rt": {"met": "these are the events that poll(2) gave for this descriptor."},
-    "crates/process_ends/src/system.rt": {
+    "crates/host_system/src/programs.rt": {"may_run": "access(2) says whether this process may run the file."},
+    "crates/host_system/src/ready.rt": {"met": "these are the events that poll(2) gave for this descriptor."},
+    "crates/host_system/src/system.rt": {
         "ask": "the shell gets this line, once more where it was gone or stuck.",
         "monotonic": "the clocks are the system's."},
     "launcher/run_agent.c": {"main": "the agent runs in a session of its own, and only once the byte came."},

@@ -16,7 +16,7 @@ EDGE = ["ocfexec", "exec_lines"]
 OLD = (1, "docs/TRUSTED.txt is old: tools/trusted.py writes it\n")
 # The file with the calls about agents' processes, and the calls of the library that spawn, poll and signal processes; the shell that sends
 # signals is a process of its own.
-AGENTS, SHELL = "crates/process_ends/src/system_agents.rt", ["crates/process_ends/src/killer.rt", "crates/process_ends/src/patience.rt"]
+AGENTS, SHELL = "crates/host_system/src/system_agents.rt", ["crates/host_system/src/killer.rt", "crates/pauses/src/pauses.rt"]
 PROCESS_CALL = re.compile(r"\.(?:spawn\(rt\)|try_wait\(\)|kill\(\)|output\(rt\))")
 
 

@@ -11,7 +11,7 @@ use crate::meta_child::{MetaCall, MetaChild, MetaPoll};
 use agent_system::AgentSystem;
 use growth::Grows;
 use ocf_types::MetaFault;
-use process_ends::Pauses;
+use pauses::Pauses;
 use std::alloc::Allocator;
 use std::io::Eprint;
 use std::rt::Clock;

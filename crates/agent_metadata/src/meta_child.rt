@@ -18,7 +18,7 @@ use child_model::Poll;
 use growth::{Grows, Refused};
 use ocf_env::{Invocation, Site, launch_meta};
 use ocf_types::{AgentType, MetaFault, Provider, RscId, RunId, StartFault};
-use process_ends::{Deadline, Pauses};
+use pauses::{Deadline, Pauses};
 use std::alloc::Allocator;
 use std::io::{self, Eprint, Read};
 use std::process::{ExitStatus, Stdio};

@@ -1,6 +1,6 @@
 //! The signals that were ignored when the program started.
+use host_system::System;
 use proc_files::{is_ignored, read_head};
-use process_ends::System;
 use std::alloc::{AllocError, Global};
 use std::io::Eprint;
 

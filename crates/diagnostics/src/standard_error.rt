@@ -2,7 +2,7 @@
 //! person reads that, at a terminal or in the system's journal, a line with advice follows, and one with the cause where the first
 //! line has none.
 use exec_faults::Fault;
-use process_ends::System;
+use host_system::System;
 use std::fmt::Display;
 use std::io::{Eprint, IsTerminal};
 use std::os::unix::fs::MetadataExt;

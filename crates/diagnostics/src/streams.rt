@@ -2,7 +2,7 @@
 use crate::standard_error::{advise, explain, name};
 use exec_faults::Fault;
 use exec_lines::{Output, Patient};
-use process_ends::System;
+use host_system::System;
 use std::cell::Cell;
 use std::io::{self, ErrorKind, Read, Write};
 

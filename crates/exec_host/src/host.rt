@@ -2,7 +2,7 @@
 ghost use Rattle.std.specs.Prelude.{◌≡◌, ◌≤◌, ◌<◌, ◌||◌, ℕ, [], true, is_some, option_map, IfErr, IfOk, IsTrue, OnErr, OnOk, None, Some};
 ghost use Rattle.exec_replies.specs.JournalIds.{id_digits};
 ghost use Rattle.exec_faults.specs.Faults.{IsRunEnd};
-ghost use Rattle.journal_directory.specs.Ends.{IsDirectoryEnd, IsNotOpened};
+ghost use Rattle.journal_files.specs.Ends.{IsDirectoryEnd, IsNotOpened};
 ghost use Rattle.exec_host.specs.Asked.{AreFresh, Asked};
 ghost use Rattle.exec_host.specs.Requests.{Request, AskIdentity, AskSite, MakeAgents, OpenFiles, OpenLog, OpenReader, OpenWriter, PrintText, RunOnce, ShowJournal, StartClock, WatchPaths, WriteLine};
 ghost use Rattle.exec_host.specs.Places.{at_agents, at_check, at_close, at_files, at_identity, at_leave, at_line, at_log, at_moment, at_once, at_print, at_reader, at_source, at_ticker, at_view, at_watch, at_writer};

@@ -11,7 +11,7 @@ use agent_metadata::{ask_agent, end_one};
 use agent_system::{AgentSystem, How, Leading, Whose};
 use ocf_env::{Invocation, Site};
 use ocf_types::RunId;
-use process_ends::{Deadline, Pauses};
+use pauses::{Deadline, Pauses};
 use std::alloc::{Allocator, Global};
 use std::io::{self, Eprint};
 use std::process::Stdio;

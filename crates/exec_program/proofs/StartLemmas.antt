@@ -12,7 +12,7 @@ use Rattle.exec_options.specs.declared.options.Options.{Options}
 use Rattle.exec_faults.specs.Faults.{HasCause, IsRunEnd}
 use Rattle.exec_faults.specs.declared.fault.Fault.{Fault}
 use Rattle.exec_faults.specs.declared.fault.Fault.TheVariants as fault
-use Rattle.journal_directory.specs.Ends.{IsDirectoryEnd}
+use Rattle.journal_files.specs.Ends.{IsDirectoryEnd}
 use Rattle.exec_program.specs.Starts.{EndsFor, IsEndOf, IsWrittenAs, StartEndsFor, opening_fault, with_status}
 
 -- neither does one that ended as sessions do

@@ -11,7 +11,7 @@ use Rattle.exec_faults.specs.declared.fault.Fault.{Fault}
 use Rattle.exec_faults.specs.declared.fault.Fault.TheVariants as fault
 use Rattle.executor.specs.declared.opening.OpenError.{OpenError}
 use Rattle.executor.specs.declared.opening.OpenError.TheVariants as opening
-use Rattle.journal_directory.specs.Ends.{IsDirectoryEnd}
+use Rattle.journal_files.specs.Ends.{IsDirectoryEnd}
 
 -- the exit status: the one that was asked for, or that of the fault
 abbrev pub status_of_end : Result ℕ Fault → ℕ

@@ -3,7 +3,7 @@ use Rattle.std.proofs.Common.{inl, inr, ap, ⊎_elim, ◌⊎◌, Result, Err, su
 use Rattle.exec_faults.specs.Faults.{IsRunEnd}
 use Rattle.exec_faults.specs.declared.fault.Fault.{Fault}
 use Rattle.exec_faults.specs.declared.fault.Fault.TheVariants as fault
-use Rattle.journal_directory.specs.Ends.{IsDirectoryEnd}
+use Rattle.journal_files.specs.Ends.{IsDirectoryEnd}
 
 -- the ends with a journal that was opened, with one that was not, and with a directory that holds none
 pub opened_ends : {T : Type 0} (r : Result T Fault) → IsRunEnd r → IsDirectoryEnd r

@@ -1,3 +1,1 @@
-pub mod Emptied
-pub mod Ends
 pub mod Waits

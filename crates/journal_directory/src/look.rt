@@ -1,11 +1,11 @@
 //! The moment and the options of a status.
-use crate::files::has_executor;
 use crate::screen::{has_colours, width_of};
 use agents_file::{monotonic_now, read_agents};
 use exec_lines::moment_now;
 use exec_options::{JournalLocation, Options};
+use journal_files::has_executor;
 use ocf_types::Moment;
-use status_report::StatusOptions;
+use status_table::StatusOptions;
 
 // The moment now by the clock of the executor that last opened the journal in this directory; `None` if that was before the last boot.
 fn executor_moment(rt: &HostRuntime, directory: &str) -> Option<Moment> {

@@ -1,7 +1,6 @@
 //! Prints what a journal holds as metrics.
 ghost use Rattle.exec_faults.specs.Faults.{IsRunEnd};
 
-use crate::files::has_executor;
 use crate::look::moment_of;
 use crate::waits::waits_in;
 use agents_file::read_agents;
@@ -10,9 +9,10 @@ use exec_faults::Fault;
 use exec_journal::Journal;
 use exec_metrics::{Seen, executor_metrics, metrics};
 use exec_options::{JournalLocation, Options};
+use host_system::System;
+use journal_files::has_executor;
 use ocf_model::StateView;
 use ocf_types::{Moment, RscId};
-use process_ends::System;
 use std::alloc::Global;
 use std::io::Write;
 

@@ -1,7 +1,6 @@
 //! A resource of a journal, whose agent and parameters an action that is run once takes.
 ghost use Rattle.std.specs.Prelude.{◌<◌, IfSome, length};
 
-use crate::files::{FaultForm, disk_or_fault, has_executor};
 use crate::show::read_whole;
 use crate::waits::goes_on_of;
 use disk_model::Disk;
@@ -9,9 +8,10 @@ use exec_faults::Fault;
 use exec_journal::Journal;
 use exec_state::State;
 use file_disk::RamDisk;
+use host_system::System;
+use journal_files::{FaultForm, disk_or_fault, has_executor};
 use ocf_model::StateView;
 use ocf_types::{AgentType, Params, Part, Provider, RscId};
-use process_ends::System;
 
 // How often the files are read before a journal is reported as damaged: another program may be writing them.
 const LOOKS: usize = 4;

@@ -1,9 +1,7 @@
 //! Prints a journal.
 ghost use Rattle.exec_faults.specs.Faults.{IsRunEnd};
-ghost use Rattle.journal_directory.specs.Ends.{IsDirectoryEnd, IsNotFound};
+ghost use Rattle.journal_files.specs.Ends.{IsDirectoryEnd, IsNotFound};
 
-use crate::emptied::not_emptied;
-use crate::files::{FaultForm, disk_or_fault, report_failed_device};
 use crate::follow::follow_files;
 use crate::log::show_log;
 use crate::metrics::metrics_to;
@@ -14,8 +12,9 @@ use disk_model::Disk;
 use exec_faults::Fault;
 use exec_options::{Options, Subcommand};
 use file_disk::{OpenFault, RamDisk, ReportsError, read_parts, refuse_emptied};
+use host_system::System;
+use journal_files::{FaultForm, disk_or_fault, not_emptied, report_failed_device};
 use ocf_types::Part;
-use process_ends::System;
 use status_report::show;
 use std::io::{self, Write};
 

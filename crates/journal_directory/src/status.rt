@@ -1,16 +1,18 @@
 //! Prints the status of the resources of a journal.
 ghost use Rattle.exec_faults.specs.Faults.{IsRunEnd};
 
-use crate::identity::identity_of;
 use crate::look::status_options;
-use crate::reasons::{FoundReason, as_reasons, reasons_in};
 use crate::waits::{as_remarks, waits_in};
 use disk_model::Disk;
 use exec_faults::Fault;
 use exec_options::{JournalLocation, Options};
 use exec_replies::JournalId;
-use process_ends::System;
-use status_report::{StatusOptions, failed, status};
+use failure_reasons::{FoundReason, reasons_in};
+use host_system::System;
+use journal_files::identity_of;
+use status_report::{failed, status};
+use status_table::{Remark, StatusOptions};
+use std::alloc::{AllocError, Global};
 use std::io::Write;
 
 // The reasons in the logs for the failures of the resources that are asked for, if the options name a directory of logs. There
@@ -37,6 +39,18 @@ fn reasons_for<D: Disk + Drop>(
         Ok(found) => (disk, found),
         Err(_) => (disk, Vec::new(alloc)),
     }
+}
+
+// The reasons as a status takes them.
+fn as_reasons<'a>(alloc: Global, found: &'a [FoundReason]) -> Result<Vec<Remark<'a>>, AllocError> {
+    let mut reasons = Vec::new(alloc);
+    for reason in found {
+        reasons.push(Remark {
+            id: reason.id(),
+            text: reason.text(),
+        })?;
+    }
+    Ok(reasons)
 }
 
 // The identity of the journal at this place.

@@ -13,7 +13,7 @@ use line_text::LineText;
 use ocf_model::StateView;
 use ocf_types::{RscId, RunId};
 use proc_files::{ProcFiles, Process};
-use status_report::Remark;
+use status_table::Remark;
 use std::alloc::{AllocError, Global};
 use std::io;
 use std::str::from_utf8;

@@ -1,11 +1,11 @@
 //! Prints a status again and again.
-ghost use Rattle.journal_directory.specs.Ends.{IsDirectoryEnd};
+ghost use Rattle.journal_files.specs.Ends.{IsDirectoryEnd};
 
 use crate::screen::can_redraw;
 use crate::show::show_now;
 use exec_faults::Fault;
 use exec_options::Options;
-use process_ends::System;
+use host_system::System;
 use std::io::{self, Write};
 use std::thread::sleep;
 use std::time::Duration;

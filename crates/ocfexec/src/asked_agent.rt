@@ -3,12 +3,12 @@ ghost use Rattle.std.specs.Prelude.{◌≤◌, length, IfOk};
 ghost use Rattle.agent_metadata.specs.Asking.{IsAlone};
 ghost use Rattle.agent_metadata.specs.MetaChildren.{asked_process};
 ghost use Rattle.ocf_types.specs.Limits.{metadata_limit};
-ghost use Rattle.process_ends.specs.SystemAgents.{child_process};
+ghost use Rattle.host_system.specs.SystemAgents.{child_process};
 
 use agent_metadata::{MetaCall, MetaChild, MetaPoll};
+use host_system::{System, SystemAgents};
 use ocf_env::Site;
 use ocf_types::{AgentType, MetaFault, Provider};
-use process_ends::{System, SystemAgents};
 use std::alloc::Global;
 
 /// The agent of a provider and a type, which is asked for its metadata and has not answered yet, by a handle of the system of its own. It

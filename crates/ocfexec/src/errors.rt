@@ -1,5 +1,5 @@
 //! Standard error, to which the lines of results are written.
-use process_ends::System;
+use host_system::System;
 use std::io::{self, Eprint, Write};
 use std::str;
 

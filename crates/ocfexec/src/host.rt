@@ -23,13 +23,13 @@ use exec_options::{OnceOptions, Options};
 use exec_replies::JournalId;
 use file_disk::{FileDisk, FileError, JournalPaths, RamDisk};
 use growth::Refused;
-use journal_directory::{
-    FaultForm, disk_or_fault, not_emptied, open_files, report_device, settled_identity, show_disk,
-    show_files,
+use host_system::{System, SystemAgents};
+use journal_directory::{show_disk, show_files};
+use journal_files::{
+    FaultForm, disk_or_fault, not_emptied, open_files, report_device, settled_identity,
 };
 use ocf_env::Site;
 use ocf_types::{Moment, Orphan};
-use process_ends::{System, SystemAgents};
 use std::alloc::{AllocError, Global};
 use std::io::{self, Eprint};
 use std::rt::{Stdin, Stdout};

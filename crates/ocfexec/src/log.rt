@@ -5,7 +5,7 @@ use child_keeper::{Log, LogDirectory};
 use diagnostics::report_cause;
 use exec_faults::Fault;
 use file_disk::OWNER_ONLY;
-use process_ends::System;
+use host_system::System;
 use std::fs::{self, OpenOptions};
 use std::io::{self, Eprint, ErrorKind};
 use std::os::unix::fs::{FileTypeExt, OpenOptionsExt};

@@ -28,7 +28,7 @@ use exec_host::Host;
 use exec_program::program;
 use growth::Grows;
 use host::SystemHost;
-use process_ends::System;
+use host_system::System;
 use stack::grow_stack;
 use std::alloc::Global;
 use std::mem;

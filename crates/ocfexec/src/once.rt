@@ -8,9 +8,9 @@ use exec_once::{
     run_once,
 };
 use exec_options::{JournalResource, NamedAgent, OnceOptions, OnceTarget};
+use host_system::{System, SystemAgents};
 use journal_directory::registered;
 use ocf_env::Site;
-use process_ends::{System, SystemAgents};
 use std::alloc::Global;
 use std::io::Eprint;
 

@@ -1,7 +1,7 @@
 //! The reasons that agents write to their logs.
 use exec_client::{FailedRun, Reasons};
+use failure_reasons::{reason_in_directory, reason_in_file};
 use growth::{push, text_of};
-use journal_directory::{reason_in_directory, reason_in_file};
 use ocf_env::Text;
 use std::alloc::Global;
 use std::cell::RefCell;

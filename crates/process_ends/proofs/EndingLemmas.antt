@@ -1,19 +1,18 @@
 -- What stays true while what was given up is ended.
-use Rattle.std.specs.Prelude.{◌≡◌, ◌⊎◌, ℕ, Bool, true, false, List, [], ◌∷◌, ◌++◌, Option, Some, None, Result, Ok, Err, All, Contains, IfSome, cond, nat_eq}
+use Rattle.std.specs.Prelude.{◌≡◌, ◌⊎◌, ℕ, Bool, true, false, List, [], ◌∷◌, ◌++◌, Option, Some, None, Result, Ok, Err, All}
 use Rattle.std.specs.declared.io.Error.{Error}
 use Rattle.std.specs.declared.process.ExitStatus.{ExitStatus}
 use Rattle.std.proofs.Common.{ap, append-nil, append_assoc, inl, inr, refl, subst, sym, ◌∙◌}
-use Rattle.std.proofs.lemmas.List.Elements.{Contains-append_left, Contains-append_right, Contains-push}
-use Rattle.agent_system.specs.Sights.{GivenUp, IsOther, Lives, Look, Sights}
-use Rattle.agent_system.specs.SystemView.{Sent, SystemView, after_give_up, after_keep, after_list, after_look, after_members, after_reap, after_release, after_send, answer_of}
+use Rattle.std.proofs.lemmas.List.Elements.{Contains-append_left, Contains-append_right}
+use Rattle.agent_system.specs.Sights.{GivenUp}
+use Rattle.agent_system.specs.SystemView.{SystemView, after_give_up, after_keep, after_list, after_look, after_members, after_reap, after_release, after_send, answer_of}
 use Rattle.agent_system.specs.declared.agent_process.AgentProcess.{AgentProcess}
 use Rattle.agent_system.specs.declared.signal.Signal.{Signal}
-use Rattle.agent_system.specs.declared.signal.Signal.TheVariants.{Kill}
 use Rattle.agent_system.specs.declared.signal.Target.{Target}
 use Rattle.agent_system.specs.declared.signal.Target.TheVariants as target
 use Rattle.process_ends.specs.declared.given_up.GivenUpAction.{GivenUpAction}
 use Rattle.proc_files.specs.declared.process.Process.{Process}
-use Rattle.process_ends.specs.Endings.{AreSameActions, Begins, HasKill, HasKilled, HasLook, IsKilled, IsKilledBeside, IsNoGroup, IsOneKilled, IsOwnGroup, IsSameAction, IsSeenGone, IsSeenOther, OnlyEnds, OnlySignals}
+use Rattle.process_ends.specs.Endings.{AreSameActions, Begins, HasKill, HasKilled, HasLook, IsKilled, IsKilledBeside, IsNoGroup, IsOneKilled, IsSameAction, IsSeenGone, OnlyEnds, OnlySignals}
 
 -- a list begins with itself
 pub begins_refl : {X : Type 0} (xs : List X) → Begins xs xs

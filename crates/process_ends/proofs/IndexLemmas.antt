@@ -1,5 +1,5 @@
 -- What was given up, and actions, by their index.
-use Rattle.std.specs.Prelude.{true, ◌≡◌, ◌+◌, ◌<◌, ◌≤◌, ℕ, zero, suc, List, [], ◌∷◌, ◌++◌, Option, Some, None, All, Contains, IfSome, Vec, is_some, length, map, take, slice_get, slice_index_or, slice_set}
+use Rattle.std.specs.Prelude.{true, ◌≡◌, ◌+◌, ◌<◌, ◌≤◌, ℕ, zero, suc, List, [], ◌∷◌, ◌++◌, Some, None, All, Contains, IfSome, Vec, is_some, length, map, take, slice_get, slice_index_or, slice_set}
 use Rattle.std.proofs.Common.{add-one, ap, arith, refl, subst, sym, take_all, ◌∙◌}
 use Rattle.std.proofs.lemmas.Option.{get_or_from_slice_get, slice_get_within}
 use Rattle.std.proofs.Math.Seq.{map-set_same, take-suc-set}

@@ -2,4 +2,3 @@ pub mod BelongingLemmas
 pub mod EndingLemmas
 pub mod IndexLemmas
 pub mod OverLemmas
-mod SystemLemmas

@@ -1,15 +1,13 @@
 -- When what was given up is over.
-use Rattle.std.specs.Prelude.{◌≡◌, ◌≢◌, ◌⊎◌, ◌==◌, ◌<◌, ◌+◌, ℕ, Bool, true, false, List, [], ◌∷◌, ◌++◌, Option, Some, None, Result, Ok, Err, OnOk, All, Contains, IsTrue, cond, get_or, is_some, length, nat_eq, not, take}
+use Rattle.std.specs.Prelude.{◌≡◌, ◌⊎◌, ◌==◌, ◌<◌, ◌+◌, ℕ, Bool, true, false, List, [], ◌∷◌, Option, Some, None, Result, Ok, Err, OnOk, All, Contains, cond, get_or, is_some, length, not, take}
 use Rattle.std.specs.List.{list_any}
-use Rattle.std.specs.declared.io.Error.{Error}
 use Rattle.std.proofs.Common.{ap, arith, eq-eqb, inl, inr, refl, subst, sym, ◌∙◌}
 use Rattle.std.proofs.lemmas.Bool.{eqb-true}
 use Rattle.std.proofs.lemmas.List.Elements.{All-more, All-take, Contains-get_or}
-use Rattle.agent_system.specs.May.{AreAll, HasNoMember, IsEnded, IsGroupEmpty, IsOver, agents_in, groups_in, is_other}
+use Rattle.agent_system.specs.May.{AreAll, HasNoMember, IsEnded, IsGroupEmpty, IsOver, groups_in, is_other}
 use Rattle.agent_system.specs.Sights.{GivenUp, HasEnded, Look, Sights, latest}
-use Rattle.agent_system.specs.SystemView.{SystemView, after_list, after_look, after_members, answer_of}
-use Rattle.agent_system.specs.declared.agent_process.AgentProcess.{AgentProcess}
-use Rattle.proc_files.specs.Belongings.{Belongs, IsRoot, root}
+use Rattle.agent_system.specs.SystemView.{SystemView, after_members, answer_of}
+use Rattle.proc_files.specs.Belongings.{root}
 use Rattle.proc_files.specs.declared.process.Process.{Process}
 use Rattle.process_ends.specs.Endings.{AreEnded, IsEndAsked, IsGroupOver, IsSearched, given_up_of}
 use Rattle.process_ends.specs.declared.given_up.GivenUpAction.{GivenUpAction}

@@ -1,5 +1,5 @@
 -- The ends of actions that were given up, with all that belongs to them.
-use Rattle.std.specs.Prelude.{◌≡◌, ◌⊎◌, ◌↔◌, ℕ, Bool, true, false, List, [], ◌++◌, Option, Some, None, Result, All, Contains, IfSome, IsTrue, is_some, map, slice_get, slice_set}
+use Rattle.std.specs.Prelude.{◌≡◌, ◌⊎◌, ◌↔◌, ℕ, Bool, true, false, List, [], ◌++◌, Option, Some, Result, All, Contains, IfSome, IsTrue, is_some, map, slice_get, slice_set}
 use Rattle.std.specs.declared.io.Error.{Error}
 use Rattle.agent_system.specs.May.{AreAll, IsEnded, IsGroupEmpty, IsItsGroup}
 use Rattle.agent_system.specs.Sights.{GivenUp, HasEnded, IsOther, Lives, Look, Sights, latest}

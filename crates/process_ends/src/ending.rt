@@ -6,10 +6,10 @@ ghost use Rattle.process_ends.specs.Endings.{AllDue, AreGivenUp, AreSameActions,
 
 use crate::given_up::GivenUpAction;
 use crate::kill::{kill_all, lives_now, stop_groups};
-use crate::patience::Pauses;
 use crate::report::{report_alive, report_all, report_unstopped};
 use crate::search::search;
 use agent_system::AgentSystem;
+use pauses::Pauses;
 use proc_files::Process;
 use std::alloc::Allocator;
 use std::io::{self, Eprint};

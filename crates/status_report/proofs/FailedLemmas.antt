@@ -6,7 +6,7 @@ use Rattle.std.specs.List.{flat_map}
 use Rattle.ocf_model.specs.Indexes.{entry_at, no_entry}
 use Rattle.ocf_model.specs.State.{State}
 use Rattle.status_report.specs.Failed.{failed_id}
-use Rattle.status_report.specs.declared.options.StatusOptions.{StatusOptions}
+use Rattle.status_table.specs.declared.options.StatusOptions.{StatusOptions}
 
 pub id_more : (options : StatusOptions) (s : State) (i : ℕ) (now : List (List ℕ)) → i < length s.resources
     → now ≡ flat_map (failed_id options) (take i s.resources)

@@ -1,6 +1,5 @@
 pub mod EndingLemmas
 pub mod FailedLemmas
-pub mod RowLemmas
 pub mod StatusLineLemmas
 pub mod TextLemmas
 pub mod WrittenLemmas

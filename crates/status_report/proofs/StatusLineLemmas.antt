@@ -5,10 +5,10 @@ use Rattle.serde_json.specs.Written.{has_float}
 use Rattle.ocf_types.specs.declared.operation.Running.{Running}
 use Rattle.resource_status.specs.declared.condition.Since.{Since}
 use Rattle.resource_status.proofs.StatusLemmas.{failure_no_float, reason_no_float}
-use Rattle.status_report.specs.Remarks.{reason_of, wait_of}
+use Rattle.status_table.specs.Remarks.{reason_of, wait_of}
 use Rattle.status_report.specs.StatusLines.{executor_data, running_data, since_data, status_data}
-use Rattle.status_report.specs.declared.options.StatusOptions.{StatusOptions}
-use Rattle.status_report.specs.declared.rows.Row.{Row}
+use Rattle.status_table.specs.declared.options.StatusOptions.{StatusOptions}
+use Rattle.status_table.specs.declared.rows.Row.{Row}
 
 running_no_float : (r : Option Running) → has_float (running_data r) ≡ false
 running_no_float None = refl

@@ -15,10 +15,10 @@ use Rattle.exec_faults.specs.Faults.{IsRunEnd, opening_fault}
 use Rattle.exec_faults.specs.declared.fault.Fault.{Fault}
 use Rattle.exec_faults.specs.declared.fault.Fault.TheVariants as fault
 use Rattle.status_report.specs.Endings.{EndsWith, IsWritten, WritesAs}
-use Rattle.status_report.specs.Rows.{is_any_bad, is_left, rows_of}
+use Rattle.status_table.specs.Rows.{is_any_bad, is_left, rows_of}
 use Rattle.status_report.specs.StatusLines.{IsLinesOf, prefix_lines, status_lines}
-use Rattle.status_report.specs.declared.options.StatusOptions.{StatusOptions}
-use Rattle.status_report.specs.declared.rows.Row.{Row}
+use Rattle.status_table.specs.declared.options.StatusOptions.{StatusOptions}
+use Rattle.status_table.specs.declared.rows.Row.{Row}
 
 abbrev Ended : Type 0
 Ended = Result (Unit {0}) Fault

@@ -12,10 +12,10 @@ use Rattle.journal_log.specs.RecordedOn.{HasRecorded}
 use Rattle.resource_status.specs.declared.condition.Recorded.{Recorded}
 use Rattle.exec_faults.specs.declared.fault.Fault.{Fault}
 use Rattle.exec_faults.specs.declared.fault.Fault.TheVariants as fault
-use Rattle.status_report.specs.Rows.{is_any_bad, is_left, rows_of}
+use Rattle.status_table.specs.Rows.{is_any_bad, is_left, rows_of}
 use Rattle.status_report.specs.StatusLines.{IsText}
-use Rattle.status_report.specs.declared.options.StatusOptions.{StatusOptions}
-use Rattle.status_report.specs.declared.rows.Row.{Row}
+use Rattle.status_table.specs.declared.options.StatusOptions.{StatusOptions}
+use Rattle.status_table.specs.declared.rows.Row.{Row}
 
 -- a resource with this id is registered
 abbrev pub IsRegistered : State → List ℕ → Type 0

@@ -6,8 +6,8 @@ use Rattle.ocf_model.specs.Resource.{Resource}
 use Rattle.ocf_model.specs.State.{State}
 use Rattle.disk_model.specs.Image.{Image}
 use Rattle.exec_journal.specs.Found.{FoundAs}
-use Rattle.status_report.specs.Rows.{is_asked_for}
-use Rattle.status_report.specs.declared.options.StatusOptions.{StatusOptions}
+use Rattle.status_table.specs.Rows.{is_asked_for}
+use Rattle.status_table.specs.declared.options.StatusOptions.{StatusOptions}
 
 -- the id of a resource, if it is asked for and has a failed action
 abbrev pub failed_id : StatusOptions → List ℕ × Resource → List (List ℕ)

@@ -11,10 +11,10 @@ use Rattle.exec_replies.specs.Objects.{natural_data, object_from}
 use Rattle.resource_status.specs.Conditions.{condition_word}
 use Rattle.resource_status.specs.Statuses.{failure_data, reason_data}
 use Rattle.resource_status.specs.declared.condition.Since.{Since}
-use Rattle.status_report.specs.Remarks.{reason_of, wait_of}
+use Rattle.status_table.specs.Remarks.{reason_of, wait_of}
 use Rattle.status_report.specs.Shown.{resource_lines, shown}
-use Rattle.status_report.specs.declared.options.StatusOptions.{StatusOptions}
-use Rattle.status_report.specs.declared.rows.Row.{Row}
+use Rattle.status_table.specs.declared.options.StatusOptions.{StatusOptions}
+use Rattle.status_table.specs.declared.rows.Row.{Row}
 
 -- the action that runs, since when, and after how long it is killed
 abbrev pub running_data : Option Running → Data

@@ -2,13 +2,12 @@
 ghost use Rattle.std.specs.Prelude.{◌≡◌, ◌<◌, false, length, true, IfNone, IfSome, Some};
 ghost use Rattle.ocf_model.specs.Indexes.{id_at};
 ghost use Rattle.status_report.specs.Endings.{AllRegistered, IsMissed, IsRegistered, end_of};
-ghost use Rattle.status_report.specs.Rows.{is_any_bad};
+ghost use Rattle.status_table.specs.Rows.{is_any_bad};
 
-use crate::options::StatusOptions;
-use crate::rows::Row;
 use exec_faults::Fault;
 use exec_state::State;
 use ocf_model::StateView;
+use status_table::{Row, StatusOptions};
 
 // The index of the resource with this id.
 fn index_of(state: &State, id: &str) -> Option<usize>

@@ -5,7 +5,6 @@ ghost use Rattle.ocf_model.specs.Indexes.{entry_at};
 ghost use Rattle.exec_faults.specs.Faults.{HasCause};
 ghost use Rattle.status_report.specs.Failed.{AreFailed, failed_id, failed_ids};
 
-use crate::options::StatusOptions;
 use disk_model::Disk;
 use exec_faults::Fault;
 use exec_journal::Journal;
@@ -13,6 +12,7 @@ use exec_state::State;
 use growth::{Grows, Refused, push};
 use ocf_model::StateView;
 use ocf_types::RscId;
+use status_table::StatusOptions;
 use std::alloc::Global;
 
 // Adds the id of a resource if it is asked for and has a failed action.

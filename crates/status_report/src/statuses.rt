@@ -10,9 +10,6 @@ ghost use Rattle.status_report.specs.Endings.{EndsWith, IsWritten, WritesAs};
 ghost use Rattle.status_report.specs.StatusLines.{IsText};
 
 use crate::endings::{are_registered, end_of};
-use crate::options::StatusOptions;
-use crate::rows::{Row, rows_of};
-use crate::table::table_of;
 use crate::written_lines::write_lines;
 use disk_model::Disk;
 use exec_faults::Fault;
@@ -22,6 +19,7 @@ use exec_state::State;
 use growth::Grows;
 use journal_log::{LogFault, measure};
 use resource_status::RecordedById;
+use status_table::{Row, StatusOptions, rows_of, table_of};
 use std::alloc::Global;
 use std::io::Write;
 

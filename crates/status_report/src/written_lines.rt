@@ -7,14 +7,13 @@ ghost use Rattle.exec_lines.specs.declared.io_fault.IoFault.TheVariants.{Memory}
 ghost use Rattle.status_report.specs.Endings.{IsWritten};
 ghost use Rattle.status_report.specs.StatusLines.{IsLinesOf, prefix_lines, row_lines};
 
-use crate::options::StatusOptions;
-use crate::rows::Row;
 use crate::shown::{write_resource, write_state};
 use crate::state_lines::status_lines;
 use exec_faults::Fault;
 use exec_lines::{IoFault, write_flushed};
 use exec_state::State;
 use growth::Grows;
+use status_table::{Row, StatusOptions};
 use std::alloc::Global;
 use std::io::Write;
 

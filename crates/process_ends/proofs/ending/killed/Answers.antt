@@ -1,5 +1,4 @@
-use Rattle.std.proofs.Common.{◌≡◌, ◌<◌, ◌∷◌, ◌++◌, [], ap, arith, rules, slice_index_or, subst, sym, vec_len, ◌∙◌}
-use Rattle.std.proofs.lemmas.Grind.{common_steps}
+use Rattle.std.proofs.Common.{◌<◌, ◌∷◌, ◌++◌, [], ap, arith, subst, sym, ◌∙◌}
 use Rattle.process_ends.specs.Endings.{IsKilled, given_up_of}
 use Rattle.process_ends.proofs.IndexLemmas.{first_due, read_first}
 use Rattle.process_ends.proofs.ending.killed.Goals as goal

@@ -1,7 +1,6 @@
 use Rattle.std.proofs.Common.{◌≡◌, Some}
 use Rattle.std.proofs.lemmas.List.Elements.{All-more}
 use Rattle.agent_system.specs.Sights.{HasEnded}
-use Rattle.process_ends.proofs.IndexLemmas.{all_whole}
 use Rattle.process_ends.proofs.given_up.have_ended.Goals as goal
 
 pub loop-process-preserved : goal.loop-process-preserved

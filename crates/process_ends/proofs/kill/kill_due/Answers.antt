@@ -1,4 +1,4 @@
-use Rattle.std.proofs.Common.{◌≡◌, ◌<◌, All, arith, length, refl, slice_index_or, true, ◌∙◌}
+use Rattle.std.proofs.Common.{◌≡◌, ◌<◌, arith, length, refl, slice_index_or, true, ◌∙◌}
 use Rattle.std.proofs.Math.Seq.{map-set_same}
 use Rattle.std.proofs.lemmas.List.Elements.{All-weaker}
 use Rattle.process_ends.specs.Endings.{IsKilled, given_up_of}

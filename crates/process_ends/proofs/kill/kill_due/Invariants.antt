@@ -1,4 +1,4 @@
-use Rattle.std.proofs.Common.{◌≡◌, All, length, map, take}
+use Rattle.std.proofs.Common.{◌≡◌, map, take}
 use Rattle.process_ends.specs.Endings.{AllDue, AreGivenUp, AreSameActions, IsKilled, OnlySignals, given_up_of}
 use Rattle.process_ends.proofs.kill.kill_due.Given as goal
 

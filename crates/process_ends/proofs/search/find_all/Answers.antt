@@ -1,4 +1,4 @@
-use Rattle.std.proofs.Common.{◌≡◌, ◌<◌, All, arith, length, refl, slice_index_or, subst, sym, take, true, ◌∙◌}
+use Rattle.std.proofs.Common.{◌≡◌, ◌<◌, All, arith, length, refl, subst, sym, take, true, ◌∙◌}
 use Rattle.process_ends.specs.Endings.{IsSearched, given_up_of}
 use Rattle.process_ends.proofs.EndingLemmas.{ends_trans}
 use Rattle.process_ends.proofs.IndexLemmas.{all_whole, set_given_up, set_more, set_same_actions}

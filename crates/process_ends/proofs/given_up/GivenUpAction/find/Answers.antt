@@ -1,6 +1,5 @@
 use Rattle.std.proofs.Common.{ap, refl, subst, sym, ◌∙◌}
 use Rattle.agent_system.specs.May.{AreAll}
-use Rattle.agent_system.specs.SystemView.{changed_at}
 use Rattle.process_ends.specs.Endings.{given_up_of}
 use Rattle.process_ends.proofs.IndexLemmas.{kept_at, known_at}
 use Rattle.process_ends.proofs.given_up.GivenUpAction.find.Goals as goal

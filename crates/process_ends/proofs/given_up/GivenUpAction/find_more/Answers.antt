@@ -1,5 +1,4 @@
-use Rattle.std.proofs.Common.{refl, subst, sym, ◌∙◌}
-use Rattle.process_ends.specs.Endings.{IsSearched}
+use Rattle.std.proofs.Common.{refl, ◌∙◌}
 use Rattle.process_ends.proofs.IndexLemmas.{changed_at_index, is_among, kept_at}
 use Rattle.process_ends.proofs.OverLemmas.{always_ok, is_searched}
 use Rattle.process_ends.proofs.given_up.GivenUpAction.find_more.Goals as goal

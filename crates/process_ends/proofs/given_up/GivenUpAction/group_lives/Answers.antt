@@ -1,7 +1,7 @@
 use Rattle.std.proofs.Common.{◌≡◌, ap, length, refl, rules, subst, vec_len, ◌∙◌}
 use Rattle.agent_system.specs.May.{AreAll}
 use Rattle.process_ends.specs.Endings.{given_up_of}
-use Rattle.process_ends.proofs.IndexLemmas.{changed_twice, kept_at}
+use Rattle.process_ends.proofs.IndexLemmas.{kept_at}
 use Rattle.process_ends.proofs.OverLemmas.{empty_is_nil, found_none, members_given_up}
 use Rattle.process_ends.proofs.given_up.GivenUpAction.group_lives.Goals as goal
 

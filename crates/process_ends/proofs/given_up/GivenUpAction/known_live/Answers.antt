@@ -1,8 +1,7 @@
-use Rattle.std.proofs.Common.{Some, ap, subst, sym, take, ◌∙◌}
-use Rattle.std.proofs.lemmas.List.Elements.{All-more}
+use Rattle.std.proofs.Common.{Some}
 use Rattle.agent_system.specs.May.{IsEnded}
 use Rattle.agent_system.specs.Sights.{latest}
-use Rattle.process_ends.specs.Endings.{AreEnded, IsEndAsked, given_up_of}
+use Rattle.process_ends.specs.Endings.{given_up_of}
 use Rattle.process_ends.proofs.EndingLemmas.{signals_look, signals_trans}
 use Rattle.process_ends.proofs.IndexLemmas.{all_whole}
 use Rattle.process_ends.proofs.OverLemmas.{ended_more}

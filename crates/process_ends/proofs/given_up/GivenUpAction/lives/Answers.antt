@@ -1,7 +1,4 @@
-use Rattle.std.proofs.Common.{refl, ◌∙◌}
-use Rattle.process_ends.proofs.EndingLemmas.{ends_trans}
 use Rattle.process_ends.proofs.IndexLemmas.{changed_at_index, changed_twice, signalled_changed}
-use Rattle.process_ends.proofs.OverLemmas.{is_over}
 use Rattle.process_ends.proofs.given_up.GivenUpAction.lives.Goals as goal
 
 pub group_lives-requires : goal.group_lives-requires

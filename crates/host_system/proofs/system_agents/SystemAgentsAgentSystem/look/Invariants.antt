@@ -1,0 +1,5 @@
+use Rattle.agent_system.specs.SystemView.{after_look}
+use Rattle.host_system.proofs.system_agents.SystemAgentsAgentSystem.look.Given as goal
+
+abbrev pub ghost-follow : goal.ghost-follow
+ghost-follow a = after_look a.self.now.view a.call.now.0 a.call.now.1.now

@@ -1,7 +1,0 @@
-use Rattle.agent_system.specs.SystemView.{after_send}
-use Rattle.agent_system.specs.declared.signal.Signal.TheVariants.{Kill}
-use Rattle.agent_system.specs.declared.signal.Target.TheVariants as target
-use Rattle.process_ends.proofs.system_agents.SystemAgentsAgentSystem.kill.Given as goal
-
-abbrev pub ghost-follow : goal.ghost-follow
-ghost-follow a = after_send a.self.now.view Kill (target.Process a.call.now.pid)

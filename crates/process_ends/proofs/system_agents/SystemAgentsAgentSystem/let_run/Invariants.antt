@@ -1,5 +1,0 @@
-use Rattle.agent_system.specs.SystemView.{after_let_run}
-use Rattle.process_ends.proofs.system_agents.SystemAgentsAgentSystem.let_run.Given as goal
-
-abbrev pub ghost-follow : goal.ghost-follow
-ghost-follow a = after_let_run a.self.now.view a.call.now.0.now a.call.now.1.now

@@ -1,6 +1,0 @@
-use Rattle.agent_system.specs.Histories.{asked, opened}
-use Rattle.process_ends.proofs.SystemLemmas.{followed}
-use Rattle.process_ends.proofs.system_agents.SystemAgentsAgentSystem.open_record.Goals as goal
-
-pub invariant_of-self : goal.invariant_of-self
-invariant_of-self c = followed _ _ _ _ c.self.invariant c.follow.ensures (asked _ (opened _))

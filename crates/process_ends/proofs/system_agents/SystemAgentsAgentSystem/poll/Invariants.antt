@@ -1,5 +1,0 @@
-use Rattle.agent_system.specs.SystemView.{after_poll}
-use Rattle.process_ends.proofs.system_agents.SystemAgentsAgentSystem.poll.Given as goal
-
-abbrev pub ghost-follow : goal.ghost-follow
-ghost-follow a = after_poll a.self.now.view a.call.now.0.now a.call.now.1.now

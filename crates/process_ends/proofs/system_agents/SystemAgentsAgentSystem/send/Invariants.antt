@@ -1,5 +1,0 @@
-use Rattle.agent_system.specs.SystemView.{after_send}
-use Rattle.process_ends.proofs.system_agents.SystemAgentsAgentSystem.send.Given as goal
-
-abbrev pub ghost-follow : goal.ghost-follow
-ghost-follow a = after_send a.self.now.view a.call.now.0 a.call.now.1

@@ -1,6 +1,0 @@
--- The agents' processes that this program spawned.
-use Rattle.agent_system.specs.declared.agent_process.AgentProcess.{AgentProcess}
-use Rattle.process_ends.specs.declared.system_agents.AgentChild.{AgentChild}
-
-abbrev pub child_process : AgentChild → AgentProcess
-child_process c = c.process
